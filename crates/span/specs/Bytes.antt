@@ -1,0 +1,26 @@
+-- Bytes in a list: a run of zeros, a part, a part laid over, and whether two lists are the same.
+-- All but `same` are shut: proofs go by the laws of `Laws.antt`.
+use Prim.Native.Nat.{ℕ, _+_}
+use mathlib.Core.Bool.{Bool, true, false, _&&_}
+use mathlib.Core.List.{List, [], _∷_, _++_}
+use lib.Dec.{eqb}
+use lib.ListN.{length, take, drop, replicate}
+
+-- n zero bytes
+unfoldable pub zeros : ℕ → List ℕ
+zeros n = replicate n 0
+
+-- the n bytes of xs from `at` on
+unfoldable pub part : ℕ → ℕ → List ℕ → List ℕ
+part at n xs = take n (drop at xs)
+
+-- xs with ys laid over it from `at` on
+unfoldable pub splice : List ℕ → ℕ → List ℕ → List ℕ
+splice xs at ys = take at xs ++ (ys ++ drop (at + length ys) xs)
+
+-- whether two lists hold the same bytes
+unfoldable pub same : List ℕ → List ℕ → Bool
+same [] [] = true
+same [] (y ∷ ys) = false
+same (x ∷ xs) [] = false
+same (x ∷ xs) (y ∷ ys) = eqb x y && same xs ys

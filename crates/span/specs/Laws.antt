@@ -1,0 +1,341 @@
+-- The laws of zeros, parts and splices that the whole project cites. Lengths first, then a byte at a place, then equations of lists,
+-- each of which follows from the bytes at every place.
+use Prim.Native.Nat.{ℕ, zero, suc, _+_, _-_, _≤_, _<_, min}
+use native.Mathlib.Omega.{arith}
+use native.Mathlib.Decide.{decLt}
+use mathlib.Core.Path.{_≡_, refl, sym, ap, _∙_, subst}
+use mathlib.Core.Bool.{Bool, true, false, _&&_, true≢false, false≢true, and-true, and-assoc}
+use mathlib.Core.List.{List, [], _∷_, _++_}
+use lib.Dec.{eqb}
+use lib.ListN.{length, take, drop, getD, set, replicate, length-set, replicate-append-replicate, length-replicate, getD-replicate, length-append, length-take, length-drop, List·getD-append, List·getD-eq-default}
+use lib.Seq.{getD-take, getD-drop, getD-append-add, ext-getD, length-take-le, drop-drop, take-add, take-all, getD-set-same, getD-set-other, getD-append-seam}
+use borrow.Author.Tests.{eq-eqb, eqb-true}
+use borrow.Rule.Slice.PartMut.{putMid}
+use Rattle.span.specs.Bytes.{zeros, part, splice, same}
+
+-- Lengths
+
+pub zeros-length : (n : ℕ) → length (zeros n) ≡ n
+unfolding zeros
+zeros-length n = length-replicate n 0
+
+pub part-length : (at n : ℕ) (xs : List ℕ) → at + n ≤ length xs → length (part at n xs) ≡ n
+unfolding part
+part-length at n xs h = simp (length-take, length-drop) (omega arith)
+
+pub splice-length : (xs : List ℕ) (at : ℕ) (ys : List ℕ) → at + length ys ≤ length xs → length (splice xs at ys) ≡ length xs
+unfolding splice
+splice-length xs at ys h = simp (length-append, length-take, length-drop) (omega arith)
+
+-- A byte at a place
+
+pub zeros-at : (n i : ℕ) → getD (zeros n) i 0 ≡ 0
+unfolding zeros
+zeros-at n i =
+    elim (decLt i n) [
+      | yes h ↦ getD-replicate n i 0 0 h
+      | no h ↦ List·getD-eq-default (replicate n 0) 0 (simp length-replicate (omega arith))
+    ]
+
+pub part-at : (at n : ℕ) (xs : List ℕ) (i : ℕ) → i < n → getD (part at n xs) i 0 ≡ getD xs (at + i) 0
+unfolding part
+part-at at n xs i h = rw (getD-take, getD-drop)
+
+module _ (xs : List ℕ) (at : ℕ) (ys : List ℕ) (h : at ≤ length xs) where
+  pub splice-before : (i : ℕ) → i < at → getD (splice xs at ys) i 0 ≡ getD xs i 0
+  unfolding splice
+  splice-before i k =
+      List·getD-append (take at xs) (ys ++ drop (at + length ys) xs) 0 i (rw (length-take-le at xs h) k) ∙ getD-take at xs i 0 k
+
+  past : (j : ℕ) → getD (splice xs at ys) (at + j) 0 ≡ getD (ys ++ drop (at + length ys) xs) j 0
+  unfolding splice
+  past j =
+      ap (λ (k : ℕ). getD (take at xs ++ (ys ++ drop (at + length ys) xs)) (k + j) 0) (sym (length-take-le at xs h))
+      ∙ getD-append-add (take at xs) (ys ++ drop (at + length ys) xs) j 0
+
+  pub splice-in : (j : ℕ) → j < length ys → getD (splice xs at ys) (at + j) 0 ≡ getD ys j 0
+  splice-in j k = past j ∙ List·getD-append ys (drop (at + length ys) xs) 0 j k
+
+  pub splice-after : (i : ℕ) → at + length ys ≤ i → getD (splice xs at ys) i 0 ≡ getD xs i 0
+  splice-after i k =
+      let j : ℕ = i - (at + length ys) in
+      let e : at + (length ys + j) ≡ i = omega arith in
+      let f : at + length ys + j ≡ i = omega arith in
+      ap (λ (k : ℕ). getD (splice xs at ys) k 0) (sym e)
+      ∙ past (length ys + j)
+      ∙ getD-append-add ys (drop (at + length ys) xs) j 0
+      ∙ getD-drop (at + length ys) xs j 0
+      ∙ ap (λ (k : ℕ). getD xs k 0) f
+
+-- Two lists with the same bytes at every place are one
+
+pub ext : (xs ys : List ℕ) → length xs ≡ length ys → ((i : ℕ) → i < length xs → getD xs i 0 ≡ getD ys i 0) → xs ≡ ys
+ext xs ys = ext-getD 0 xs ys
+
+-- Equations of parts
+
+pub zeros-nil : zeros 0 ≡ []
+unfolding zeros
+zeros-nil = refl
+
+pub part-zeros : (at n k : ℕ) → at + n ≤ k → part at n (zeros k) ≡ zeros n
+part-zeros at n k h =
+    let f : at + n ≤ length (zeros k) = rw zeros-length h in
+    ext (part at n (zeros k)) (zeros n) (part-length at n (zeros k) f ∙ sym (zeros-length n))
+    (λ i l. part-at at n (zeros k) i (rw (part-length at n (zeros k) f) at l) ∙ zeros-at k (at + i) ∙ sym (zeros-at n i))
+
+pub part-whole : (xs : List ℕ) (n : ℕ) → length xs ≡ n → part 0 n xs ≡ xs
+part-whole xs n e =
+    let f : 0 + n ≤ length xs = omega arith in
+    ext (part 0 n xs) xs (part-length 0 n xs f ∙ sym e)
+    (λ i l. part-at 0 n xs i (rw (part-length 0 n xs f) at l) ∙ ap (λ (k : ℕ). getD xs k 0) (omega arith))
+
+pub part-none : (at : ℕ) (xs : List ℕ) → part at 0 xs ≡ []
+unfolding part
+part-none at xs = refl
+
+pub part-part : (i k at n : ℕ) (xs : List ℕ) → i + k ≤ n → at + n ≤ length xs → part i k (part at n xs) ≡ part (at + i) k xs
+part-part i k at n xs h l =
+    let e : length (part at n xs) ≡ n = part-length at n xs l in
+    let f : length (part i k (part at n xs)) ≡ k = part-length i k (part at n xs) (omega arith) in
+    ext (part i k (part at n xs)) (part (at + i) k xs) (f ∙ sym (part-length (at + i) k xs (omega arith)))
+    (λ j m.
+    let m′ : j < k = rw f at m in
+    let m″ : i + j < n = omega arith in
+    let g : at + (i + j) ≡ at + i + j = omega arith in
+    part-at i k (part at n xs) j m′
+    ∙ part-at at n xs (i + j) m″
+    ∙ ap (λ (q : ℕ). getD xs q 0) g
+    ∙ sym (part-at (at + i) k xs j m′))
+
+pub part-join : (at n m : ℕ) (xs : List ℕ) → at + n + m ≤ length xs → part at (n + m) xs ≡ part at n xs ++ part (at + n) m xs
+unfolding part
+part-join at n m xs h = take-add n m (drop at xs) ∙ ap (λ (l : List ℕ). take n (drop at xs) ++ take m l) (drop-drop n at xs)
+
+-- Equations of splices
+
+pub splice-whole : (xs ys : List ℕ) → length ys ≡ length xs → splice xs 0 ys ≡ ys
+splice-whole xs ys e =
+    let f : 0 + length ys ≤ length xs = omega arith in
+    ext (splice xs 0 ys) ys (splice-length xs 0 ys f ∙ sym e)
+    (λ i l.
+    let l′ : i < length xs = rw (splice-length xs 0 ys f) at l in
+    let g : 0 + i ≡ i = omega arith in
+    ap (λ (k : ℕ). getD (splice xs 0 ys) k 0) (sym g) ∙ splice-in xs 0 ys (omega arith) i (omega arith))
+
+pub splice-none : (xs : List ℕ) (at : ℕ) → at ≤ length xs → splice xs at [] ≡ xs
+splice-none xs at h =
+    let f : at + length {A = ℕ} [] ≤ length xs = omega arith in
+    ext (splice xs at []) xs (splice-length xs at [] f)
+    (λ i l.
+    elim (decLt i at) [
+      | yes k ↦ splice-before xs at [] h i k
+      | no k ↦ splice-after xs at [] h i (omega arith)
+    ])
+
+-- what was laid is there
+pub part-splice : (xs : List ℕ) (at : ℕ) (ys : List ℕ) (n : ℕ) → length ys ≡ n → at + n ≤ length xs → part at n (splice xs at ys) ≡ ys
+part-splice xs at ys n e h =
+    let f : length (splice xs at ys) ≡ length xs = splice-length xs at ys (omega arith) in
+    let g : length (part at n (splice xs at ys)) ≡ n = part-length at n (splice xs at ys) (omega arith) in
+    ext (part at n (splice xs at ys)) ys (g ∙ sym e)
+    (λ i l. part-at at n (splice xs at ys) i (omega arith) ∙ splice-in xs at ys (omega arith) i (omega arith))
+
+-- a part before it, or after it, is as it was
+pub part-splice-before : (xs : List ℕ) (at : ℕ) (ys : List ℕ) (i n : ℕ) → at + length ys ≤ length xs → i + n ≤ at → part i n (splice xs at ys) ≡ part i n xs
+part-splice-before xs at ys i n h k =
+    let f : length (splice xs at ys) ≡ length xs = splice-length xs at ys h in
+    let g : length (part i n (splice xs at ys)) ≡ n = part-length i n (splice xs at ys) (omega arith) in
+    ext (part i n (splice xs at ys)) (part i n xs) (g ∙ sym (part-length i n xs (omega arith)))
+    (λ j l.
+    let l′ : j < n = omega arith in
+    part-at i n (splice xs at ys) j l′ ∙ splice-before xs at ys (omega arith) (i + j) (omega arith) ∙ sym (part-at i n xs j l′))
+
+pub part-splice-after : (xs : List ℕ) (at : ℕ) (ys : List ℕ) (i n : ℕ) → at + length ys ≤ length xs → at + length ys ≤ i → i + n ≤ length xs → part i n (splice xs at ys) ≡ part i n xs
+part-splice-after xs at ys i n h k m =
+    let f : length (splice xs at ys) ≡ length xs = splice-length xs at ys h in
+    let g : length (part i n (splice xs at ys)) ≡ n = part-length i n (splice xs at ys) (omega arith) in
+    ext (part i n (splice xs at ys)) (part i n xs) (g ∙ sym (part-length i n xs m))
+    (λ j l.
+    let l′ : j < n = omega arith in
+    part-at i n (splice xs at ys) j l′ ∙ splice-after xs at ys (omega arith) (i + j) (omega arith) ∙ sym (part-at i n xs j l′))
+
+-- laid again at the same place, the first is gone
+pub splice-again : (xs : List ℕ) (at : ℕ) (ys zs : List ℕ) → length ys ≡ length zs → at + length zs ≤ length xs → splice (splice xs at ys) at zs ≡ splice xs at zs
+splice-again xs at ys zs e h =
+    let f : length (splice xs at ys) ≡ length xs = splice-length xs at ys (omega arith) in
+    let g : length (splice (splice xs at ys) at zs) ≡ length (splice xs at ys) = splice-length (splice xs at ys) at zs (omega arith) in
+    let g′ : length (splice xs at zs) ≡ length xs = splice-length xs at zs h in
+    ext (splice (splice xs at ys) at zs) (splice xs at zs) (omega arith)
+    (λ i l.
+    elim (decLt i at) [
+      | yes k ↦
+          splice-before (splice xs at ys) at zs (omega arith) i k
+          ∙ splice-before xs at ys (omega arith) i k
+          ∙ sym (splice-before xs at zs (omega arith) i k)
+      | no k ↦
+          elim (decLt i (at + length zs)) [
+            | yes m ↦
+                let j : ℕ = i - at in
+                let q : at + j ≡ i = omega arith in
+                ap (λ (p : ℕ). getD (splice (splice xs at ys) at zs) p 0) (sym q)
+                ∙ splice-in (splice xs at ys) at zs (omega arith) j (omega arith)
+                ∙ sym (splice-in xs at zs (omega arith) j (omega arith))
+                ∙ ap (λ (p : ℕ). getD (splice xs at zs) p 0) q
+            | no m ↦
+                splice-after (splice xs at ys) at zs (omega arith) i (omega arith)
+                ∙ splice-after xs at ys (omega arith) i (omega arith)
+                ∙ sym (splice-after xs at zs (omega arith) i (omega arith))
+          ]
+    ])
+
+-- two lists that agree outside a part and in it are one: how a splice is recognized
+pub splice-is : (xs : List ℕ) (at : ℕ) (ys zs : List ℕ) → at + length ys ≤ length xs → length zs ≡ length xs
+    → ((i : ℕ) → i < at → getD zs i 0 ≡ getD xs i 0)
+    → ((j : ℕ) → j < length ys → getD zs (at + j) 0 ≡ getD ys j 0)
+    → ((i : ℕ) → at + length ys ≤ i → i < length xs → getD zs i 0 ≡ getD xs i 0)
+    → zs ≡ splice xs at ys
+splice-is xs at ys zs h e before inside after =
+    let g : length (splice xs at ys) ≡ length xs = splice-length xs at ys h in
+    ext zs (splice xs at ys) (e ∙ sym g)
+    (λ i l.
+    elim (decLt i at) [
+      | yes k ↦ before i k ∙ sym (splice-before xs at ys (omega arith) i k)
+      | no k ↦
+          elim (decLt i (at + length ys)) [
+            | yes m ↦
+                let j : ℕ = i - at in
+                let q : at + j ≡ i = omega arith in
+                ap (λ (p : ℕ). getD zs p 0) (sym q)
+                ∙ inside j (omega arith)
+                ∙ sym (splice-in xs at ys (omega arith) j (omega arith))
+                ∙ ap (λ (p : ℕ). getD (splice xs at ys) p 0) q
+            | no m ↦ after i (omega arith) (omega arith) ∙ sym (splice-after xs at ys (omega arith) i (omega arith))
+          ]
+    ])
+
+-- two splices apart from each other may be made in either order
+pub splice-comm : (xs : List ℕ) (a : ℕ) (ys : List ℕ) (b : ℕ) (zs : List ℕ) → a + length ys ≤ b → b + length zs ≤ length xs → splice (splice xs a ys) b zs ≡ splice (splice xs b zs) a ys
+splice-comm xs a ys b zs h k =
+    let f : length (splice xs a ys) ≡ length xs = splice-length xs a ys (omega arith) in
+    let g : length (splice xs b zs) ≡ length xs = splice-length xs b zs k in
+    let u : length (splice (splice xs a ys) b zs) ≡ length (splice xs a ys) = splice-length (splice xs a ys) b zs (omega arith) in
+    splice-is (splice xs b zs) a ys (splice (splice xs a ys) b zs) (omega arith) (omega arith)
+    (λ i l.
+    splice-before (splice xs a ys) b zs (omega arith) i (omega arith)
+    ∙ splice-before xs a ys (omega arith) i l
+    ∙ sym (splice-before xs b zs (omega arith) i (omega arith)))
+    (λ j l. splice-before (splice xs a ys) b zs (omega arith) (a + j) (omega arith) ∙ splice-in xs a ys (omega arith) j l)
+    (λ i l m.
+    elim (decLt i b) [
+      | yes n ↦
+          splice-before (splice xs a ys) b zs (omega arith) i n
+          ∙ splice-after xs a ys (omega arith) i l
+          ∙ sym (splice-before xs b zs (omega arith) i n)
+      | no n ↦
+          elim (decLt i (b + length zs)) [
+            | yes o ↦
+                let j : ℕ = i - b in
+                let q : b + j ≡ i = omega arith in
+                ap (λ (p : ℕ). getD (splice (splice xs a ys) b zs) p 0) (sym q)
+                ∙ splice-in (splice xs a ys) b zs (omega arith) j (omega arith)
+                ∙ sym (splice-in xs b zs (omega arith) j (omega arith))
+                ∙ ap (λ (p : ℕ). getD (splice xs b zs) p 0) q
+            | no o ↦
+                splice-after (splice xs a ys) b zs (omega arith) i (omega arith)
+                ∙ splice-after xs a ys (omega arith) i l
+                ∙ sym (splice-after xs b zs (omega arith) i (omega arith))
+          ]
+    ])
+
+-- a part that is put back as it was
+pub splice-back : (xs : List ℕ) (at n : ℕ) → at + n ≤ length xs → splice xs at (part at n xs) ≡ xs
+splice-back xs at n h =
+    let e : length (part at n xs) ≡ n = part-length at n xs h in
+    sym
+    (splice-is xs at (part at n xs) xs (omega arith) refl (λ i l. refl)
+    (λ j l. sym (part-at at n xs j (omega arith)))
+    (λ i l m. refl))
+
+-- A part lent by `&mut s[a..e]` comes back as a splice
+
+pub put-splice : (a k : ℕ) (xs ys : List ℕ) → length ys ≡ k → putMid a k xs ys ≡ splice xs a ys
+unfolding splice
+put-splice a k xs ys e =
+    ap (λ (l : List ℕ). take a xs ++ (ys ++ l)) (drop-drop k a xs) ∙ ap (λ (m : ℕ). take a xs ++ (ys ++ drop (a + m) xs)) (sym e)
+
+-- `same` is equality
+
+pub same-is : (xs ys : List ℕ) → same xs ys ≡ true → xs ≡ ys
+unfolding same
+same-is [] [] h = refl
+same-is [] (y ∷ ys) h = absurd (false≢true h)
+same-is (x ∷ xs) [] h = absurd (false≢true h)
+same-is (x ∷ xs) (y ∷ ys) h = go (eqb x y) refl (same-is xs ys) h
+  where
+    go : (b : Bool) → eqb x y ≡ b → (same xs ys ≡ true → xs ≡ ys) → (b && same xs ys) ≡ true → x ∷ xs ≡ y ∷ ys
+    go true e rest k = cc (eqb-true x y e, rest k)
+    go false e rest k = absurd (false≢true k)
+
+pub is-same : (xs : List ℕ) → same xs xs ≡ true
+unfolding same
+is-same [] = refl
+is-same (x ∷ xs) = rw (eq-eqb x x refl) (is-same xs)
+
+pub same-true : (xs ys : List ℕ) → xs ≡ ys → same xs ys ≡ true
+same-true xs ys e = rw e (is-same ys)
+
+pub same-false : (xs ys : List ℕ) → (xs ≡ ys → ⊥) → same xs ys ≡ false
+same-false xs ys h = go (same xs ys) refl
+  where
+    go : (b : Bool) → same xs ys ≡ b → b ≡ false
+    go true e = absurd (h (same-is xs ys e))
+    go false e = refl
+
+pub differ-is : (xs ys : List ℕ) → same xs ys ≡ false → xs ≡ ys → ⊥
+differ-is xs ys h e = true≢false (sym (same-true xs ys e) ∙ h)
+
+-- One byte more
+
+pub zeros-more : (n : ℕ) → zeros (n + 1) ≡ zeros n ++ (0 ∷ [])
+unfolding zeros
+zeros-more n = sym (replicate-append-replicate n 1 0)
+
+pub splice-more : (xs : List ℕ) (at : ℕ) (ys : List ℕ) (v : ℕ) → at + length ys < length xs → set (splice xs at ys) (at + length ys) v ≡ splice xs at (ys ++ (v ∷ []))
+splice-more xs at ys v h =
+    let s : List ℕ = splice xs at ys in
+    let l : length s ≡ length xs = splice-length xs at ys (omega arith) in
+    let m : length (ys ++ (v ∷ [])) ≡ length ys + 1 = length-append ys (v ∷ []) in
+    splice-is xs at (ys ++ (v ∷ [])) (set s (at + length ys) v) (omega arith) (length-set s (at + length ys) v ∙ l)
+    (λ i k. getD-set-other s (at + length ys) i v 0 (omega arith) ∙ splice-before xs at ys (omega arith) i k)
+    (λ j k.
+    elim (decLt j (length ys)) [
+      | yes o ↦
+          getD-set-other s (at + length ys) (at + j) v 0 (omega arith)
+          ∙ splice-in xs at ys (omega arith) j o
+          ∙ sym (List·getD-append ys (v ∷ []) 0 j o)
+      | no o ↦
+          let q : j ≡ length ys = omega arith in
+          ap (λ (p : ℕ). getD (set s (at + length ys) v) (at + p) 0) q
+          ∙ getD-set-same s (at + length ys) v 0 (omega arith)
+          ∙ sym (getD-append-seam ys v [] 0)
+          ∙ ap (λ (p : ℕ). getD (ys ++ (v ∷ [])) p 0) (sym q)
+    ])
+    (λ i k o. getD-set-other s (at + length ys) i v 0 (omega arith) ∙ splice-after xs at ys (omega arith) i (omega arith))
+
+pub same-more : (xs ys : List ℕ) (x y : ℕ) → length xs ≡ length ys → same (xs ++ (x ∷ [])) (ys ++ (y ∷ [])) ≡ (same xs ys && eqb x y)
+unfolding same
+same-more [] [] x y e = and-true (eqb x y)
+same-more [] (b ∷ ys) x y e = absurd (omega arith)
+same-more (a ∷ xs) [] x y e = absurd (omega arith)
+same-more (a ∷ xs) (b ∷ ys) x y e = ap (λ (t : Bool). eqb a b && t) (same-more xs ys x y (omega arith)) ∙ sym (and-assoc (eqb a b) (same xs ys) (eqb x y))
+
+-- `take` stops where the list does
+pub take-min : (n : ℕ) (xs : List ℕ) → take (min n (length xs)) xs ≡ take n xs
+take-min n xs =
+    elim (decLt n (length xs)) [
+      | yes h ↦
+          let e : min n (length xs) ≡ n = omega arith in
+          ap (λ (k : ℕ). take k xs) e
+      | no h ↦ take-all (min n (length xs)) xs (omega arith) ∙ sym (take-all n xs (omega arith))
+    ]

@@ -1,0 +1,134 @@
+// Bytes in a slice: fill, copy, test, compare. Every public function takes the part that it works on, so none asks anything of its
+// caller. The loops are shaped so that the compiler turns them into wide instructions: no loop leaves early at a byte, but
+// `next_byte`, which looks at fewer than eight.
+ghost use mathlib.Core.Path.{_≡_};
+ghost use mathlib.Core.Bool.{false};
+ghost use Prim.Native.Nat.{_+_, _≤_, min};
+ghost use lib.ListN.{length, take};
+ghost use Rattle.span.specs.Bytes.{zeros, splice, same as sameBytes};
+ghost use Rattle.span.specs.Differ.{nextDiff, Same, Skipped};
+
+// How many bytes are compared at one go where pages are alike, and next to a difference.
+const CHUNK: usize = 64;
+
+const WORD: usize = 8;
+
+// Every byte becomes zero.
+pub fn fill(dst: &mut [u8])
+    ensures { λ _. ⌜ now (dst .exit) ≡ zeros (length (now (dst .entry))) ⌝ }
+{
+    let mut i = 0;
+    while i < dst.len() {
+        dst[i] = 0;
+        i += 1;
+    }
+}
+
+// The smaller of two lengths.
+fn shorter(a: usize, b: usize) -> usize
+    ensures { λ r. ⌜ r ≡ min a b ⌝ }
+{
+    if a < b { a } else { b }
+}
+
+// The bytes of src, as many as dst has room for, from dst's start on.
+pub fn copy(dst: &mut [u8], src: &[u8])
+    ensures { λ _. ⌜ now (dst .exit) ≡ splice (now (dst .entry)) 0 (take (length (now (dst .entry))) (now (src .entry))) ⌝ }
+{
+    let end = shorter(dst.len(), src.len());
+    let mut i = 0;
+    while i < end {
+        dst[i] = src[i];
+        i += 1;
+    }
+}
+
+// Whether every byte is zero.
+pub fn all_zero(s: &[u8]) -> bool
+    ensures { λ r. ⌜ r ≡ sameBytes (now (s .entry)) (zeros (length (now (s .entry)))) ⌝ }
+{
+    let mut seen = false;
+    let mut i = 0;
+    while i < s.len() {
+        seen = seen | (s[i] != 0);
+        i += 1;
+    }
+    !seen
+}
+
+// Whether two parts of the same place and length differ somewhere.
+fn differs(a: &[u8], b: &[u8], at: usize, count: usize) -> bool
+    requires { ⌜ (at + count ≤ length (now a)) × (at + count ≤ length (now b)) ⌝ }
+    ensures { λ r. ⌜ (r ≡ false → Same (now (a .entry)) (now (b .entry)) at (at + count)) ⌝ }
+{
+    let mut seen = false;
+    let mut i = 0;
+    while i < count {
+        seen = seen | (a[at + i] != b[at + i]);
+        i += 1;
+    }
+    seen
+}
+
+// Passes over equal bytes, `width` at a time, as long as so many are left before `end`.
+fn skip_equal(a: &[u8], b: &[u8], from: usize, end: usize, width: usize) -> usize
+    requires { ⌜ (from ≤ end) × (end ≤ length (now a)) × (end ≤ length (now b)) × (1 ≤ width) ⌝ }
+    ensures { λ r. ⌜ Skipped (now (a .entry)) (now (b .entry)) from end r ⌝ }
+{
+    let mut at = from;
+    while width <= end - at {
+        if differs(a, b, at, width) {
+            return at;
+        }
+        at += width;
+    }
+    at
+}
+
+// The next difference before `end`, a byte at a time: for the last few bytes before one.
+fn next_byte(a: &[u8], b: &[u8], from: usize, end: usize) -> usize
+    requires { ⌜ (from ≤ end) × (end ≡ min (length (now a)) (length (now b))) ⌝ }
+    ensures { λ r. ⌜ r ≡ nextDiff (now (a .entry)) (now (b .entry)) from ⌝ }
+{
+    let mut at = from;
+    while at < end {
+        if a[at] != b[at] {
+            return at;
+        }
+        at += 1;
+    }
+    at
+}
+
+// The first place from `from` on at which a and b differ or one of them ends. The next byte and the next word come first: where
+// two pages differ much, the wide steps would be in vain.
+pub fn next_diff(a: &[u8], b: &[u8], from: usize) -> usize
+    ensures { λ r. ⌜ r ≡ nextDiff (now (a .entry)) (now (b .entry)) from ⌝ }
+{
+    let end = shorter(a.len(), b.len());
+    if end <= from {
+        return from;
+    }
+    if a[from] != b[from] {
+        return from;
+    }
+    if end - from < WORD {
+        return next_byte(a, b, from, end);
+    }
+    if differs(a, b, from, WORD) {
+        return next_byte(a, b, from, end);
+    }
+    let wide = skip_equal(a, b, from + WORD, end, CHUNK);
+    let near = skip_equal(a, b, wide, end, WORD);
+    next_byte(a, b, near, end)
+}
+
+// Whether a and b hold the same bytes.
+pub fn same(a: &[u8], b: &[u8]) -> bool
+    ensures { λ r. ⌜ r ≡ sameBytes (now (a .entry)) (now (b .entry)) ⌝ }
+{
+    if a.len() != b.len() {
+        return false;
+    }
+    next_diff(a, b, 0) == a.len()
+}
