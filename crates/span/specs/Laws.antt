@@ -7,8 +7,8 @@ use mathlib.Core.Path.{_≡_, refl, sym, ap, _∙_, subst}
 use mathlib.Core.Bool.{Bool, true, false, _&&_, true≢false, false≢true, and-true, and-assoc}
 use mathlib.Core.List.{List, [], _∷_, _++_}
 use lib.Dec.{eqb}
-use lib.ListN.{length, take, drop, getD, set, replicate, length-set, replicate-append-replicate, length-replicate, getD-replicate, length-append, length-take, length-drop, List·getD-append, List·getD-eq-default}
-use lib.Seq.{getD-take, getD-drop, getD-append-add, ext-getD, length-take-le, drop-drop, take-add, take-all, getD-set-same, getD-set-other, getD-append-seam}
+use lib.ListN.{length, take, drop, getD, set, replicate, length-set, replicate-append-replicate, length-replicate, getD-replicate, length-append, length-take, length-drop, List·getD-append, List·getD-eq-default, drop-of-length-le}
+use lib.Seq.{getD-take, getD-drop, getD-append-add, ext-getD, length-take-le, drop-drop, take-add, take-all, take-nil, getD-set-same, getD-set-other, getD-append-seam}
 use borrow.Author.Tests.{eq-eqb, eqb-true}
 use borrow.Rule.Slice.PartMut.{putMid}
 use Rattle.span.specs.Bytes.{zeros, part, splice, same}
@@ -339,3 +339,12 @@ take-min n xs =
           ap (λ (k : ℕ). take k xs) e
       | no h ↦ take-all (min n (length xs)) xs (omega arith) ∙ sym (take-all n xs (omega arith))
     ]
+
+-- past its end a list has no part, and a part ends where the list does
+pub part-past : (at n : ℕ) (xs : List ℕ) → length xs ≤ at → part at n xs ≡ []
+unfolding part
+part-past at n xs h = ap (λ (l : List ℕ). take n l) (drop-of-length-le xs h) ∙ take-nil n
+
+pub part-clamped : (at n : ℕ) (xs : List ℕ) → part at (min n (length xs - at)) xs ≡ part at n xs
+unfolding part
+part-clamped at n xs = ap (λ (k : ℕ). take (min n k) (drop at xs)) (sym (length-drop at xs)) ∙ take-min n (drop at xs)

@@ -5,7 +5,7 @@ ghost use mathlib.Core.Path.{_≡_};
 ghost use mathlib.Core.Bool.{false};
 ghost use Prim.Native.Nat.{_+_, _≤_, min};
 ghost use lib.ListN.{length, take};
-ghost use Rattle.span.specs.Bytes.{zeros, splice, same as sameBytes};
+ghost use Rattle.span.specs.Bytes.{zeros, splice, part as partOf, same as sameBytes};
 ghost use Rattle.span.specs.Differ.{nextDiff, Same, Skipped};
 
 // How many bytes are compared at one go where pages are alike, and next to a difference.
@@ -131,4 +131,26 @@ pub fn same(a: &[u8], b: &[u8]) -> bool
         return false;
     }
     next_diff(a, b, 0) == a.len()
+}
+
+// The n bytes of s from `at` on, or as many of them as s has.
+pub fn part(s: &[u8], at: usize, n: usize) -> &[u8]
+    ensures { λ r. ⌜ now r ≡ partOf at n (now (s .entry)) ⌝ }
+{
+    if s.len() <= at {
+        return &s[0..0];
+    }
+    let end = at + shorter(n, s.len() - at);
+    &s[at..end]
+}
+
+// Whether s has n bytes from `at` on, all of them zero.
+pub fn zero_part(s: &[u8], at: usize, n: usize) -> bool
+    ensures { λ r. ⌜ r ≡ sameBytes (partOf at n (now (s .entry))) (zeros n) ⌝ }
+{
+    let p = part(s, at, n);
+    if p.len() != n {
+        return false;
+    }
+    all_zero(p)
 }

@@ -1,0 +1,6 @@
+pub mod Sizes
+pub mod Numbers
+pub mod Refusals
+pub mod Headers
+pub mod Slots
+pub mod Areas
