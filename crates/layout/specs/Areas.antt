@@ -1,11 +1,15 @@
 -- The lengths of both areas, and fresh areas.
 use Prim.Native.Nat.{ℕ, _-_, _/_}
-use mathlib.Core.Bool.{Bool, not, _&&_, _||_, cond}
-use mathlib.Core.List.{List, [], _∷_}
-use lib.Dec.{eqb, leb}
-use lib.ListN.{length}
+use mathlib.Core.Bool.{Bool, true, false, not, _&&_, _||_, cond}
+use mathlib.Core.List.{List, [], _∷_, _++_}
+use mathlib.Core.Path.{_≡_, refl, sym, ap, _∙_}
+use lib.Dec.{eqb, leb, lit≤}
+use lib.ListN.{length, take}
+use borrow.Author.Tests.{eqb-true}
 use Rattle.layout.specs.Sizes.{blocksAtMost, patchHead, fullHead, slotSize, slotAt, pageAt}
-use Rattle.layout.specs.Headers.{patchFields, fullFields, header}
+use Rattle.span.specs.Bytes.{zeros, splice}
+use Rattle.layout.specs.Headers.{patchFields, fullFields, header, patchHeader, fullHeader, fresh-is}
+use Rattle.layout.specs.Numbers.{le}
 use Rattle.layout.specs.Refusals.{Row, _⇐_}
 
 -- n and m of areas of these lengths. An absent full area has m = 0.
@@ -26,9 +30,27 @@ fullFits P n fullLength = eqb fullLength 0 || (eqb fullLength (pageAt P (pagesIn
 unfoldable pub lengthRows : ℕ → ℕ → ℕ → List Row
 lengthRows P patchLength fullLength = (2 ⇐ not (patchFits P patchLength && fullFits P (blocksIn patchLength) fullLength)) ∷ []
 
--- freshly formatted areas of these lengths
+-- freshly formatted areas of these lengths: headers, then zeros
 unfoldable pub freshPatch : ℕ → ℕ → List ℕ
-freshPatch P patchLength = header (patchFields P) patchLength
+freshPatch P patchLength = patchHeader P ++ zeros (patchLength - patchHead)
 
 unfoldable pub freshFull : ℕ → ℕ → List ℕ
-freshFull P fullLength = cond (eqb fullLength 0) [] (header (fullFields P) fullLength)
+freshFull P fullLength = cond (eqb fullLength 0) [] (fullHeader P ++ zeros (fullLength - fullHead))
+
+-- Laws
+
+pub fresh-patch-is : (P n : ℕ) → splice (zeros n) 0 (take n (patchFields P)) ≡ take n (freshPatch P n)
+unfolding freshPatch patchHeader patchFields le
+fresh-patch-is P n = fresh-is (patchFields P) n patchHead (lit≤ tt)
+
+pub fresh-full-is : (P n : ℕ) → splice (zeros n) 0 (take n (fullFields P)) ≡ take n (freshFull P n)
+unfolding freshFull fullHeader fullFields le
+fresh-full-is P n = go (eqb n 0) refl
+  where
+    h : splice (zeros n) 0 (take n (fullFields P)) ≡ take n (header (fullFields P) fullHead ++ zeros (n - fullHead))
+    h = fresh-is (fullFields P) n fullHead (lit≤ tt)
+    go : (t : Bool) → eqb n 0 ≡ t → splice (zeros n) 0 (take n (fullFields P)) ≡ take n (cond t [] (header (fullFields P) fullHead ++ zeros (n - fullHead)))
+    go true e =
+        let q : n ≡ 0 = eqb-true n 0 e in
+        h ∙ ap (λ (k : ℕ). take k (header (fullFields P) fullHead ++ zeros (n - fullHead))) q ∙ sym (ap (λ (k : ℕ). take {A = ℕ} k []) q)
+    go false e = h

@@ -107,6 +107,7 @@ pub or-skip : (a b : ℕ) → a ≡ 0 → orElse a b ≡ b
 unfolding orElse
 or-skip a b e = rw e
 
-pub or-hit : (a n b : ℕ) → a ≡ suc n → orElse a b ≡ suc n
+pub or-some : (a b : ℕ) → (a ≡ 0 → ⊥) → orElse a b ≡ a
 unfolding orElse
-or-hit a n b e = rw e
+or-some zero b h = absurd (h refl)
+or-some (suc a) b h = refl

@@ -1,0 +1,68 @@
+// The lengths of both areas, and what they say of n and m.
+use crate::Layout;
+
+ghost use mathlib.Core.Path.{_≡_};
+ghost use mathlib.Core.Bool.{_&&_};
+ghost use Rattle.layout.specs.Sizes.{pageSize};
+ghost use Rattle.layout.specs.Areas.{blocksIn, pagesIn, patchFits, fullFits};
+
+// n: how many slots a patch area of this length has.
+pub fn blocks(patch_length: usize) -> usize
+    ensures { λ r. ⌜ r ≡ blocksIn «patch_length» ⌝ }
+{
+    if patch_length < Layout::PATCH_HEAD {
+        return 0;
+    }
+    (patch_length - Layout::PATCH_HEAD) / Layout::SLOT
+}
+
+// m: how many pages a full area of this length has room for.
+pub fn pages(full_length: usize) -> usize
+    ensures { λ r. ⌜ r ≡ pagesIn pageSize «full_length» ⌝ }
+{
+    if full_length < Layout::FULL_HEAD {
+        return 0;
+    }
+    (full_length - Layout::FULL_HEAD) / Layout::PAGE
+}
+
+// Whether a patch area may have this length.
+pub fn patch_fits(patch_length: usize) -> bool
+    ensures { λ r. ⌜ r ≡ patchFits pageSize «patch_length» ⌝ }
+{
+    if patch_length < Layout::PATCH_HEAD {
+        return false;
+    }
+    let n = blocks(patch_length);
+    if Layout::BLOCKS < n {
+        return false;
+    }
+    patch_length == Layout::PATCH_HEAD + Layout::SLOT * n
+}
+
+// Whether a full area may have this length beside a patch area of n blocks.
+pub fn full_fits(n: usize, full_length: usize) -> bool
+    ensures { λ r. ⌜ r ≡ fullFits pageSize n «full_length» ⌝ }
+{
+    if full_length == 0 {
+        return true;
+    }
+    if full_length < Layout::FULL_HEAD {
+        return false;
+    }
+    let m = pages(full_length);
+    if n < m {
+        return false;
+    }
+    full_length == Layout::FULL_HEAD + Layout::PAGE * m
+}
+
+// Whether two areas may have these lengths.
+pub fn lengths_fit(patch_length: usize, full_length: usize) -> bool
+    ensures { λ r. ⌜ r ≡ (patchFits pageSize «patch_length» && fullFits pageSize (blocksIn «patch_length») «full_length») ⌝ }
+{
+    if !patch_fits(patch_length) {
+        return false;
+    }
+    full_fits(blocks(patch_length), full_length)
+}

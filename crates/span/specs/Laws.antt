@@ -8,7 +8,7 @@ use mathlib.Core.Bool.{Bool, true, false, _&&_, true≢false, false≢true, and-
 use mathlib.Core.List.{List, [], _∷_, _++_}
 use lib.Dec.{eqb}
 use lib.ListN.{length, take, drop, getD, set, replicate, length-set, replicate-append-replicate, length-replicate, getD-replicate, length-append, length-take, length-drop, List·getD-append, List·getD-eq-default, drop-of-length-le}
-use lib.Seq.{getD-take, getD-drop, getD-append-add, ext-getD, length-take-le, drop-drop, take-add, take-all, take-nil, getD-set-same, getD-set-other, getD-append-seam}
+use lib.Seq.{getD-take, getD-drop, getD-append-add, ext-getD, length-take-le, drop-drop, take-add, take-all, take-nil, getD-set-same, getD-set-other, getD-append-seam, drop-at, take-length}
 use borrow.Author.Tests.{eq-eqb, eqb-true}
 use borrow.Rule.Slice.PartMut.{putMid}
 use Rattle.span.specs.Bytes.{zeros, part, splice, same}
@@ -108,9 +108,9 @@ part-part i k at n xs h l =
     ∙ ap (λ (q : ℕ). getD xs q 0) g
     ∙ sym (part-at (at + i) k xs j m′))
 
-pub part-join : (at n m : ℕ) (xs : List ℕ) → at + n + m ≤ length xs → part at (n + m) xs ≡ part at n xs ++ part (at + n) m xs
+pub part-join : (at n m : ℕ) (xs : List ℕ) → part at (n + m) xs ≡ part at n xs ++ part (at + n) m xs
 unfolding part
-part-join at n m xs h = take-add n m (drop at xs) ∙ ap (λ (l : List ℕ). take n (drop at xs) ++ take m l) (drop-drop n at xs)
+part-join at n m xs = take-add n m (drop at xs) ∙ ap (λ (l : List ℕ). take n (drop at xs) ++ take m l) (drop-drop n at xs)
 
 -- Equations of splices
 
@@ -264,7 +264,7 @@ unfolding splice
 put-splice a k xs ys e =
     ap (λ (l : List ℕ). take a xs ++ (ys ++ l)) (drop-drop k a xs) ∙ ap (λ (m : ℕ). take a xs ++ (ys ++ drop (a + m) xs)) (sym e)
 
--- `same` is equality
+-- `same` is equality, and goes by parts
 
 pub same-is : (xs ys : List ℕ) → same xs ys ≡ true → xs ≡ ys
 unfolding same
@@ -323,13 +323,6 @@ splice-more xs at ys v h =
     ])
     (λ i k o. getD-set-other s (at + length ys) i v 0 (omega arith) ∙ splice-after xs at ys (omega arith) i (omega arith))
 
-pub same-more : (xs ys : List ℕ) (x y : ℕ) → length xs ≡ length ys → same (xs ++ (x ∷ [])) (ys ++ (y ∷ [])) ≡ (same xs ys && eqb x y)
-unfolding same
-same-more [] [] x y e = and-true (eqb x y)
-same-more [] (b ∷ ys) x y e = absurd (omega arith)
-same-more (a ∷ xs) [] x y e = absurd (omega arith)
-same-more (a ∷ xs) (b ∷ ys) x y e = ap (λ (t : Bool). eqb a b && t) (same-more xs ys x y (omega arith)) ∙ sym (and-assoc (eqb a b) (same xs ys) (eqb x y))
-
 -- `take` stops where the list does
 pub take-min : (n : ℕ) (xs : List ℕ) → take (min n (length xs)) xs ≡ take n xs
 take-min n xs =
@@ -348,3 +341,87 @@ part-past at n xs h = ap (λ (l : List ℕ). take n l) (drop-of-length-le xs h) 
 pub part-clamped : (at n : ℕ) (xs : List ℕ) → part at (min n (length xs - at)) xs ≡ part at n xs
 unfolding part
 part-clamped at n xs = ap (λ (k : ℕ). take (min n k) (drop at xs)) (sym (length-drop at xs)) ∙ take-min n (drop at xs)
+
+pub same-append : (xs ys us vs : List ℕ) → length xs ≡ length ys → same (xs ++ us) (ys ++ vs) ≡ (same xs ys && same us vs)
+unfolding same
+same-append [] [] us vs e = refl
+same-append [] (b ∷ ys) us vs e = absurd (omega arith)
+same-append (a ∷ xs) [] us vs e = absurd (omega arith)
+same-append (a ∷ xs) (b ∷ ys) us vs e = ap (λ (t : Bool). eqb a b && t) (same-append xs ys us vs (omega arith)) ∙ sym (and-assoc (eqb a b) (same xs ys) (same us vs))
+
+-- laid over zeros, the zeros after it stay
+pub drop-zeros : (k n : ℕ) → drop k (zeros n) ≡ zeros (n - k)
+drop-zeros k n =
+    ext (drop k (zeros n)) (zeros (n - k)) (length-drop k (zeros n) ∙ ap (λ (l : ℕ). l - k) (zeros-length n) ∙ sym (zeros-length (n - k)))
+    (λ i h. getD-drop k (zeros n) i 0 ∙ zeros-at n (k + i) ∙ sym (zeros-at (n - k) i))
+
+pub splice-zeros : (n : ℕ) (ys : List ℕ) → splice (zeros n) 0 ys ≡ ys ++ zeros (n - length ys)
+unfolding splice
+splice-zeros n ys =
+    let e : 0 + length ys ≡ length ys = omega arith in
+    ap (λ (k : ℕ). ys ++ drop k (zeros n)) e ∙ ap (λ (l : List ℕ). ys ++ l) (drop-zeros (length ys) n)
+
+pub zeros-join : (n m : ℕ) → zeros n ++ zeros m ≡ zeros (n + m)
+unfolding zeros
+zeros-join n m = replicate-append-replicate n m 0
+
+pub same-more : (xs ys : List ℕ) (x y : ℕ) → length xs ≡ length ys → same (xs ++ (x ∷ [])) (ys ++ (y ∷ [])) ≡ (same xs ys && eqb x y)
+unfolding same
+same-more xs ys x y e = same-append xs ys (x ∷ []) (y ∷ []) e ∙ ap (λ (t : Bool). same xs ys && t) (and-true (eqb x y))
+
+-- zeros after a list change no byte that is read of it
+pub zeros-after : (xs : List ℕ) (k i : ℕ) → getD (xs ++ zeros k) i 0 ≡ getD xs i 0
+zeros-after xs k i =
+    elim (decLt i (length xs))
+    [ yes h ↦ List·getD-append xs (zeros k) 0 i h
+    | no h ↦
+        let j : ℕ = i - length xs in
+        let q : length xs + j ≡ i = omega arith in
+        ap (λ (p : ℕ). getD (xs ++ zeros k) p 0) (sym q)
+        ∙ getD-append-add xs (zeros k) j 0
+        ∙ zeros-at k j
+        ∙ sym (List·getD-eq-default xs 0 (omega arith))
+    ]
+
+-- a part of the first of two lists
+pub part-first : (at n : ℕ) (xs ys : List ℕ) → at + n ≤ length xs → part at n (xs ++ ys) ≡ part at n xs
+part-first at n xs ys h =
+    let m : length (xs ++ ys) ≡ length xs + length ys = length-append xs ys in
+    let l : length (part at n (xs ++ ys)) ≡ n = part-length at n (xs ++ ys) (omega arith) in
+    ext (part at n (xs ++ ys)) (part at n xs) (l ∙ sym (part-length at n xs h))
+    (λ i k.
+      let k′ : i < n = omega arith in
+      part-at at n (xs ++ ys) i k′ ∙ List·getD-append xs ys 0 (at + i) (omega arith) ∙ sym (part-at at n xs i k′))
+
+-- the whole of the second
+pub part-second : (xs ys : List ℕ) (at n : ℕ) → length xs ≡ at → length ys ≡ n → part at n (xs ++ ys) ≡ ys
+unfolding part
+part-second xs ys at n e f = ap (λ (l : List ℕ). take n l) (drop-at xs ys at e) ∙ ap (λ (k : ℕ). take k ys) (sym f) ∙ take-length ys
+
+-- a part has at most n bytes, and fewer only where the list ends
+pub part-short : (at n : ℕ) (xs : List ℕ) → length (part at n xs) ≡ min n (length xs - at)
+unfolding part
+part-short at n xs = simp (length-take, length-drop)
+
+-- two parts, one after the other, against two lists of their lengths
+pub same-parts : (at n m : ℕ) (xs ys zs : List ℕ) → length ys ≡ n → length zs ≡ m → same (part at (n + m) xs) (ys ++ zs) ≡ (same (part at n xs) ys && same (part (at + n) m xs) zs)
+same-parts at n m xs ys zs e f =
+    elim (decLt (length (part at n xs)) n)
+    [ yes h ↦
+        let l : length (part at (n + m) xs) ≡ min (n + m) (length xs - at) = part-short at (n + m) xs in
+        let l′ : length (part at n xs) ≡ min n (length xs - at) = part-short at n xs in
+        let g : length (ys ++ zs) ≡ length ys + length zs = length-append ys zs in
+        same-false (part at (n + m) xs) (ys ++ zs)
+        (λ q.
+          let r : length (part at (n + m) xs) ≡ length (ys ++ zs) = ap (λ (x : List ℕ). length x) q in
+          omega arith)
+        ∙ sym
+          (ap (λ (t : Bool). t && same (part (at + n) m xs) zs)
+          (same-false (part at n xs) ys
+          (λ q.
+            let r : length (part at n xs) ≡ length ys = ap (λ (x : List ℕ). length x) q in
+            omega arith)))
+    | no h ↦
+        let l′ : length (part at n xs) ≡ min n (length xs - at) = part-short at n xs in
+        ap (λ (x : List ℕ). same x (ys ++ zs)) (part-join at n m xs) ∙ same-append (part at n xs) ys (part (at + n) m xs) zs (omega arith)
+    ]

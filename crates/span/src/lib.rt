@@ -154,3 +154,12 @@ pub fn zero_part(s: &[u8], at: usize, n: usize) -> bool
     }
     all_zero(p)
 }
+
+// Whether a and b hold the same bytes in one part of both.
+pub fn same_part(a: &[u8], b: &[u8], at: usize, n: usize) -> bool
+    ensures { λ r. ⌜ r ≡ sameBytes (partOf at n (now (a .entry))) (partOf at n (now (b .entry))) ⌝ }
+{
+    let p = part(a, at, n);
+    let q = part(b, at, n);
+    same(p, q)
+}

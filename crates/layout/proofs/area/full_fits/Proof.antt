@@ -1,0 +1,70 @@
+use Rattle.layout.specs.Sizes.{pageSize, slotAt, pageAt, blocksAtMost}
+use borrow.Author.Tests.{eq-eqb, ne-eqb, le-leb, lt-leb}
+use lib.Dec.{eqb, leb}
+use mathlib.Core.Bool.{Bool, true, false, _&&_, _||_, and-true, and-false}
+use mathlib.Core.Path.{_≡_, sym, ap, _∙_}
+use Prim.Native.Nat.{ℕ, _+_, _-_, _*_, _/_}
+use Rattle.layout.specs.Areas.{fullFits, pagesIn}
+use native.Mathlib.Omega.{arith}
+use Rattle.span.specs.Tests.{tests}
+use borrow.Author.Needs.{needs}
+use Rattle.layout.proofs.area.full_fits.Statement.{statement}
+use Rattle.layout.proofs.area.full_fits.Tie as tie
+use Rattle.layout.proofs.area.full_fits.Reads as reads
+use Rattle.layout.proofs.area.full_fits.Lts as lts
+use Rattle.layout.proofs.area.pages.Reads as pages-reads
+
+-- src/area.rt:48:9
+returns : tie.Need-returns
+unfolding fullFits
+returns c =
+    rw (eq-eqb (c .before .args .full-length) 0 (c .if1 .taken))
+
+-- src/area.rt:51:9
+returns-2 : tie.Need-returns-2
+unfolding fullFits pagesIn
+returns-2 c =
+    let l : ℕ = c .before .before .args .full-length in
+    rw (ne-eqb l 0 (c .before .if1 .left), ne-eqb l (pageAt pageSize (pagesIn pageSize l)) (λ q. omega arith))
+
+-- src/area.rt:53:9
+pages-requires : tie.Need-pages-requires
+pages-requires c κs = search needs
+
+-- src/area.rt:55:9
+returns-3 : tie.Need-returns-3
+unfolding fullFits
+returns-3 c =
+    let a = c .before .before .before .before .args in
+    let l : ℕ = a .full-length in
+    let m : ℕ = pagesIn pageSize l in
+    let f : leb m (a .n) ≡ false = lt-leb m (a .n) (omega arith) in
+    rw (ne-eqb l 0 (c .before .before .before .if1 .left)) (sym (ap (λ (t : Bool). eqb l (pageAt pageSize m) && t) f ∙ and-false (eqb l (pageAt pageSize m))))
+
+-- src/area.rt:57:40
+mul-result : tie.Need-mul-result
+unfolding pagesIn
+mul-result c =
+    omega arith
+
+-- src/area.rt:57:20
+add-result : tie.Need-add-result
+unfolding pagesIn
+add-result c =
+    omega arith
+
+-- src/area.rt:44:1
+returns-4 : tie.Need-returns-4
+unfolding fullFits
+returns-4 c =
+    let a = c .before .before .before .before .args in
+    let l : ℕ = a .full-length in
+    let m : ℕ = pagesIn pageSize l in
+    let f : leb m (a .n) ≡ true = le-leb m (a .n) (omega arith) in
+    rw (ne-eqb l 0 (c .before .before .before .if1 .left))
+    (ap (λ (k : ℕ). eqb l (pageAt pageSize k)) (c .before .pages .ensures)
+    ∙ sym (ap (λ (t : Bool). eqb l (pageAt pageSize m) && t) f ∙ and-true (eqb l (pageAt pageSize m))))
+
+pub full-fits-spec : {M : Type 1} → statement M
+full-fits-spec =
+    tie.close (tie.spec returns returns-2 pages-requires returns-3 mul-result add-result returns-4)

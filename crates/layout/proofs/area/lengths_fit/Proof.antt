@@ -1,0 +1,50 @@
+use Rattle.layout.specs.Areas.{patchFits, fullFits, blocksIn}
+use Rattle.layout.specs.Sizes.{pageSize}
+use mathlib.Core.Bool.{Bool, true, false, _&&_}
+use borrow.Author.Tests.{not-true, not-false}
+use borrow.Author.Tests.{eq-eqb, ne-eqb, le-leb, lt-leb}
+use lib.Dec.{eqb, leb}
+use mathlib.Core.Bool.{Bool, _&&_, _||_, and-true, and-false}
+use mathlib.Core.Path.{_≡_, sym, ap, _∙_}
+use Prim.Native.Nat.{ℕ, _+_, _-_, _*_, _/_}
+use native.Mathlib.Omega.{arith}
+use Rattle.span.specs.Tests.{tests}
+use borrow.Author.Needs.{needs}
+use Rattle.layout.proofs.area.lengths_fit.Statement.{statement}
+use Rattle.layout.proofs.area.lengths_fit.Tie as tie
+use Rattle.layout.proofs.area.lengths_fit.Reads as reads
+use Rattle.layout.proofs.area.lengths_fit.Lts as lts
+use Rattle.layout.proofs.area.blocks.Reads as blocks-reads
+use Rattle.layout.proofs.area.full_fits.Reads as full-fits-reads
+use Rattle.layout.proofs.area.patch_fits.Reads as patch-fits-reads
+
+-- src/area.rt:64:9
+patch-fits-requires : tie.Need-patch-fits-requires
+patch-fits-requires c κs = search needs
+
+-- src/area.rt:65:9
+returns : tie.Need-returns
+returns c =
+    let l : ℕ = c .before .before .args .patch-length in
+    let f : patchFits pageSize l ≡ false = sym (c .before .patch-fits .ensures) ∙ not-true (c .before .patch-fits .result) (c .if1 .taken) in
+    rw f
+
+-- src/area.rt:67:15
+blocks-requires : tie.Need-blocks-requires
+blocks-requires c κs = search needs
+
+-- src/area.rt:67:5
+full-fits-requires : tie.Need-full-fits-requires
+full-fits-requires c κs = search needs
+
+-- src/area.rt:61:1
+returns-2 : tie.Need-returns-2
+returns-2 c =
+    let a = c .before .before .before .before .args in
+    let p = c .before .before .before .patch-fits in
+    let f : patchFits pageSize (a .patch-length) ≡ true = sym (p .ensures) ∙ not-false (p .result) (c .before .before .if1 .left) in
+    rw f (c .full-fits .ensures ∙ ap (λ (n : ℕ). fullFits pageSize n (a .full-length)) (c .before .blocks2 .ensures))
+
+pub lengths-fit-spec : {M : Type 1} → statement M
+lengths-fit-spec =
+    tie.close (tie.spec patch-fits-requires returns blocks-requires full-fits-requires returns-2)

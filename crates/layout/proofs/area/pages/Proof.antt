@@ -1,0 +1,23 @@
+use Rattle.layout.specs.Areas.{pagesIn}
+use native.Mathlib.Omega.{arith}
+use Rattle.span.specs.Tests.{tests}
+use borrow.Author.Needs.{needs}
+use Rattle.layout.proofs.area.pages.Statement.{statement}
+use Rattle.layout.proofs.area.pages.Tie as tie
+use Rattle.layout.proofs.area.pages.Reads as reads
+use Rattle.layout.proofs.area.pages.Lts as lts
+
+-- src/area.rt:24:9
+returns : tie.Need-returns
+unfolding pagesIn
+returns c =
+    omega arith
+
+-- src/area.rt:20:1
+returns-2 : tie.Need-returns-2
+unfolding pagesIn
+returns-2 c =
+    omega arith
+
+pub pages-spec : {M : Type 1} → statement M
+pages-spec = tie.close (tie.spec returns returns-2)

@@ -1,0 +1,55 @@
+use Rattle.layout.specs.Sizes.{pageSize, slotAt, pageAt, blocksAtMost}
+use borrow.Author.Tests.{eq-eqb, ne-eqb, le-leb, lt-leb}
+use lib.Dec.{eqb, leb}
+use mathlib.Core.Bool.{Bool, true, false, _&&_, _||_, and-true, and-false}
+use mathlib.Core.Path.{_≡_, sym, ap, _∙_}
+use Prim.Native.Nat.{ℕ, _+_, _-_, _*_, _/_}
+use Rattle.layout.specs.Areas.{patchFits, blocksIn}
+use native.Mathlib.Omega.{arith}
+use Rattle.span.specs.Tests.{tests}
+use borrow.Author.Needs.{needs}
+use Rattle.layout.proofs.area.patch_fits.Statement.{statement}
+use Rattle.layout.proofs.area.patch_fits.Tie as tie
+use Rattle.layout.proofs.area.patch_fits.Reads as reads
+use Rattle.layout.proofs.area.patch_fits.Lts as lts
+use Rattle.layout.proofs.area.blocks.Reads as blocks-reads
+
+-- src/area.rt:34:9
+returns : tie.Need-returns
+unfolding patchFits blocksIn
+returns c =
+    let l : ℕ = c .before .args .patch-length in
+    rw (ne-eqb l (slotAt (blocksIn l)) (λ q. omega arith))
+
+-- src/area.rt:36:9
+blocks-requires : tie.Need-blocks-requires
+blocks-requires c κs = search needs
+
+-- src/area.rt:38:9
+returns-2 : tie.Need-returns-2
+unfolding patchFits
+returns-2 c =
+    let l : ℕ = c .before .before .before .args .patch-length in
+    let f : leb (blocksIn l) (blocksAtMost pageSize) ≡ false = lt-leb (blocksIn l) (blocksAtMost pageSize) (omega arith) in
+    sym (ap (λ (t : Bool). eqb l (slotAt (blocksIn l)) && t) f ∙ and-false (eqb l (slotAt (blocksIn l))))
+
+-- src/area.rt:40:42
+mul-result : tie.Need-mul-result
+mul-result c = search needs
+
+-- src/area.rt:40:21
+add-result : tie.Need-add-result
+add-result c = search needs
+
+-- src/area.rt:30:1
+returns-3 : tie.Need-returns-3
+unfolding patchFits
+returns-3 c =
+    let l : ℕ = c .before .before .before .args .patch-length in
+    let f : leb (blocksIn l) (blocksAtMost pageSize) ≡ true = le-leb (blocksIn l) (blocksAtMost pageSize) (omega arith) in
+    ap (λ (n : ℕ). eqb l (slotAt n)) (c .before .blocks2 .ensures)
+    ∙ sym (ap (λ (t : Bool). eqb l (slotAt (blocksIn l)) && t) f ∙ and-true (eqb l (slotAt (blocksIn l))))
+
+pub patch-fits-spec : {M : Type 1} → statement M
+patch-fits-spec =
+    tie.close (tie.spec returns blocks-requires returns-2 mul-result add-result returns-3)

@@ -1,0 +1,42 @@
+use Rattle.span.specs.Laws.{zeros-length}
+use Rattle.span.specs.Bytes.{zeros, splice}
+use Prim.Native.Nat.{ℕ, suc, _+_, _-_, _≤_, _<_}
+use lib.ListN.{length, take}
+use mathlib.Core.Bool.{Bool, true, false, not}
+use mathlib.Core.List.{List, [], _∷_, _++_}
+use mathlib.Core.Path.{_≡_, refl, sym, ap, _∙_}
+use native.Mathlib.Omega.{arith}
+use Prim.Native.Nat.{ℕ, _+_, _-_, _≤_, _<_}
+use borrow.Author.Needs.{needs}
+use Rattle.layout.proofs.head.begin.Statement.{statement}
+use Rattle.layout.proofs.head.begin.Tie as tie
+use Rattle.layout.proofs.head.begin.Reads as reads
+use Rattle.layout.proofs.head.begin.Lts as lts
+use Rattle.span.proofs.copy.Reads as copy-reads
+use Rattle.span.proofs.fill.Reads as fill-reads
+
+-- src/head.rt:101:5
+fill-requires : tie.Need-fill-requires
+fill-requires c κs = search needs
+
+-- src/head.rt:102:5
+copy-requires : tie.Need-copy-requires
+copy-requires c κs = search needs
+
+-- src/head.rt:98:1
+same-length : tie.Need-same-length
+same-length c = search needs
+
+-- src/head.rt:98:1
+returns : tie.Need-returns
+returns c =
+    let a = c .before .before .before .before .before .before .before .before .before .before .args in
+    let filled = c .before .before .before .before .before .before .fill in
+    let n : ℕ = length (a .area .now) in
+    let e : filled .last .0 ≡ zeros n = filled .ensures in
+    c .before .before .copy .ensures
+    ∙ ap (λ (l : List ℕ). splice l 0 (take (length l) (a .fields .now))) e
+    ∙ ap (λ (k : ℕ). splice (zeros n) 0 (take k (a .fields .now))) (zeros-length n)
+
+pub begin-spec : {M : Type 1} → statement M
+begin-spec = tie.close (tie.spec fill-requires copy-requires same-length returns)

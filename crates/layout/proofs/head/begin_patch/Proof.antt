@@ -1,0 +1,44 @@
+use Rattle.layout.specs.Areas.{fresh-patch-is}
+use Rattle.layout.specs.Sizes.{pageSize}
+use Rattle.span.specs.Bytes.{zeros, splice}
+use lib.ListN.{length, take}
+use mathlib.Core.List.{List, [], _∷_, _++_}
+use mathlib.Core.Path.{_≡_, refl, sym, ap, _∙_}
+use native.Mathlib.Omega.{arith}
+use Prim.Native.Nat.{ℕ, suc, _+_, _-_, _≤_, _<_}
+use borrow.Author.Needs.{needs}
+use Rattle.layout.proofs.head.begin_patch.Statement.{statement}
+use Rattle.layout.proofs.head.begin_patch.Tie as tie
+use Rattle.layout.proofs.head.begin_patch.Reads as reads
+use Rattle.layout.proofs.head.begin_patch.Lts as lts
+use Rattle.layout.proofs.head.begin.Reads as begin-reads
+use Rattle.layout.proofs.head.patch_fields.Reads as patch-fields-reads
+
+-- src/head.rt:109:18
+patch-fields-requires : tie.Need-patch-fields-requires
+patch-fields-requires c κs = search needs
+
+-- src/head.rt:110:18
+slice-aggregate-begin : tie.Need-slice-aggregate-begin
+slice-aggregate-begin c = search needs
+
+-- src/head.rt:110:5
+begin-requires : tie.Need-begin-requires
+begin-requires c κs = search needs
+
+-- src/head.rt:106:1
+same-length : tie.Need-same-length
+same-length c = search needs
+
+-- src/head.rt:106:1
+returns : tie.Need-returns
+returns c =
+    let n : ℕ = length (c .before .before .before .before .before .before .before .args .patch .now) in
+    c .before .before .begin .ensures
+    ∙ ap (λ (l : List ℕ). splice (zeros n) 0 (take n l)) (c .before .before .before .before .before .patch-fields .ensures)
+    ∙ fresh-patch-is pageSize n
+
+pub begin-patch-spec : {M : Type 1} → statement M
+begin-patch-spec =
+    tie.close
+    (tie.spec patch-fields-requires slice-aggregate-begin begin-requires same-length returns)
