@@ -1,0 +1,137 @@
+-- Compare and Apply: one total function a call, from what is lent to the answer's numbers and every lent byte afterwards; and one
+-- predicate a call, which its contract cites whole.
+use Prim.Native.Nat.{ℕ, zero, suc}
+use mathlib.Core.Path.{_≡_}
+use mathlib.Core.Bool.{Bool, not, _&&_, _||_, cond}
+use mathlib.Core.List.{List, [], _∷_}
+use lib.Dec.{eqb, leb, ltb}
+use lib.ListN.{length}
+use lib.IntN.{ℤ, pos}
+use Rattle.span.specs.Bytes.{zeros, splice}
+use Rattle.layout.specs.Sizes.{room}
+use Rattle.layout.specs.Numbers.{kindNumber, refusalNumber}
+use Rattle.layout.specs.Refusals.{Row, _⇐_, firstOf, Groups, ordered}
+use Rattle.stream.specs.Entries.{Stream, start, payloadStream, sound, entries, last, applied}
+use Rattle.stream.specs.Differences.{Change, diffs, coded, lastPlace}
+use Rattle.stream.specs.declared.Compared.{Compared}
+use Rattle.stream.specs.declared.Compared.the-variants.{Done as ComparedDone, Refused as ComparedRefused}
+use Rattle.stream.specs.declared.Applied.{Applied}
+use Rattle.stream.specs.declared.Applied.the-variants.{Done as AppliedDone, Refused as AppliedRefused}
+
+-- "a base of length 0 stands for a page of 8,192 zeros"
+unfoldable pub pageOf : ℕ → List ℕ → List ℕ
+pageOf P base = cond (eqb (length base) 0) (zeros P) base
+
+-- "base not 0 or 8,192 bytes, or another page not 8,192"
+unfoldable pub pagesFit : ℕ → List ℕ → List ℕ → Bool
+pagesFit P base page = (eqb (length base) 0 || eqb (length base) P) && eqb (length page) P
+
+abbrev pub pageRows : ℕ → List ℕ → List ℕ → List Row
+pageRows P base page = (1 ⇐ not (pagesFit P base page)) ∷ []
+
+-- Compare
+
+pub record ComparedNumbers : Type 0 where
+  pub number : ℕ
+  pub kind : ℕ
+  pub length : ℕ
+  pub entries : ℕ
+  pub last : ℤ
+
+-- same, patch or large, by the stream's length
+unfoldable pub kindFor : ℕ → ℕ
+kindFor n = cond (eqb n 0) 0 (cond (leb n room) 1 2)
+
+unfoldable pub compareRows : ℕ → List ℕ → List ℕ → List ℕ → List Row
+compareRows P base page buffer =
+    ordered
+    (record
+    { pages = pageRows P base page
+    ; lengths = []
+    ; buffers = (9 ⇐ ltb (length buffer) room) ∷ []
+    ; headers = []
+    ; block = []
+    ; slot = []
+    ; full = []
+    ; payload = []
+    ; place = []
+    ; pair = []
+    })
+
+-- the answer where nothing is refused
+unfoldable pub comparison : List Change → ComparedNumbers
+comparison ds =
+    let w = coded 0 ds in
+    record { number = 0; kind = kindFor (length w); length = length w; entries = length ds; last = lastPlace start ds }
+
+abbrev refusedComparison : ℕ → ComparedNumbers
+refusedComparison n = record { number = n; kind = 0; length = 0; entries = 0; last = pos 0 }
+
+unfoldable pub compareNumbers : ℕ → List ℕ → List ℕ → List ℕ → ComparedNumbers
+compareNumbers P base page buffer =
+    elim (firstOf (compareRows P base page buffer))
+    [ zero ↦ comparison (diffs 0 (pageOf P base) page)
+    | suc n ↦ refusedComparison (suc n)
+    ]
+
+-- "Only for patch is the payload written; later bytes of the buffer stay."
+unfoldable pub compareBuffer : ℕ → List ℕ → List ℕ → List ℕ → List ℕ
+compareBuffer P base page buffer =
+    cond (eqb (compareNumbers P base page buffer .kind) 1) (splice buffer 0 (coded 0 (diffs 0 (pageOf P base) page))) buffer
+
+-- the paper's numbers for each case of the answer
+abbrev pub comparedNumbers : Compared → ComparedNumbers
+comparedNumbers (ComparedDone k n e l) = record { number = 0; kind = kindNumber k; length = n; entries = e; last = l }
+comparedNumbers (ComparedRefused r) = refusedComparison (refusalNumber r)
+
+pub record Compare (P : ℕ) (base page buffer : List ℕ) (answer : Compared) (after : List ℕ) : Type 0 where
+  pub numbers : comparedNumbers answer ≡ compareNumbers P base page buffer
+  pub bytes : after ≡ compareBuffer P base page buffer
+
+-- Apply
+
+pub record AppliedNumbers : Type 0 where
+  pub number : ℕ
+  pub entries : ℕ
+  pub last : ℤ
+
+unfoldable pub applyRows : ℕ → List ℕ → List ℕ → List ℕ → List Row
+applyRows P base payload page =
+    ordered
+    (record
+    { pages = pageRows P base page
+    ; lengths = []
+    ; buffers = []
+    ; headers = []
+    ; block = []
+    ; slot = []
+    ; full = []
+    ; payload = (7 ⇐ not (sound P payload)) ∷ []
+    ; place = []
+    ; pair = []
+    })
+
+abbrev refusedApplication : ℕ → AppliedNumbers
+refusedApplication n = record { number = n; entries = 0; last = pos 0 }
+
+unfoldable pub applyNumbers : ℕ → List ℕ → List ℕ → List ℕ → AppliedNumbers
+applyNumbers P base payload page =
+    elim (firstOf (applyRows P base payload page))
+    [ zero ↦ record { number = 0; entries = entries (payloadStream P payload); last = last start (payloadStream P payload) }
+    | suc n ↦ refusedApplication (suc n)
+    ]
+
+unfoldable pub applyPage : ℕ → List ℕ → List ℕ → List ℕ → List ℕ
+applyPage P base payload page =
+    elim (firstOf (applyRows P base payload page))
+    [ zero ↦ applied (pageOf P base) (payloadStream P payload)
+    | suc n ↦ page
+    ]
+
+abbrev pub appliedNumbers : Applied → AppliedNumbers
+appliedNumbers (AppliedDone e l) = record { number = 0; entries = e; last = l }
+appliedNumbers (AppliedRefused r) = refusedApplication (refusalNumber r)
+
+pub record Apply (P : ℕ) (base payload page : List ℕ) (answer : Applied) (after : List ℕ) : Type 0 where
+  pub numbers : appliedNumbers answer ≡ applyNumbers P base payload page
+  pub bytes : after ≡ applyPage P base payload page
