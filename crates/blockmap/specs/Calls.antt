@@ -17,17 +17,17 @@ use Rattle.blockmap.specs.declared.Tallied.the-variants.{Done as Tallied
 unfoldable pub mapRows : ℕ → List ℕ → ℕ → List Row → List Row → List Row
 mapRows P map n block pair =
     ordered
-    (record
-    { pages = []
-    ; lengths = (2 ⇐ ltb (blocksAtMost P) n) ∷ []
-    ; buffers = (9 ⇐ ltb (length map) (mapBytes n)) ∷ []
-    ; headers = []
-    ; block = block
-    ; slot = []
-    ; full = []
-    ; payload = []
-    ; place = []
-    ; pair = pair
+    (record {
+      pages = [];
+      lengths = (2 ⇐ ltb (blocksAtMost P) n) ∷ [];
+      buffers = (9 ⇐ ltb (length map) (mapBytes n)) ∷ [];
+      headers = [];
+      block = block;
+      slot = [];
+      full = [];
+      payload = [];
+      place = [];
+      pair = pair;
     })
 
 -- Look up
@@ -41,9 +41,9 @@ lookUpRows P map n b = mapRows P map n ((5 ⇐ leb n b) ∷ []) ((11 ⇐ eqb (pa
 
 unfoldable pub lookUpNumbers : ℕ → List ℕ → ℕ → ℕ → LookedNumbers
 lookUpNumbers P map n b =
-    elim (firstOf (lookUpRows P map n b))
-    [ zero ↦ record { number = 0; pair = pairAt map b }
-    | suc k ↦ record { number = suc k; pair = 0 }
+    elim (firstOf (lookUpRows P map n b)) [
+      | zero ↦ record { number = 0; pair = pairAt map b }
+      | suc k ↦ record { number = suc k; pair = 0 }
     ]
 
 abbrev pub lookedNumbers : Looked → LookedNumbers
@@ -65,9 +65,9 @@ tallyRows P map n = mapRows P map n [] ((11 ⇐ badPairs map n) ∷ [])
 
 unfoldable pub tallyNumbers : ℕ → List ℕ → ℕ → TalliedNumbers
 tallyNumbers P map n =
-    elim (firstOf (tallyRows P map n))
-    [ zero ↦ record { number = 0; patch = pairs patchPair map n; full = pairs fullPair map n }
-    | suc k ↦ record { number = suc k; patch = 0; full = 0 }
+    elim (firstOf (tallyRows P map n)) [
+      | zero ↦ record { number = 0; patch = pairs patchPair map n; full = pairs fullPair map n }
+      | suc k ↦ record { number = suc k; patch = 0; full = 0 }
     ]
 
 abbrev pub talliedNumbers : Tallied → TalliedNumbers

@@ -49,6 +49,7 @@ fresh-full-is P n = go (eqb n 0) refl
   where
     h : splice (zeros n) 0 (take n (fullFields P)) ≡ take n (header (fullFields P) fullHead ++ zeros (n - fullHead))
     h = fresh-is (fullFields P) n fullHead (lit≤ tt)
+
     go : (t : Bool) → eqb n 0 ≡ t → splice (zeros n) 0 (take n (fullFields P)) ≡ take n (cond t [] (header (fullFields P) fullHead ++ zeros (n - fullHead)))
     go true e =
         let q : n ≡ 0 = eqb-true n 0 e in

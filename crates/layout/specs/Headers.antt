@@ -77,11 +77,11 @@ fresh-is fields n size h =
     let t : length (take n w) ≡ min n (length w) = length-take n w in
     splice-zeros n (take n fields)
     ∙ ext (take n fields ++ zeros k) (take n w) (omega arith)
-      (λ i j.
-        let j′ : i < n = omega arith in
-        zeros-after (take n fields) k i
-        ∙ getD-take n fields i 0 j′
-        ∙ sym (getD-take n w i 0 j′ ∙ zeros-after (fields ++ zeros (size - length fields)) (n - size) i ∙ zeros-after fields (size - length fields) i))
+    (λ i j.
+    let j′ : i < n = omega arith in
+    zeros-after (take n fields) k i
+    ∙ getD-take n fields i 0 j′
+    ∙ sym (getD-take n w i 0 j′ ∙ zeros-after (fields ++ zeros (size - length fields)) (n - size) i ∙ zeros-after fields (size - length fields) i))
 
 -- the number that four comparisons give: magic, version, the other fields, the zero bytes
 unfoldable pub headNumber : Bool → Bool → Bool → Bool → ℕ
@@ -90,8 +90,8 @@ headNumber a b c d = orElse (cond (not a) 3 0) (orElse (cond (not b) 4 0) (orEls
 module _ (fields area : List ℕ) (size : ℕ) (h : restAt ≤ length fields) (k : length fields ≤ size) where
   pub head-rows : firstOf (headRows (header fields size) size area)
       ≡ headNumber (same (part 0 versionAt area) (part 0 versionAt fields)) (same (part versionAt (restAt - versionAt) area) (part versionAt (restAt - versionAt) fields))
-        (same (part restAt (length fields - restAt) area) (part restAt (length fields - restAt) fields))
-        (same (part (length fields) (size - length fields) area) (zeros (size - length fields)))
+      (same (part restAt (length fields - restAt) area) (part restAt (length fields - restAt) fields))
+      (same (part (length fields) (size - length fields) area) (zeros (size - length fields)))
   unfolding headRows header firstOf headNumber
   head-rows =
       let n : ℕ = length fields - restAt in
@@ -99,15 +99,15 @@ module _ (fields area : List ℕ) (size : ℕ) (h : restAt ≤ length fields) (k
       let q : size - restAt ≡ n + m = omega arith in
       let r : restAt + n ≡ length fields = omega arith in
       let e : part restAt (size - restAt) (fields ++ zeros m) ≡ part restAt n fields ++ zeros m =
-          ap (λ (x : ℕ). part restAt x (fields ++ zeros m)) q
-          ∙ part-join restAt n m (fields ++ zeros m)
-          ∙ ap (λ (l : List ℕ). l ++ part (restAt + n) m (fields ++ zeros m)) (part-first restAt n fields (zeros m) (omega arith))
-          ∙ ap (λ (x : ℕ). part restAt n fields ++ part x m (fields ++ zeros m)) r
-          ∙ ap (λ (l : List ℕ). part restAt n fields ++ l) (part-second fields (zeros m) (length fields) m refl (zeros-length m)) in
+      ap (λ (x : ℕ). part restAt x (fields ++ zeros m)) q
+      ∙ part-join restAt n m (fields ++ zeros m)
+      ∙ ap (λ (l : List ℕ). l ++ part (restAt + n) m (fields ++ zeros m)) (part-first restAt n fields (zeros m) (omega arith))
+      ∙ ap (λ (x : ℕ). part restAt n fields ++ part x m (fields ++ zeros m)) r
+      ∙ ap (λ (l : List ℕ). part restAt n fields ++ l) (part-second fields (zeros m) (length fields) m refl (zeros-length m)) in
       let f : same (part restAt (size - restAt) area) (part restAt n fields ++ zeros m) ≡ (same (part restAt n area) (part restAt n fields) && same (part (length fields) m area) (zeros m)) =
-          ap (λ (x : ℕ). same (part restAt x area) (part restAt n fields ++ zeros m)) q
-          ∙ same-parts restAt n m area (part restAt n fields) (zeros m) (part-length restAt n fields (omega arith)) (zeros-length m)
-          ∙ ap (λ (x : ℕ). same (part restAt n area) (part restAt n fields) && same (part x m area) (zeros m)) r in
+      ap (λ (x : ℕ). same (part restAt x area) (part restAt n fields ++ zeros m)) q
+      ∙ same-parts restAt n m area (part restAt n fields) (zeros m) (part-length restAt n fields (omega arith)) (zeros-length m)
+      ∙ ap (λ (x : ℕ). same (part restAt n area) (part restAt n fields) && same (part x m area) (zeros m)) r in
       rw (part-first 0 versionAt fields (zeros m) (omega arith), part-first versionAt (restAt - versionAt) fields (zeros m) (omega arith), e, f)
 
 -- what the two headers give together

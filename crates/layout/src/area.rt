@@ -1,6 +1,5 @@
 // The lengths of both areas, and what they say of n and m.
 use crate::Layout;
-
 ghost use mathlib.Core.Path.{_≡_};
 ghost use mathlib.Core.Bool.{_&&_};
 ghost use Rattle.layout.specs.Sizes.{pageSize};

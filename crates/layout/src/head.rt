@@ -2,7 +2,6 @@
 use crate::Fault;
 use crate::Layout;
 use crate::Refusal;
-
 ghost use mathlib.Core.Path.{_≡_};
 ghost use Prim.Native.Nat.{_≤_};
 ghost use lib.ListN.{length, take};
@@ -21,10 +20,26 @@ fn patch_fields(size: u64) -> [u8; Layout::PATCH_FIELDS]
     let version = Layout::PATCH_VERSION;
     let slot = Layout::SLOT;
     [
-        magic[0], magic[1], magic[2], magic[3], magic[4], magic[5], magic[6], magic[7],
-        (version % 256) as u8, (version / 256 % 256) as u8, 0, 0,
-        (size % 256) as u8, (size / 256 % 256) as u8, (size / 256 / 256 % 256) as u8, (size / 256 / 256 / 256 % 256) as u8,
-        (slot % 256) as u8, (slot / 256 % 256) as u8, (slot / 256 / 256 % 256) as u8, (slot / 256 / 256 / 256 % 256) as u8,
+        magic[0],
+        magic[1],
+        magic[2],
+        magic[3],
+        magic[4],
+        magic[5],
+        magic[6],
+        magic[7],
+        (version % 256) as u8,
+        (version / 256 % 256) as u8,
+        0,
+        0,
+        (size % 256) as u8,
+        (size / 256 % 256) as u8,
+        (size / 256 / 256 % 256) as u8,
+        (size / 256 / 256 / 256 % 256) as u8,
+        (slot % 256) as u8,
+        (slot / 256 % 256) as u8,
+        (slot / 256 / 256 % 256) as u8,
+        (slot / 256 / 256 / 256 % 256) as u8,
     ]
 }
 
@@ -35,9 +50,22 @@ fn full_fields(size: u64) -> [u8; Layout::FULL_FIELDS]
     let magic = Layout::FULL_MAGIC;
     let version = Layout::FULL_VERSION;
     [
-        magic[0], magic[1], magic[2], magic[3], magic[4], magic[5], magic[6], magic[7],
-        (version % 256) as u8, (version / 256 % 256) as u8, 0, 0,
-        (size % 256) as u8, (size / 256 % 256) as u8, (size / 256 / 256 % 256) as u8, (size / 256 / 256 / 256 % 256) as u8,
+        magic[0],
+        magic[1],
+        magic[2],
+        magic[3],
+        magic[4],
+        magic[5],
+        magic[6],
+        magic[7],
+        (version % 256) as u8,
+        (version / 256 % 256) as u8,
+        0,
+        0,
+        (size % 256) as u8,
+        (size / 256 % 256) as u8,
+        (size / 256 / 256 % 256) as u8,
+        (size / 256 / 256 / 256 % 256) as u8,
     ]
 }
 
@@ -50,7 +78,12 @@ fn head_fault(area: &[u8], fields: &[u8], size: usize) -> Fault
     if !span::same_part(area, fields, 0, Layout::VERSION_AT) {
         return Fault::Found(Refusal::Header);
     }
-    if !span::same_part(area, fields, Layout::VERSION_AT, Layout::FLAGS_AT - Layout::VERSION_AT) {
+    if !span::same_part(
+        area,
+        fields,
+        Layout::VERSION_AT,
+        Layout::FLAGS_AT - Layout::VERSION_AT,
+    ) {
         return Fault::Found(Refusal::Version);
     }
     if !span::same_part(area, fields, Layout::FLAGS_AT, n - Layout::FLAGS_AT) {

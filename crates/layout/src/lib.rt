@@ -35,6 +35,14 @@ pub enum Fault {
     Found(Refusal),
 }
 
+// What a slot is: one of the three sound ones, PATCH with its payload's length, or none of them.
+pub enum SlotState {
+    Empty,
+    Patch(usize),
+    Full,
+    Unsound,
+}
+
 // The layout's numbers, each once.
 pub struct Layout;
 
@@ -42,34 +50,55 @@ impl Layout {
     pub const PAGE: usize = 8192;
     // The most bytes of pages that one segment has, and so its most blocks.
     pub const SEGMENT: usize = 1073741824;
+
     pub const BLOCKS: usize = Self::SEGMENT / Self::PAGE;
 
     pub const PATCH_HEAD: usize = 512;
+
     pub const FULL_HEAD: usize = 4096;
+
     pub const SLOT: usize = 512;
 
     // Places in a header, and how many bytes its fields take.
     pub const VERSION_AT: usize = 8;
+
     pub const FLAGS_AT: usize = 10;
+
     pub const PAGE_SIZE_AT: usize = 12;
+
     pub const SLOT_SIZE_AT: usize = 16;
+
     pub const PATCH_FIELDS: usize = 20;
+
     pub const FULL_FIELDS: usize = 16;
 
     pub const PATCH_MAGIC: [u8; 8] = [80, 66, 75, 80, 65, 84, 67, 72];
+
     pub const FULL_MAGIC: [u8; 8] = [80, 66, 75, 70, 85, 76, 76, 0];
+
     pub const PATCH_VERSION: u64 = 2;
+
     pub const FULL_VERSION: u64 = 1;
 
-    // Places in a slot.
-    pub const FLAGS: usize = 1;
+    // Places in a slot, and the payload's room.
+    pub const KIND_AT: usize = 0;
+
+    pub const SLOT_FLAGS_AT: usize = 1;
+
     pub const LENGTH_AT: usize = 2;
+
     pub const RESERVED_AT: usize = 4;
+
     pub const PAYLOAD_AT: usize = 8;
+
     pub const ROOM: usize = Self::SLOT - Self::PAYLOAD_AT;
 
+    pub const EMPTY_KIND: u8 = 0;
+
     pub const PATCH_KIND: u8 = 1;
+
     pub const FULL_KIND: u8 = 2;
+
     pub const PATCH_FLAGS: u8 = 1;
 
     // Where the slot of a block starts in the patch area.
@@ -95,6 +124,5 @@ impl Layout {
         ensures full { λ _. do ⌜ (← ⟦Layout::FULL_HEAD⟧ .entry) ≡ fullHead ⌝ }
         ensures slots { λ _. do ⌜ (← ⟦Layout::SLOT⟧ .entry) ≡ slotSize ⌝ }
         ensures rooms { λ _. do ⌜ (← ⟦Layout::ROOM⟧ .entry) ≡ room ⌝ }
-    {
-    }
+    {}
 }

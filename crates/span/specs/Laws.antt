@@ -10,7 +10,7 @@ use lib.Dec.{eqb}
 use lib.ListN.{length, take, drop, getD, set, replicate, length-set, replicate-append-replicate, length-replicate, getD-replicate, length-append, length-take, length-drop, List·getD-append, List·getD-eq-default, drop-of-length-le}
 use lib.Seq.{getD-take, getD-drop, getD-append-add, ext-getD, length-take-le, drop-drop, take-add, take-all, take-nil, getD-set-same, getD-set-other, getD-append-seam, drop-at, take-length}
 use borrow.Author.Tests.{eq-eqb, eqb-true}
-use borrow.Rule.Slice.PartMut.{putMid}
+use borrow.Rule.Slice.PartMut.{midOf, putMid}
 use Rattle.span.specs.Bytes.{zeros, part, splice, same}
 
 -- Lengths
@@ -372,15 +372,15 @@ same-more xs ys x y e = same-append xs ys (x ∷ []) (y ∷ []) e ∙ ap (λ (t 
 -- zeros after a list change no byte that is read of it
 pub zeros-after : (xs : List ℕ) (k i : ℕ) → getD (xs ++ zeros k) i 0 ≡ getD xs i 0
 zeros-after xs k i =
-    elim (decLt i (length xs))
-    [ yes h ↦ List·getD-append xs (zeros k) 0 i h
-    | no h ↦
-        let j : ℕ = i - length xs in
-        let q : length xs + j ≡ i = omega arith in
-        ap (λ (p : ℕ). getD (xs ++ zeros k) p 0) (sym q)
-        ∙ getD-append-add xs (zeros k) j 0
-        ∙ zeros-at k j
-        ∙ sym (List·getD-eq-default xs 0 (omega arith))
+    elim (decLt i (length xs)) [
+      | yes h ↦ List·getD-append xs (zeros k) 0 i h
+      | no h ↦
+          let j : ℕ = i - length xs in
+          let q : length xs + j ≡ i = omega arith in
+          ap (λ (p : ℕ). getD (xs ++ zeros k) p 0) (sym q)
+          ∙ getD-append-add xs (zeros k) j 0
+          ∙ zeros-at k j
+          ∙ sym (List·getD-eq-default xs 0 (omega arith))
     ]
 
 -- a part of the first of two lists
@@ -390,8 +390,8 @@ part-first at n xs ys h =
     let l : length (part at n (xs ++ ys)) ≡ n = part-length at n (xs ++ ys) (omega arith) in
     ext (part at n (xs ++ ys)) (part at n xs) (l ∙ sym (part-length at n xs h))
     (λ i k.
-      let k′ : i < n = omega arith in
-      part-at at n (xs ++ ys) i k′ ∙ List·getD-append xs ys 0 (at + i) (omega arith) ∙ sym (part-at at n xs i k′))
+    let k′ : i < n = omega arith in
+    part-at at n (xs ++ ys) i k′ ∙ List·getD-append xs ys 0 (at + i) (omega arith) ∙ sym (part-at at n xs i k′))
 
 -- the whole of the second
 pub part-second : (xs ys : List ℕ) (at n : ℕ) → length xs ≡ at → length ys ≡ n → part at n (xs ++ ys) ≡ ys
@@ -406,22 +406,43 @@ part-short at n xs = simp (length-take, length-drop)
 -- two parts, one after the other, against two lists of their lengths
 pub same-parts : (at n m : ℕ) (xs ys zs : List ℕ) → length ys ≡ n → length zs ≡ m → same (part at (n + m) xs) (ys ++ zs) ≡ (same (part at n xs) ys && same (part (at + n) m xs) zs)
 same-parts at n m xs ys zs e f =
-    elim (decLt (length (part at n xs)) n)
-    [ yes h ↦
-        let l : length (part at (n + m) xs) ≡ min (n + m) (length xs - at) = part-short at (n + m) xs in
-        let l′ : length (part at n xs) ≡ min n (length xs - at) = part-short at n xs in
-        let g : length (ys ++ zs) ≡ length ys + length zs = length-append ys zs in
-        same-false (part at (n + m) xs) (ys ++ zs)
-        (λ q.
+    elim (decLt (length (part at n xs)) n) [
+      | yes h ↦
+          let l : length (part at (n + m) xs) ≡ min (n + m) (length xs - at) = part-short at (n + m) xs in
+          let l′ : length (part at n xs) ≡ min n (length xs - at) = part-short at n xs in
+          let g : length (ys ++ zs) ≡ length ys + length zs = length-append ys zs in
+          same-false (part at (n + m) xs) (ys ++ zs)
+          (λ q.
           let r : length (part at (n + m) xs) ≡ length (ys ++ zs) = ap (λ (x : List ℕ). length x) q in
           omega arith)
-        ∙ sym
+          ∙ sym
           (ap (λ (t : Bool). t && same (part (at + n) m xs) zs)
           (same-false (part at n xs) ys
           (λ q.
-            let r : length (part at n xs) ≡ length ys = ap (λ (x : List ℕ). length x) q in
-            omega arith)))
-    | no h ↦
-        let l′ : length (part at n xs) ≡ min n (length xs - at) = part-short at n xs in
-        ap (λ (x : List ℕ). same x (ys ++ zs)) (part-join at n m xs) ∙ same-append (part at n xs) ys (part (at + n) m xs) zs (omega arith)
+          let r : length (part at n xs) ≡ length ys = ap (λ (x : List ℕ). length x) q in
+          omega arith)))
+      | no h ↦
+          let l′ : length (part at n xs) ≡ min n (length xs - at) = part-short at n xs in
+          ap (λ (x : List ℕ). same x (ys ++ zs)) (part-join at n m xs) ∙ same-append (part at n xs) ys (part (at + n) m xs) zs (omega arith)
     ]
+
+-- What a call leaves in a part that was lent to it, said of the whole
+
+pub copied-whole : (d s : List ℕ) → length s ≡ length d → splice d 0 (take (length d) s) ≡ s
+copied-whole d s e = ap (λ (l : List ℕ). splice d 0 l) (take-all (length d) s (omega arith)) ∙ splice-whole d s e
+
+mid-length : (a k : ℕ) (xs : List ℕ) → a + k ≤ length xs → length (midOf a k xs) ≡ k
+mid-length a k xs h = simp (length-take, length-drop) (omega arith)
+
+-- copied into
+pub put-copied : (a k : ℕ) (xs ys s : List ℕ) → length s ≡ k → a + k ≤ length xs → ys ≡ splice (midOf a k xs) 0 (take (length (midOf a k xs)) s) → putMid a k xs ys ≡ splice xs a s
+put-copied a k xs ys s e h c =
+    let m : length (midOf a k xs) ≡ k = mid-length a k xs h in
+    let y : ys ≡ s = c ∙ copied-whole (midOf a k xs) s (omega arith) in
+    ap (λ (l : List ℕ). putMid a k xs l) y ∙ put-splice a k xs s e
+
+-- cleared
+pub put-filled : (a k : ℕ) (xs ys : List ℕ) → a + k ≤ length xs → ys ≡ zeros (length (midOf a k xs)) → putMid a k xs ys ≡ splice xs a (zeros k)
+put-filled a k xs ys h c =
+    let y : ys ≡ zeros k = c ∙ ap (λ (n : ℕ). zeros n) (mid-length a k xs h) in
+    ap (λ (l : List ℕ). putMid a k xs l) y ∙ put-splice a k xs (zeros k) (zeros-length k)

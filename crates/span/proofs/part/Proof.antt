@@ -8,53 +8,39 @@ use Rattle.span.specs.Bytes.{part}
 use Rattle.span.specs.Laws.{part-past, part-clamped}
 use Rattle.span.proofs.part.Statement.{statement}
 use Rattle.span.proofs.part.Tie as tie
-use Rattle.span.proofs.part.Reads as reads
-use Rattle.span.proofs.part.Lts as lts
-use Rattle.span.proofs.shorter.Reads as shorter-reads
 
--- src/lib.rt:141:16
 sub-result : tie.Need-sub-result
 sub-result c = search needs
 
--- src/lib.rt:141:16
 part-result-start : tie.Need-part-result-start
 part-result-start c = search needs
 
--- src/lib.rt:141:16
 part-result-end : tie.Need-part-result-end
 part-result-end c = search needs
 
--- src/lib.rt:141:9
 returns : tie.Need-returns
 returns c =
     let a = c .before .before .before .args in
     sym (part-past (a .at) (a .n) (a .s .now) (omega arith))
 
--- src/lib.rt:143:31
 sub-shorter : tie.Need-sub-shorter
 sub-shorter c = search needs
 
--- src/lib.rt:143:20
 shorter-requires : tie.Need-shorter-requires
 shorter-requires c κs = search needs
 
--- src/lib.rt:143:15
 add-end : tie.Need-add-end
 add-end c = search needs
 
--- src/lib.rt:144:5
 sub-result-2 : tie.Need-sub-result-2
 sub-result-2 c = search needs
 
--- src/lib.rt:144:5
 part-result-start-2 : tie.Need-part-result-start-2
 part-result-start-2 c = search needs
 
--- src/lib.rt:144:5
 part-result-end-2 : tie.Need-part-result-end-2
 part-result-end-2 c = search needs
 
--- src/lib.rt:137:1
 returns-2 : tie.Need-returns-2
 unfolding part
 returns-2 c =

@@ -5,24 +5,16 @@ use Prim.Native.Nat.{ℕ}
 use borrow.Author.Needs.{needs}
 use Rattle.span.proofs.same_part.Statement.{statement}
 use Rattle.span.proofs.same_part.Tie as tie
-use Rattle.span.proofs.same_part.Reads as reads
-use Rattle.span.proofs.same_part.Lts as lts
-use Rattle.span.proofs.part.Reads as part-reads
-use Rattle.span.proofs.same.Reads as same-reads
 
--- src/lib.rt:162:9
 part-requires : tie.Need-part-requires
 part-requires c κs = search needs
 
--- src/lib.rt:163:9
 part-requires-2 : tie.Need-part-requires-2
 part-requires-2 c κs = search needs
 
--- src/lib.rt:164:5
 same-requires : tie.Need-same-requires
 same-requires c κs = search needs
 
--- src/lib.rt:159:1
 returns : tie.Need-returns
 returns c =
     let a = c .before .before .before .before .before .args in

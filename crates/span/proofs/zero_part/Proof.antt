@@ -8,16 +8,10 @@ use Rattle.span.specs.Bytes.{zeros, part, same}
 use Rattle.span.specs.Laws.{zeros-length, same-false}
 use Rattle.span.proofs.zero_part.Statement.{statement}
 use Rattle.span.proofs.zero_part.Tie as tie
-use Rattle.span.proofs.zero_part.Reads as reads
-use Rattle.span.proofs.zero_part.Lts as lts
-use Rattle.span.proofs.all_zero.Reads as all-zero-reads
-use Rattle.span.proofs.part.Reads as part-reads
 
--- src/lib.rt:151:9
 part-requires : tie.Need-part-requires
 part-requires c κs = search needs
 
--- src/lib.rt:153:9
 returns : tie.Need-returns
 returns c =
     let a = c .before .before .before .args in
@@ -26,11 +20,9 @@ returns c =
     (same-false p (zeros (a .n))
     (λ e. c .if1 .taken (ap (λ (l : List ℕ). length l) (c .before .part .ensures ∙ e) ∙ zeros-length (a .n))))
 
--- src/lib.rt:155:5
 all-zero-requires : tie.Need-all-zero-requires
 all-zero-requires c κs = search needs
 
--- src/lib.rt:148:1
 returns-2 : tie.Need-returns-2
 returns-2 c =
     let a = c .before .before .before .before .args in

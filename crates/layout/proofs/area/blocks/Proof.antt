@@ -4,16 +4,12 @@ use Rattle.span.specs.Tests.{tests}
 use borrow.Author.Needs.{needs}
 use Rattle.layout.proofs.area.blocks.Statement.{statement}
 use Rattle.layout.proofs.area.blocks.Tie as tie
-use Rattle.layout.proofs.area.blocks.Reads as reads
-use Rattle.layout.proofs.area.blocks.Lts as lts
 
--- src/area.rt:14:9
 returns : tie.Need-returns
 unfolding blocksIn
 returns c =
     omega arith
 
--- src/area.rt:10:1
 returns-2 : tie.Need-returns-2
 unfolding blocksIn
 returns-2 c =

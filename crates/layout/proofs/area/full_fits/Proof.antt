@@ -10,28 +10,21 @@ use Rattle.span.specs.Tests.{tests}
 use borrow.Author.Needs.{needs}
 use Rattle.layout.proofs.area.full_fits.Statement.{statement}
 use Rattle.layout.proofs.area.full_fits.Tie as tie
-use Rattle.layout.proofs.area.full_fits.Reads as reads
-use Rattle.layout.proofs.area.full_fits.Lts as lts
-use Rattle.layout.proofs.area.pages.Reads as pages-reads
 
--- src/area.rt:48:9
 returns : tie.Need-returns
 unfolding fullFits
 returns c =
     rw (eq-eqb (c .before .args .full-length) 0 (c .if1 .taken))
 
--- src/area.rt:51:9
 returns-2 : tie.Need-returns-2
 unfolding fullFits pagesIn
 returns-2 c =
     let l : ℕ = c .before .before .args .full-length in
     rw (ne-eqb l 0 (c .before .if1 .left), ne-eqb l (pageAt pageSize (pagesIn pageSize l)) (λ q. omega arith))
 
--- src/area.rt:53:9
 pages-requires : tie.Need-pages-requires
 pages-requires c κs = search needs
 
--- src/area.rt:55:9
 returns-3 : tie.Need-returns-3
 unfolding fullFits
 returns-3 c =
@@ -41,19 +34,16 @@ returns-3 c =
     let f : leb m (a .n) ≡ false = lt-leb m (a .n) (omega arith) in
     rw (ne-eqb l 0 (c .before .before .before .if1 .left)) (sym (ap (λ (t : Bool). eqb l (pageAt pageSize m) && t) f ∙ and-false (eqb l (pageAt pageSize m))))
 
--- src/area.rt:57:40
 mul-result : tie.Need-mul-result
 unfolding pagesIn
 mul-result c =
     omega arith
 
--- src/area.rt:57:20
 add-result : tie.Need-add-result
 unfolding pagesIn
 add-result c =
     omega arith
 
--- src/area.rt:44:1
 returns-4 : tie.Need-returns-4
 unfolding fullFits
 returns-4 c =

@@ -12,32 +12,22 @@ use Rattle.span.specs.Tests.{tests}
 use borrow.Author.Needs.{needs}
 use Rattle.layout.proofs.area.lengths_fit.Statement.{statement}
 use Rattle.layout.proofs.area.lengths_fit.Tie as tie
-use Rattle.layout.proofs.area.lengths_fit.Reads as reads
-use Rattle.layout.proofs.area.lengths_fit.Lts as lts
-use Rattle.layout.proofs.area.blocks.Reads as blocks-reads
-use Rattle.layout.proofs.area.full_fits.Reads as full-fits-reads
-use Rattle.layout.proofs.area.patch_fits.Reads as patch-fits-reads
 
--- src/area.rt:64:9
 patch-fits-requires : tie.Need-patch-fits-requires
 patch-fits-requires c κs = search needs
 
--- src/area.rt:65:9
 returns : tie.Need-returns
 returns c =
     let l : ℕ = c .before .before .args .patch-length in
     let f : patchFits pageSize l ≡ false = sym (c .before .patch-fits .ensures) ∙ not-true (c .before .patch-fits .result) (c .if1 .taken) in
     rw f
 
--- src/area.rt:67:15
 blocks-requires : tie.Need-blocks-requires
 blocks-requires c κs = search needs
 
--- src/area.rt:67:5
 full-fits-requires : tie.Need-full-fits-requires
 full-fits-requires c κs = search needs
 
--- src/area.rt:61:1
 returns-2 : tie.Need-returns-2
 returns-2 c =
     let a = c .before .before .before .before .args in

@@ -4,16 +4,12 @@ use Rattle.span.specs.Tests.{tests}
 use borrow.Author.Needs.{needs}
 use Rattle.layout.proofs.area.pages.Statement.{statement}
 use Rattle.layout.proofs.area.pages.Tie as tie
-use Rattle.layout.proofs.area.pages.Reads as reads
-use Rattle.layout.proofs.area.pages.Lts as lts
 
--- src/area.rt:24:9
 returns : tie.Need-returns
 unfolding pagesIn
 returns c =
     omega arith
 
--- src/area.rt:20:1
 returns-2 : tie.Need-returns-2
 unfolding pagesIn
 returns-2 c =

@@ -10,24 +10,16 @@ use Prim.Native.Nat.{ℕ, _+_, _-_, _≤_, _<_}
 use borrow.Author.Needs.{needs}
 use Rattle.layout.proofs.head.begin.Statement.{statement}
 use Rattle.layout.proofs.head.begin.Tie as tie
-use Rattle.layout.proofs.head.begin.Reads as reads
-use Rattle.layout.proofs.head.begin.Lts as lts
-use Rattle.span.proofs.copy.Reads as copy-reads
-use Rattle.span.proofs.fill.Reads as fill-reads
 
--- src/head.rt:101:5
 fill-requires : tie.Need-fill-requires
 fill-requires c κs = search needs
 
--- src/head.rt:102:5
 copy-requires : tie.Need-copy-requires
 copy-requires c κs = search needs
 
--- src/head.rt:98:1
 same-length : tie.Need-same-length
 same-length c = search needs
 
--- src/head.rt:98:1
 returns : tie.Need-returns
 returns c =
     let a = c .before .before .before .before .before .before .before .before .before .before .args in

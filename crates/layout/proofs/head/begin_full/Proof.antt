@@ -9,28 +9,19 @@ use Prim.Native.Nat.{ℕ, suc, _+_, _-_, _≤_, _<_}
 use borrow.Author.Needs.{needs}
 use Rattle.layout.proofs.head.begin_full.Statement.{statement}
 use Rattle.layout.proofs.head.begin_full.Tie as tie
-use Rattle.layout.proofs.head.begin_full.Reads as reads
-use Rattle.layout.proofs.head.begin_full.Lts as lts
-use Rattle.layout.proofs.head.begin.Reads as begin-reads
-use Rattle.layout.proofs.head.full_fields.Reads as full-fields-reads
 
--- src/head.rt:117:18
 full-fields-requires : tie.Need-full-fields-requires
 full-fields-requires c κs = search needs
 
--- src/head.rt:118:17
 slice-aggregate-begin : tie.Need-slice-aggregate-begin
 slice-aggregate-begin c = search needs
 
--- src/head.rt:118:5
 begin-requires : tie.Need-begin-requires
 begin-requires c κs = search needs
 
--- src/head.rt:114:1
 same-length : tie.Need-same-length
 same-length c = search needs
 
--- src/head.rt:114:1
 returns : tie.Need-returns
 returns c =
     let n : ℕ = length (c .before .before .before .before .before .before .before .args .full .now) in

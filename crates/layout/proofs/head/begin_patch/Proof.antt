@@ -9,28 +9,19 @@ use Prim.Native.Nat.{ℕ, suc, _+_, _-_, _≤_, _<_}
 use borrow.Author.Needs.{needs}
 use Rattle.layout.proofs.head.begin_patch.Statement.{statement}
 use Rattle.layout.proofs.head.begin_patch.Tie as tie
-use Rattle.layout.proofs.head.begin_patch.Reads as reads
-use Rattle.layout.proofs.head.begin_patch.Lts as lts
-use Rattle.layout.proofs.head.begin.Reads as begin-reads
-use Rattle.layout.proofs.head.patch_fields.Reads as patch-fields-reads
 
--- src/head.rt:109:18
 patch-fields-requires : tie.Need-patch-fields-requires
 patch-fields-requires c κs = search needs
 
--- src/head.rt:110:18
 slice-aggregate-begin : tie.Need-slice-aggregate-begin
 slice-aggregate-begin c = search needs
 
--- src/head.rt:110:5
 begin-requires : tie.Need-begin-requires
 begin-requires c κs = search needs
 
--- src/head.rt:106:1
 same-length : tie.Need-same-length
 same-length c = search needs
 
--- src/head.rt:106:1
 returns : tie.Need-returns
 returns c =
     let n : ℕ = length (c .before .before .before .before .before .before .before .args .patch .now) in

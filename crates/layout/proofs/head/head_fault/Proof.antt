@@ -10,68 +10,52 @@ use Prim.Native.Nat.{ℕ, _+_, _-_, _≤_, _<_}
 use borrow.Author.Needs.{needs}
 use Rattle.layout.proofs.head.head_fault.Statement.{statement}
 use Rattle.layout.proofs.head.head_fault.Tie as tie
-use Rattle.layout.proofs.head.head_fault.Reads as reads
-use Rattle.layout.proofs.head.head_fault.Lts as lts
-use Rattle.span.proofs.same_part.Reads as same-part-reads
-use Rattle.span.proofs.zero_part.Reads as zero-part-reads
 
--- src/head.rt:58:9
 same-part-requires : tie.Need-same-part-requires
 same-part-requires c κs = search needs
 
--- src/head.rt:59:9
 returns : tie.Need-returns
 unfolding headNumber orElse
 returns c =
     let a = c .before .before .before .before .args in
     rw (head-rows (a .fields .now) (a .area .now) (a .size) (omega arith) (omega arith), off (c .before .same-part .result) (c .before .same-part .ensures) (c .if1 .taken))
 
--- src/head.rt:61:59
 sub-same-part : tie.Need-sub-same-part
 sub-same-part c = search needs
 
--- src/head.rt:61:9
 same-part-requires-2 : tie.Need-same-part-requires-2
 same-part-requires-2 c κs = search needs
 
--- src/head.rt:62:9
 returns-2 : tie.Need-returns-2
 unfolding headNumber orElse
 returns-2 c =
     let a = c .before .before .before .before .before .before .args in
     rw (head-rows (a .fields .now) (a .area .now) (a .size) (omega arith) (omega arith), on (c .before .before .before .same-part .result) (c .before .before .before .same-part .ensures) (c .before .before .if1 .left), off (c .before .same-part2 .result) (c .before .same-part2 .ensures) (c .if2 .taken))
 
--- src/head.rt:64:57
 sub-same-part-2 : tie.Need-sub-same-part-2
 sub-same-part-2 c = search needs
 
--- src/head.rt:64:9
 same-part-requires-3 : tie.Need-same-part-requires-3
 same-part-requires-3 c κs = search needs
 
--- src/head.rt:65:9
 returns-3 : tie.Need-returns-3
 unfolding headNumber orElse
 returns-3 c =
     let a = c .before .before .before .before .before .before .before .before .args in
     rw (head-rows (a .fields .now) (a .area .now) (a .size) (omega arith) (omega arith), on (c .before .before .before .before .before .same-part .result) (c .before .before .before .before .before .same-part .ensures) (c .before .before .before .before .if1 .left), on (c .before .before .before .same-part2 .result) (c .before .before .before .same-part2 .ensures) (c .before .before .if2 .left), off (c .before .same-part3 .result) (c .before .same-part3 .ensures) (c .if3 .taken))
 
--- src/head.rt:67:34
 sub-zero-part : tie.Need-sub-zero-part
 sub-zero-part c = search needs
 
--- src/head.rt:67:9
 zero-part-requires : tie.Need-zero-part-requires
 zero-part-requires c κs = search needs
 
--- src/head.rt:68:9
 returns-4 : tie.Need-returns-4
 unfolding headNumber orElse
 returns-4 c =
     let a = c .before .before .before .before .before .before .before .before .before .before .args in
     rw (head-rows (a .fields .now) (a .area .now) (a .size) (omega arith) (omega arith), on (c .before .before .before .before .before .before .before .same-part .result) (c .before .before .before .before .before .before .before .same-part .ensures) (c .before .before .before .before .before .before .if1 .left), on (c .before .before .before .before .before .same-part2 .result) (c .before .before .before .before .before .same-part2 .ensures) (c .before .before .before .before .if2 .left), on (c .before .before .before .same-part3 .result) (c .before .before .before .same-part3 .ensures) (c .before .before .if3 .left), off (c .before .zero-part .result) (c .before .zero-part .ensures) (c .if4 .taken))
 
--- src/head.rt:53:1
 returns-5 : tie.Need-returns-5
 unfolding headNumber orElse
 returns-5 c =

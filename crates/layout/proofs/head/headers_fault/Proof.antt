@@ -11,44 +11,31 @@ use Prim.Native.Nat.{ℕ, suc, _+_, _-_, _≤_, _<_}
 use borrow.Author.Needs.{needs}
 use Rattle.layout.proofs.head.headers_fault.Statement.{statement}
 use Rattle.layout.proofs.head.headers_fault.Tie as tie
-use Rattle.layout.proofs.head.headers_fault.Reads as reads
-use Rattle.layout.proofs.head.headers_fault.Lts as lts
-use Rattle.layout.proofs.head.full_fields.Reads as full-fields-reads
-use Rattle.layout.proofs.head.head_fault.Reads as head-fault-reads
-use Rattle.layout.proofs.head.patch_fault.Reads as patch-fault-reads
 
--- src/head.rt:85:11
 patch-fault-requires : tie.Need-patch-fault-requires
 patch-fault-requires c κs = search needs
 
--- src/head.rt:86:22
 enum-known-r : tie.Need-enum-known-r
 enum-known-r c = search needs
 
--- src/head.rt:88:16
 enum-told : tie.Need-enum-told
 enum-told c = search needs
 
--- src/head.rt:89:17
 returns : tie.Need-returns
 returns c =
     let a = c .before .before .before .before .before .before .args in
     let f = c .before .before .before .patch-fault in
     sym (headers-none pageSize (a .patch .now) (a .full .now) (sym (f .ensures) ∙ ap faultNumber (c .before .enum-told .given .1)) (c .if1 .taken))
 
--- src/head.rt:91:26
 full-fields-requires : tie.Need-full-fields-requires
 full-fields-requires c κs = search needs
 
--- src/head.rt:92:30
 slice-aggregate-head-fault : tie.Need-slice-aggregate-head-fault
 slice-aggregate-head-fault c = search needs
 
--- src/head.rt:92:13
 head-fault-requires : tie.Need-head-fault-requires
 head-fault-requires c κs = search needs
 
--- src/head.rt:82:1
 returns-2 : tie.Need-returns-2
 returns-2 c =
     let a = c .before .before .before .before .before .before .args in
@@ -56,7 +43,6 @@ returns-2 c =
     let r = c .before .r .given .0 .0 in
     sym (headers-patch pageSize (refusalNumber r) (a .patch .now) (a .full .now) (sym (f .ensures) ∙ ap faultNumber (c .before .r .given .1)) (refusal-some r))
 
--- src/head.rt:82:1
 returns-3 : tie.Need-returns-3
 unfolding fullHeader
 returns-3 c =

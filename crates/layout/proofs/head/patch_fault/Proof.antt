@@ -10,24 +10,16 @@ use Prim.Native.Nat.{ℕ, suc, _+_, _-_, _≤_, _<_}
 use borrow.Author.Needs.{needs}
 use Rattle.layout.proofs.head.patch_fault.Statement.{statement}
 use Rattle.layout.proofs.head.patch_fault.Tie as tie
-use Rattle.layout.proofs.head.patch_fault.Reads as reads
-use Rattle.layout.proofs.head.patch_fault.Lts as lts
-use Rattle.layout.proofs.head.head_fault.Reads as head-fault-reads
-use Rattle.layout.proofs.head.patch_fields.Reads as patch-fields-reads
 
--- src/head.rt:77:18
 patch-fields-requires : tie.Need-patch-fields-requires
 patch-fields-requires c κs = search needs
 
--- src/head.rt:78:23
 slice-aggregate-head-fault : tie.Need-slice-aggregate-head-fault
 slice-aggregate-head-fault c = search needs
 
--- src/head.rt:78:5
 head-fault-requires : tie.Need-head-fault-requires
 head-fault-requires c κs = search needs
 
--- src/head.rt:74:1
 returns : tie.Need-returns
 unfolding patchHeadRows patchHeader
 returns c =
