@@ -24,6 +24,11 @@ unfoldable pub firstOf : List Row → ℕ
 firstOf [] = 0
 firstOf (r ∷ rows) = orElse (cond (r .holds) (r .number) 0) (firstOf rows)
 
+-- an outcome by the number that the rows give: what is done where none holds, else what that number gives back
+unfoldable pub decided : {A : Type 0} → ℕ → A → (ℕ → A) → A
+decided zero done refused = done
+decided (suc k) done refused = refused (suc k)
+
 -- The order of the paper. Every call puts its own rows into these groups, and nothing else decides which comes first.
 pub record Groups : Type 0 where
   pub pages : List Row
@@ -111,3 +116,12 @@ pub or-some : (a b : ℕ) → (a ≡ 0 → ⊥) → orElse a b ≡ a
 unfolding orElse
 or-some zero b h = absurd (h refl)
 or-some (suc a) b h = refl
+
+pub decided-done : {A : Type 0} (d : A) (r : ℕ → A) (n : ℕ) → n ≡ 0 → decided n d r ≡ d
+unfolding decided
+decided-done d r n e = ap (λ (k : ℕ). decided k d r) e
+
+pub decided-refused : {A : Type 0} (d : A) (r : ℕ → A) (n k : ℕ) → n ≡ k → (k ≡ 0 → ⊥) → decided n d r ≡ r k
+unfolding decided
+decided-refused d r n zero e h = absurd (h refl)
+decided-refused d r n (suc k) e h = ap (λ (m : ℕ). decided m d r) e

@@ -9,7 +9,7 @@ use lib.ListN.{length, take, drop, getD, set, length-append}
 use lib.Seq.{take-all, drop-append-add}
 use borrow.Author.Tests.{eq-eqb, leb-true, leb-false, le-leb, lt-leb}
 use Rattle.span.specs.Bytes.{zeros, part, splice, same}
-use Rattle.span.specs.Laws.{zeros-length, zeros-at, zeros-join, drop-zeros, part-length, part-short, part-whole, same-parts, same-false, is-same}
+use Rattle.span.specs.Laws.{zeros-length, zeros-at, zeros-join, drop-zeros, part-length, part-short, part-whole, same-parts, same-false, same-is, is-same}
 use Rattle.layout.specs.Sizes.{slotSize, lengthAt, payloadAt, room}
 use Rattle.layout.specs.Numbers.{number, le}
 use Rattle.layout.specs.declared.SlotState.{SlotState}
@@ -289,12 +289,58 @@ full-laid = ap (λ (l : List ℕ). set l 0 2) (sym (zeros-join 1 (slotSize - 1))
     one : (z : List ℕ) → set (zeros 1 ++ z) 0 2 ≡ 2 ∷ z
     one z = ap (λ (l : List ℕ). set (l ++ z) 0 2) (sym one-zero)
 
--- a payload length that is not 0 says PATCH, and 0 says that it is not
-pub patch-none : (s : List ℕ) → cond (isPatch s) (payloadLength s) 0 ≡ 0 → cond (isPatch s) (soundSlot 1 (payloadLength s)) unsoundSlot ≡ unsoundSlot
-unfolding isPatch
-patch-none s e = go (leb 1 (payloadLength s)) (leb (payloadLength s) room) (same s (patchSlot (payloadOf s))) (payloadLength s) refl e
+-- what the numbers of a slot say of it
+patch-kind : (s : List ℕ) (n : ℕ) → slotNumbers s ≡ soundSlot 1 n → (isPatch s ≡ true) × (payloadLength s ≡ n)
+unfolding slotNumbers
+patch-kind s n e = go (same s emptySlot) (isPatch s) (same s fullSlot) e
   where
-    go : (a b t : Bool) (n : ℕ) → leb 1 n ≡ a → cond (a && b && t) n 0 ≡ 0 → cond (a && b && t) (soundSlot 1 n) unsoundSlot ≡ unsoundSlot
+    go : (a b t : Bool) → cond a (soundSlot 0 0) (cond b (soundSlot 1 (payloadLength s)) (cond t (soundSlot 2 0) unsoundSlot)) ≡ soundSlot 1 n → (b ≡ true) × (payloadLength s ≡ n)
+    go true b t h =
+        let k : _≡_ {A = ℕ} 0 1 = ap (λ (x : SlotNumbers). x .kind) h in
+        absurd (omega arith)
+    go false true t h = (refl, ap (λ (x : SlotNumbers). x .length) h)
+    go false false true h =
+        let k : _≡_ {A = ℕ} 2 1 = ap (λ (x : SlotNumbers). x .kind) h in
+        absurd (omega arith)
+    go false false false h =
+        let k : _≡_ {A = ℕ} 0 1 = ap (λ (x : SlotNumbers). x .kind) h in
+        absurd (omega arith)
+
+pub told-patch : (s : List ℕ) (n : ℕ) → soundSlot 1 n ≡ slotNumbers s → (isPatch s ≡ true) × (payloadLength s ≡ n)
+told-patch s n e = patch-kind s n (sym e)
+
+-- any other kind says that it is no PATCH
+empty-patch : (s : List ℕ) → same s emptySlot ≡ true → isPatch s ≡ false
+unfolding emptySlot
+empty-patch s e =
+    let q : s ≡ zeros slotSize = same-is s (zeros slotSize) e in
+    let z : getD s 0 0 ≡ 0 = ap (λ (x : List ℕ). getD x 0 0) q ∙ zeros-at slotSize 0 in
+    other-patch s (ap (λ (x : List ℕ). length x) q ∙ zeros-length slotSize) (λ k. omega arith)
+
+pub told-other : (s : List ℕ) (x : SlotNumbers) → x ≡ slotNumbers s → (x .kind ≡ 1 → ⊥) → isPatch s ≡ false
+unfolding slotNumbers
+told-other s x e h = go (isPatch s) (same s emptySlot) (same s fullSlot) refl refl e
+  where
+    go : (b a t : Bool) → isPatch s ≡ b → same s emptySlot ≡ a → x ≡ cond a (soundSlot 0 0) (cond b (soundSlot 1 (payloadLength s)) (cond t (soundSlot 2 0) unsoundSlot)) → b ≡ false
+    go true true t p r q = sym p ∙ empty-patch s r
+    go true false t p r q = absurd (h (ap (λ (y : SlotNumbers). y .kind) q))
+    go false a t p r q = refl
+
+-- so the length that is answered for a PATCH, and 0 for any other kind, is that of the definition
+pub patch-length-is : (s : List ℕ) (n : ℕ) → soundSlot 1 n ≡ slotNumbers s → n ≡ cond (isPatch s) (payloadLength s) 0
+patch-length-is s n e =
+    let t : (isPatch s ≡ true) × (payloadLength s ≡ n) = told-patch s n e in
+    rw (t .0) (sym (t .1))
+
+pub other-length-is : (s : List ℕ) (x : SlotNumbers) → x ≡ slotNumbers s → (x .kind ≡ 1 → ⊥) → 0 ≡ cond (isPatch s) (payloadLength s) 0
+other-length-is s x e h = rw (told-other s x e h)
+
+-- and 0 is no PATCH
+pub length-none : (s : List ℕ) → cond (isPatch s) (payloadLength s) 0 ≡ 0 → isPatch s ≡ false
+unfolding isPatch
+length-none s e = go (leb 1 (payloadLength s)) (leb (payloadLength s) room) (same s (patchSlot (payloadOf s))) (payloadLength s) refl e
+  where
+    go : (a b t : Bool) (n : ℕ) → leb 1 n ≡ a → cond (a && b && t) n 0 ≡ 0 → (a && b && t) ≡ false
     go true true true n p h =
         let k : 1 ≤ n = leb-true 1 n p in
         absurd (omega arith)
@@ -302,9 +348,17 @@ patch-none s e = go (leb 1 (payloadLength s)) (leb (payloadLength s) room) (same
     go true false t n p h = refl
     go false b t n p h = refl
 
-pub patch-some : (s : List ℕ) (r : ℕ) → (r ≡ 0 → ⊥) → cond (isPatch s) (payloadLength s) 0 ≡ r → cond (isPatch s) (soundSlot 1 (payloadLength s)) unsoundSlot ≡ soundSlot 1 r
-patch-some s r h e = go (isPatch s) e
+pub length-some : (s : List ℕ) (r : ℕ) → (r ≡ 0 → ⊥) → cond (isPatch s) (payloadLength s) 0 ≡ r → (isPatch s ≡ true) × (payloadLength s ≡ r)
+length-some s r h e = go (isPatch s) e
   where
-    go : (t : Bool) → cond t (payloadLength s) 0 ≡ r → cond t (soundSlot 1 (payloadLength s)) unsoundSlot ≡ soundSlot 1 r
-    go true q = ap (λ (n : ℕ). soundSlot 1 n) q
+    go : (t : Bool) → cond t (payloadLength s) 0 ≡ r → (t ≡ true) × (payloadLength s ≡ r)
+    go true q = (refl, q)
     go false q = absurd (h (sym q))
+
+pub patch-none : (s : List ℕ) → cond (isPatch s) (payloadLength s) 0 ≡ 0 → cond (isPatch s) (soundSlot 1 (payloadLength s)) unsoundSlot ≡ unsoundSlot
+patch-none s e = rw (length-none s e)
+
+pub patch-some : (s : List ℕ) (r : ℕ) → (r ≡ 0 → ⊥) → cond (isPatch s) (payloadLength s) 0 ≡ r → cond (isPatch s) (soundSlot 1 (payloadLength s)) unsoundSlot ≡ soundSlot 1 r
+patch-some s r h e =
+    let t : (isPatch s ≡ true) × (payloadLength s ≡ r) = length-some s r h e in
+    rw (t .0, t .1)

@@ -64,6 +64,18 @@ pub fn slot_state(slot: &[u8]) -> SlotState
     SlotState::Unsound
 }
 
+// The payload's length of a sound PATCH slot, and 0 for any other.
+pub fn payload_length(slot: &[u8]) -> usize
+    ensures { λ r. ⌜ r ≡ cond (isPatch (now (slot .entry))) (payloadLength (now (slot .entry))) 0 ⌝ }
+{
+    match slot_state(slot) {
+        SlotState::Patch(n) => n,
+        SlotState::Empty => 0,
+        SlotState::Full => 0,
+        SlotState::Unsound => 0,
+    }
+}
+
 // Kind, flags, payload length, and the payload; every other byte zero.
 fn write_patch(slot: &mut [u8], payload: &[u8])
     requires { ⌜ (length (now slot) ≡ slotSize) × (length (now payload) ≤ room) ⌝ }

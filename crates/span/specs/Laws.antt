@@ -446,3 +446,13 @@ pub put-filled : (a k : ℕ) (xs ys : List ℕ) → a + k ≤ length xs → ys �
 put-filled a k xs ys h c =
     let y : ys ≡ zeros k = c ∙ ap (λ (n : ℕ). zeros n) (mid-length a k xs h) in
     ap (λ (l : List ℕ). putMid a k xs l) y ∙ put-splice a k xs (zeros k) (zeros-length k)
+
+-- The parts of a test that holds
+
+pub and-left : (a b : Bool) → (a && b) ≡ true → a ≡ true
+and-left true b h = refl
+and-left false b h = absurd (false≢true h)
+
+pub and-right : (a b : Bool) → (a && b) ≡ true → b ≡ true
+and-right true b h = h
+and-right false b h = absurd (false≢true h)

@@ -1,0 +1,132 @@
+use Rattle.store.proofs.Told.{on, off}
+use Rattle.store.specs.declared.Place.{Place}
+use Rattle.store.specs.Show.{slotOf, showPlace, show-length, show-header, show-block, show-slot, show-done}
+use Rattle.layout.specs.Slots.{isPatch, payloadLength, length-none, length-some}
+use Rattle.layout.specs.Areas.{blocksIn, patchFits, patch-fits-is}
+use Rattle.layout.specs.Numbers.{faultNumber, refusalNumber, refusal-some}
+use Rattle.layout.specs.Sizes.{pageSize, slotSize, slotAt, payloadAt, blocksAtMost}
+use Rattle.span.specs.Bytes.{part}
+use lib.ListN.{length}
+use mathlib.Core.Bool.{Bool, true, false, cond}
+use mathlib.Core.List.{List}
+use mathlib.Core.Path.{_≡_, refl, sym, ap, _∙_}
+use native.Mathlib.Omega.{arith}
+use Prim.Native.Nat.{ℕ, _+_, _≤_, _<_}
+use borrow.Author.Needs.{needs}
+use Rattle.store.proofs.show.payload_place.Statement.{statement}
+use Rattle.store.proofs.show.payload_place.Tie as tie
+
+placed : {x y n m : ℕ} → x ≡ y → n ≡ m → _≡_ {A = Place} (record { at = x + payloadAt; len = n }) (record { at = y + payloadAt; len = m })
+placed e f = cc
+
+patch-fits-requires : tie.Need-patch-fits-requires
+patch-fits-requires c κs = search needs
+
+returns : tie.Need-returns
+returns c =
+    let a = c .before .before .before .args in
+    let f = c .before .patch-fits in
+    show-length pageSize (a .patch .now) (a .block) (off (f .result) (f .ensures) (c .if1 .taken))
+
+patch-fault-requires : tie.Need-patch-fault-requires
+patch-fault-requires c κs = search needs
+
+enum-told : tie.Need-enum-told
+enum-told c = search needs
+
+enum-told-2 : tie.Need-enum-told-2
+enum-told-2 c = search needs
+
+blocks-requires : tie.Need-blocks-requires
+blocks-requires c κs = search needs
+
+returns-2 : tie.Need-returns-2
+returns-2 c =
+    let a = c .before .before .before .before .before .before .before .before .args in
+    let p : List ℕ = a .patch .now in
+    let f = c .before .before .before .before .before .before .patch-fits in
+    let fit : patchFits pageSize (length p) ≡ true = on (f .result) (f .ensures) (c .before .before .before .before .before .if1 .left) in
+    let none = sym (c .before .before .before .before .patch-fault .ensures) ∙ ap faultNumber (c .before .before .enum-told2 .given .1) in
+    show-block pageSize p (a .block) fit none (omega (arith, c .before .blocks2 .ensures, c .if2 .taken))
+
+cast-slot-at : tie.Need-cast-slot-at
+cast-slot-at c =
+    let a = c .before .before .before .before .before .before .before .before .args in
+    let p : List ℕ = a .patch .now in
+    let f = c .before .before .before .before .before .before .patch-fits in
+    let fit : patchFits pageSize (length p) ≡ true = on (f .result) (f .ensures) (c .before .before .before .before .before .if1 .left) in
+    let most : blocksIn (length p) ≤ blocksAtMost pageSize = patch-fits-is pageSize (length p) fit .1 in
+    omega (arith, c .before .blocks2 .ensures, c .if2 .left)
+
+slot-at-requires : tie.Need-slot-at-requires
+slot-at-requires c κs = search needs
+
+part-requires : tie.Need-part-requires
+part-requires c κs = search needs
+
+payload-length-requires : tie.Need-payload-length-requires
+payload-length-requires c κs = search needs
+
+returns-3 : tie.Need-returns-3
+unfolding slotOf
+returns-3 c =
+    let a = c .before .before .before .before .before .before .before .before .before .before .before .before .args in
+    let p : List ℕ = a .patch .now in
+    let f = c .before .before .before .before .before .before .before .before .before .before .patch-fits in
+    let fit : patchFits pageSize (length p) ≡ true = on (f .result) (f .ensures) (c .before .before .before .before .before .before .before .before .before .if1 .left) in
+    let none = sym (c .before .before .before .before .before .before .before .before .patch-fault .ensures) ∙ ap faultNumber (c .before .before .before .before .before .before .enum-told2 .given .1) in
+    let below : a .block < blocksIn (length p) = omega (arith, c .before .before .before .before .before .blocks2 .ensures, c .before .before .before .before .if2 .left) in
+    let s : List ℕ = slotOf p (a .block) in
+    let n = c .before .payload-length in
+    let same-slot : c .before .before .part .result .now ≡ s = c .before .before .part .ensures ∙ ap (λ (k : ℕ). part k slotSize p) (c .before .before .before .slot-at .ensures) in
+    let is : n .result ≡ cond (isPatch s) (payloadLength s) 0 = n .ensures ∙ ap (λ (l : List ℕ). cond (isPatch l) (payloadLength l) 0) same-slot in
+    show-slot pageSize p (a .block) fit none below (length-none s (sym is ∙ c .if3 .taken))
+
+add-t10 : tie.Need-add-t10
+add-t10 c = search needs
+
+returns-4 : tie.Need-returns-4
+returns-4 c =
+    let a = c .before .before .before .before .before .before .args in
+    let p : List ℕ = a .patch .now in
+    let f = c .before .before .before .before .patch-fits in
+    let fit : patchFits pageSize (length p) ≡ true = on (f .result) (f .ensures) (c .before .before .before .if1 .left) in
+    let r = c .enum-told .given .0 .0 in
+    show-header pageSize p (a .block) (refusalNumber r) fit (sym (c .before .before .patch-fault .ensures) ∙ ap faultNumber (c .enum-told .given .1)) (refusal-some r)
+
+returns-5 : tie.Need-returns-5
+unfolding slotOf
+returns-5 c =
+    let a = c .before .before .before .before .before .before .before .before .before .before .before .before .args in
+    let p : List ℕ = a .patch .now in
+    let f = c .before .before .before .before .before .before .before .before .before .before .patch-fits in
+    let fit : patchFits pageSize (length p) ≡ true = on (f .result) (f .ensures) (c .before .before .before .before .before .before .before .before .before .if1 .left) in
+    let none = sym (c .before .before .before .before .before .before .before .before .patch-fault .ensures) ∙ ap faultNumber (c .before .before .before .before .before .before .enum-told2 .given .1) in
+    let below : a .block < blocksIn (length p) = omega (arith, c .before .before .before .before .before .blocks2 .ensures, c .before .before .before .before .if2 .left) in
+    let s : List ℕ = slotOf p (a .block) in
+    let n = c .before .payload-length in
+    let same-slot : c .before .before .part .result .now ≡ s = c .before .before .part .ensures ∙ ap (λ (k : ℕ). part k slotSize p) (c .before .before .before .slot-at .ensures) in
+    let is : n .result ≡ cond (isPatch s) (payloadLength s) 0 = n .ensures ∙ ap (λ (l : List ℕ). cond (isPatch l) (payloadLength l) 0) same-slot in
+    let t : (isPatch s ≡ true) × (payloadLength s ≡ n .result) = length-some s (n .result) (c .if3 .left) (sym is) in
+    let e : record { at = slotAt (a .block) + payloadAt; len = payloadLength s } ≡ showPlace pageSize p (a .block) = show-done pageSize p (a .block) fit none below (t .0) in
+    rw (← e) (placed (c .before .before .before .slot-at .ensures) (sym (t .1)))
+
+pub payload-place-spec : {M : Type 1} → statement M
+payload-place-spec =
+    tie.close
+    (tie.spec
+    patch-fits-requires
+    returns
+    patch-fault-requires
+    enum-told
+    enum-told-2
+    blocks-requires
+    returns-2
+    cast-slot-at
+    slot-at-requires
+    part-requires
+    payload-length-requires
+    returns-3
+    add-t10
+    returns-4
+    returns-5)

@@ -1,0 +1,25 @@
+// The calls on areas. Every call checks first and changes after: a refusal is decided before the first byte is written.
+pub mod format;
+pub mod judge;
+pub mod show;
+
+use layout::Kind;
+use layout::Refusal;
+
+// What Format answers.
+pub enum Formatted {
+    Done,
+    Refused(Refusal),
+}
+
+// What Judge answers: the slot's kind and its payload's length.
+pub enum Judged {
+    Done { kind: Kind, length: usize },
+    Refused(Refusal),
+}
+
+// A part of a patch area.
+pub struct Place {
+    pub at: usize,
+    pub len: usize,
+}

@@ -1,0 +1,41 @@
+// Show.
+use crate::Place;
+use layout::Fault;
+use layout::Layout;
+ghost use mathlib.Core.Path.{_≡_};
+ghost use Rattle.layout.specs.Sizes.{pageSize};
+ghost use Rattle.store.specs.Show.{showPlace, Show};
+
+// Where the payload of a block lies in the patch area; nowhere if anything is wrong, or the slot is not a sound PATCH.
+pub fn payload_place(patch: &[u8], block: usize) -> Place
+    ensures { λ r. ⌜ r ≡ showPlace pageSize (now (patch .entry)) block ⌝ }
+{
+    if !layout::area::patch_fits(patch.len()) {
+        return Place { at: 0, len: 0 };
+    }
+    match layout::head::patch_fault(patch) {
+        Fault::Found(_) => Place { at: 0, len: 0 },
+        Fault::Nothing => {
+            if layout::area::blocks(patch.len()) <= block {
+                return Place { at: 0, len: 0 };
+            }
+            let at = Layout::slot_at(block as u32);
+            let n = layout::slot::payload_length(span::part(patch, at, Layout::SLOT));
+            if n == 0 {
+                return Place { at: 0, len: 0 };
+            }
+            Place {
+                at: at + Layout::PAYLOAD_AT,
+                len: n,
+            }
+        }
+    }
+}
+
+// A block's payload, as a part of the patch area itself.
+pub fn show(patch: &[u8], block: usize) -> &[u8]
+    ensures { λ r. ⌜ Show pageSize (now (patch .entry)) block (now r) ⌝ }
+{
+    let place = payload_place(patch, block);
+    span::part(patch, place.at, place.len)
+}
