@@ -1,2 +1,7 @@
 pub mod Pairs
+pub mod PairLaws
+pub mod Meaning
+pub mod Pack
+pub mod PackLaws
 pub mod Calls
+pub mod CallLaws

@@ -1,5 +1,25 @@
 // The block map: two bits for each block.
+mod table;
+
+use layout::Kind;
+use layout::Layout;
 use layout::Refusal;
+ghost use mathlib.Core.Path.{_≡_};
+ghost use Prim.Native.Nat.{_+_, _-_, _*_, _/_, _%_, _^_};
+ghost use Rattle.layout.specs.Sizes.{pageSize};
+ghost use Rattle.layout.specs.Numbers.{kindNumber};
+ghost use Rattle.blockmap.specs.Pairs.{mapBytes, someUsed};
+ghost use Rattle.blockmap.specs.Pack.{byteOf, pairOf};
+ghost use Rattle.blockmap.specs.Calls.{LookUp, Tally};
+
+// The pairs of the three kinds, and the one that no block may have.
+const EMPTY: u8 = 0;
+
+const PATCH: u8 = 2;
+
+const FULL: u8 = 1;
+
+const RESERVED: u8 = 3;
 
 // What Look up answers: the pair as it stands.
 pub enum Looked {
@@ -11,4 +31,102 @@ pub enum Looked {
 pub enum Tallied {
     Done { patch: usize, full: usize },
     Refused(Refusal),
+}
+
+// How many bytes the map of n blocks has: n/4, rounded up, for every n.
+pub fn map_bytes(n: usize) -> usize
+    ensures { λ r. ⌜ r ≡ mapBytes n ⌝ }
+{
+    if n % 4 == 0 {
+        return n / 4;
+    }
+    n / 4 + 1
+}
+
+// The pair that stands for a slot's kind.
+pub fn pair_of(kind: Kind) -> u8
+    ensures { λ r. ⌜ r ≡ pairOf (kindNumber kind) ⌝ }
+{
+    match kind {
+        Kind::Empty => EMPTY,
+        Kind::Patch => PATCH,
+        Kind::Full => FULL,
+    }
+}
+
+// The byte that holds these four pairs, the first in its lowest bits. Of each number only the two lowest bits count.
+pub fn byte_of(p0: u8, p1: u8, p2: u8, p3: u8) -> u8
+    ensures { λ r. ⌜ r ≡ byteOf p0 p1 p2 p3 ⌝ }
+{
+    p0 % 4 + p1 % 4 * 4 + p2 % 4 * 16 + p3 % 4 * 64
+}
+
+// The pairs of a byte from a block's own on, this one in the lowest bits.
+fn pairs_from(byte: u8, block: usize) -> u8
+    ensures { λ r. ⌜ r ≡ byte / 4 ^ (block % 4) ⌝ }
+{
+    byte >> (2 * (block % 4))
+}
+
+// Whether an unused pair of the last byte is not 0: a map of n blocks whose last byte is not whole has some.
+fn unused_met(map: &[u8], n: usize) -> bool
+    ensures { λ r. ⌜ r ≡ someUsed (now (map .entry)) n (4 * mapBytes n - n) ⌝ }
+{
+    let last = n / 4;
+    if n % 4 == 0 {
+        return false;
+    }
+    if map.len() <= last {
+        return false;
+    }
+    pairs_from(map[last], n) != 0
+}
+
+// One block's pair, in a map of n blocks.
+pub fn look_up(map: &[u8], n: usize, block: usize) -> Looked
+    ensures { λ r. ⌜ LookUp pageSize (now (map .entry)) n block r ⌝ }
+{
+    if Layout::BLOCKS < n {
+        return Looked::Refused(Refusal::Length);
+    }
+    if map.len() < map_bytes(n) {
+        return Looked::Refused(Refusal::Buffer);
+    }
+    if n <= block {
+        return Looked::Refused(Refusal::Block);
+    }
+    let pair = pairs_from(map[block / 4], block) % 4;
+    if pair == RESERVED {
+        return Looked::Refused(Refusal::Pair);
+    }
+    Looked::Done { pair }
+}
+
+// How many of a map's n blocks are PATCH and how many full, four blocks a turn.
+pub fn tally(map: &[u8], n: usize) -> Tallied
+    ensures { λ r. ⌜ Tally pageSize (now (map .entry)) n r ⌝ }
+{
+    if Layout::BLOCKS < n {
+        return Tallied::Refused(Refusal::Length);
+    }
+    let bytes = map_bytes(n);
+    if map.len() < bytes {
+        return Tallied::Refused(Refusal::Buffer);
+    }
+    if unused_met(map, n) {
+        return Tallied::Refused(Refusal::Pair);
+    }
+    let mut patch: usize = 0;
+    let mut full: usize = 0;
+    let mut at = 0;
+    while at < bytes {
+        let entry = table::entry_of(map[at]);
+        if entry == table::MET_RESERVED {
+            return Tallied::Refused(Refusal::Pair);
+        }
+        patch += (entry % 8) as usize;
+        full += (entry / 8) as usize;
+        at += 1;
+    }
+    Tallied::Done { patch, full }
 }

@@ -1,0 +1,6 @@
+pub mod Told
+pub mod Signed
+pub mod Reading
+pub mod Turns
+pub mod Answers
+pub mod Writing

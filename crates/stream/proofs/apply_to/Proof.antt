@@ -1,0 +1,75 @@
+use mir.ValLaws.{toZ-ofZ}
+use mir.Val.{toZ, ofZ}
+use mir.Syntax.{w32}
+use lib.IntN.{ℤ}
+use lib.ListN.{length}
+use mathlib.Core.List.{List}
+use Prim.Native.Nat.{ℕ}
+use mathlib.Core.Path.{_≡_, subst, sym, ap, _∙_}
+use Rattle.stream.specs.declared.Checked.{Checked}
+use Rattle.stream.specs.Steps.{reach, Judges, SoundAs}
+use Rattle.stream.proofs.Answers.{applies-unsound, applies-sound}
+use borrow.Author.Needs.{needs}
+use Rattle.stream.proofs.apply_to.Statement.{statement}
+use Rattle.stream.proofs.apply_to.Tie as tie
+use Rattle.stream.proofs.apply_to.Reads as reads
+use Rattle.stream.proofs.apply_to.Lts as lts
+use Rattle.span.proofs.copy.Reads as copy-reads
+use Rattle.stream.proofs.payload.check.Reads as check-reads
+use Rattle.stream.proofs.payload.overlay.Reads as overlay-reads
+
+-- src/lib.rt:87:11
+check-requires : tie.Need-check-requires
+check-requires c κs = search needs
+
+-- src/lib.rt:88:46
+enum-told : tie.Need-enum-told
+enum-told c = search needs
+
+-- src/lib.rt:89:26
+enum-known-entries : tie.Need-enum-known-entries
+enum-known-entries c = search needs
+
+-- src/lib.rt:90:13
+copy-requires : tie.Need-copy-requires
+copy-requires c κs = search needs
+
+-- src/lib.rt:91:13
+overlay-requires : tie.Need-overlay-requires
+overlay-requires c κs = search needs
+
+-- src/lib.rt:83:1
+returns : tie.Need-returns
+returns c =
+    let a = c .before .before .before .before .before .before .args in
+    let k : ℕ = reach (length (a .page .now)) in
+    applies-unsound k (a .base .now) (a .payload .now) (a .page .now)
+    (subst (λ (r : Checked). Judges k (a .payload .now) r) (c .enum-told .given .1) (c .before .before .check .ensures))
+
+-- src/lib.rt:83:1
+same-length : tie.Need-same-length
+same-length c = search needs
+
+-- src/lib.rt:83:1
+returns-2 : tie.Need-returns-2
+returns-2 c =
+    let a = c .before .before .before .before .before .before .before .before .before .before .before .before .before .before .before .args in
+    let k : ℕ = reach (length (a .page .now)) in
+    let e : ℕ = c .before .before .before .before .before .before .before .before .before .entries .given .0 .0 in
+    let l : ℤ = c .before .before .before .before .before .before .before .before .before .entries .given .0 .1 .0 in
+    let s : SoundAs k (a .payload .now) e l = subst (λ (r : Checked). Judges k (a .payload .now) r) (c .before .before .before .before .before .before .before .before .before .entries .given .1) (c .before .before .before .before .before .before .before .before .before .before .before .check .ensures) in
+    applies-sound (a .base .now) (a .payload .now) (a .page .now) (c .before .before .before .before .before .before .copy .last .0) (c .before .before .overlay .last .0) e l (toZ w32 (ofZ w32 l))
+    (c .before .before .before .before .before .before .before .before .before .before .before .before .before .before .before .pre) (toZ-ofZ w32 l (record { sfits = c .before .before .before .before .before .before .before .before .known-told .given .1 .0 .1 })) s (c .before .before .before .before .before .before .copy .ensures) (c .before .before .overlay .ensures)
+
+pub apply-to-spec : {M : Type 1} → statement M
+apply-to-spec =
+    tie.close
+    (tie.spec
+    check-requires
+    enum-told
+    enum-known-entries
+    copy-requires
+    overlay-requires
+    returns
+    same-length
+    returns-2)

@@ -1,0 +1,135 @@
+-- The laws of Compare's and Apply's definitions: when the pages fit, what the refusals come to, and each call's outcome by its number.
+use Prim.Native.Nat.{ℕ, zero, suc, _<_, _≤_}
+use native.Mathlib.Omega.{arith}
+use mathlib.Core.Path.{_≡_, refl, sym, ap, _∙_}
+use mathlib.Core.Bool.{Bool, true, false, not, cond, _&&_, _||_, and-true, and-false, true≢false, false≢true}
+use mathlib.Core.List.{List, [], _∷_, _++_}
+use lib.Dec.{eqb, leb, ltb}
+use lib.ListN.{length}
+use lib.IntN.{ℤ, pos}
+use borrow.Author.Tests.{eq-eqb, ne-eqb, eqb-true}
+use Rattle.span.specs.Bytes.{zeros, splice}
+use Rattle.layout.specs.Sizes.{room}
+use Rattle.layout.specs.Refusals.{Row, _⇐_, firstOf, orElse, ordered}
+use Rattle.stream.specs.Entries.{payloadStream, sound, entries, last, start, applied}
+use Rattle.stream.specs.Differences.{diffs, coded, lastPlace}
+use Rattle.stream.specs.Calls.{pageOf, pagesFit, pageRows, compareRows, comparison, compareNumbers, compareBuffer, ComparedNumbers, applyRows, applyNumbers, applyPage, AppliedNumbers}
+
+-- Pages
+
+pub fits-other : (P : ℕ) (base page : List ℕ) → (length page ≡ P → ⊥) → pagesFit P base page ≡ false
+unfolding pagesFit
+fits-other P base page h =
+    ap (λ (t : Bool). (eqb (length base) 0 || eqb (length base) P) && t) (ne-eqb (length page) P h) ∙ and-false (eqb (length base) 0 || eqb (length base) P)
+
+pub fits-none : (P : ℕ) (base page : List ℕ) → length page ≡ P → length base ≡ 0 → pagesFit P base page ≡ true
+unfolding pagesFit
+fits-none P base page h k = rw (eq-eqb (length base) 0 k, eq-eqb (length page) P h)
+
+pub fits-some : (P : ℕ) (base page : List ℕ) → length page ≡ P → (length base ≡ 0 → ⊥) → pagesFit P base page ≡ eqb (length base) P
+unfolding pagesFit
+fits-some P base page h k = rw (ne-eqb (length base) 0 k) (ap (λ (t : Bool). eqb (length base) P && t) (eq-eqb (length page) P h) ∙ and-true (eqb (length base) P))
+
+pub page-length : (P : ℕ) (base page : List ℕ) → pagesFit P base page ≡ true → length page ≡ P
+unfolding pagesFit
+page-length P base page h = go (eqb (length page) P) refl h
+  where
+    go : (t : Bool) → eqb (length page) P ≡ t → ((eqb (length base) 0 || eqb (length base) P) && t) ≡ true → length page ≡ P
+    go true e k = eqb-true (length page) P e
+    go false e k = absurd (false≢true (sym (and-false (eqb (length base) 0 || eqb (length base) P)) ∙ k))
+
+pub base-length : (P : ℕ) (base page : List ℕ) → pagesFit P base page ≡ true → (length base ≡ 0 → ⊥) → length base ≡ P
+base-length P base page h k = eqb-true (length base) P (sym (fits-some P base page (page-length P base page h) k) ∙ h)
+
+pub base-none : (P : ℕ) (base : List ℕ) → length base ≡ 0 → pageOf P base ≡ zeros P
+unfolding pageOf
+base-none P base h = rw (eq-eqb (length base) 0 h)
+
+pub base-some : (P : ℕ) (base : List ℕ) → (length base ≡ 0 → ⊥) → pageOf P base ≡ base
+unfolding pageOf
+base-some P base h = rw (ne-eqb (length base) 0 h)
+
+-- Apply
+
+module _ (P : ℕ) (base payload page : List ℕ) where
+  -- 1, then 7
+  pub apply-number : firstOf (applyRows P base payload page) ≡ cond (pagesFit P base page) (cond (sound P payload) 0 7) 1
+  unfolding applyRows ordered firstOf orElse
+  apply-number = go (pagesFit P base page) (sound P payload)
+    where
+      go : (f s : Bool) → firstOf ((1 ⇐ not f) ∷ (7 ⇐ not s) ∷ []) ≡ cond f (cond s 0 7) 1
+      go true true = refl
+      go true false = refl
+      go false s = refl
+
+  pub apply-done : firstOf (applyRows P base payload page) ≡ 0
+      → (applyNumbers P base payload page ≡ record { number = 0; entries = entries (payloadStream P payload); last = last start (payloadStream P payload) })
+        × (applyPage P base payload page ≡ applied (pageOf P base) (payloadStream P payload))
+  unfolding applyNumbers applyPage
+  apply-done e = (
+    ap
+    (λ (k : ℕ).
+      elim k as (λ _. AppliedNumbers)
+      [ zero ↦ record { number = 0; entries = entries (payloadStream P payload); last = last start (payloadStream P payload) }
+      | suc n ↦ record { number = suc n; entries = 0; last = pos 0 }
+      ]) e,
+    ap (λ (k : ℕ). elim k as (λ _. List ℕ) [ zero ↦ applied (pageOf P base) (payloadStream P payload) | suc n ↦ page ]) e,
+  )
+
+  pub apply-not : (m : ℕ) → firstOf (applyRows P base payload page) ≡ suc m
+      → (applyNumbers P base payload page ≡ record { number = suc m; entries = 0; last = pos 0 }) × (applyPage P base payload page ≡ page)
+  unfolding applyNumbers applyPage
+  apply-not m e = (
+    ap
+    (λ (k : ℕ).
+      elim k as (λ _. AppliedNumbers)
+      [ zero ↦ record { number = 0; entries = entries (payloadStream P payload); last = last start (payloadStream P payload) }
+      | suc n ↦ record { number = suc n; entries = 0; last = pos 0 }
+      ]) e,
+    ap (λ (k : ℕ). elim k as (λ _. List ℕ) [ zero ↦ applied (pageOf P base) (payloadStream P payload) | suc n ↦ page ]) e,
+  )
+
+-- Compare
+
+module _ (P : ℕ) (base page buffer : List ℕ) where
+  -- 1, then 9
+  pub compare-number : firstOf (compareRows P base page buffer) ≡ cond (pagesFit P base page) (cond (ltb (length buffer) room) 9 0) 1
+  unfolding compareRows ordered firstOf orElse
+  compare-number = go (pagesFit P base page) (ltb (length buffer) room)
+    where
+      go : (f s : Bool) → firstOf ((1 ⇐ not f) ∷ (9 ⇐ s) ∷ []) ≡ cond f (cond s 9 0) 1
+      go true true = refl
+      go true false = refl
+      go false s = refl
+
+  pub compare-done : firstOf (compareRows P base page buffer) ≡ 0 → compareNumbers P base page buffer ≡ comparison (diffs 0 (pageOf P base) page)
+  unfolding compareNumbers
+  compare-done e =
+      ap
+      (λ (k : ℕ).
+        elim k as (λ _. ComparedNumbers)
+        [ zero ↦ comparison (diffs 0 (pageOf P base) page)
+        | suc n ↦ record { number = suc n; kind = 0; length = 0; entries = 0; last = pos 0 }
+        ]) e
+
+  pub compare-not : (m : ℕ) → firstOf (compareRows P base page buffer) ≡ suc m
+      → (compareNumbers P base page buffer ≡ record { number = suc m; kind = 0; length = 0; entries = 0; last = pos 0 }) × (compareBuffer P base page buffer ≡ buffer)
+  unfolding compareNumbers compareBuffer
+  compare-not m e =
+      let f : compareNumbers P base page buffer ≡ record { number = suc m; kind = 0; length = 0; entries = 0; last = pos 0 } =
+          ap
+          (λ (k : ℕ).
+            elim k as (λ _. ComparedNumbers)
+            [ zero ↦ comparison (diffs 0 (pageOf P base) page)
+            | suc n ↦ record { number = suc n; kind = 0; length = 0; entries = 0; last = pos 0 }
+            ]) e in
+      (f, ap (λ (x : ComparedNumbers). cond (eqb (x .kind) 1) (splice buffer 0 (coded 0 (diffs 0 (pageOf P base) page))) buffer) f)
+
+  -- by the kind, where nothing is refused
+  pub compare-kept : (k : ℕ) → compareNumbers P base page buffer .kind ≡ k → (k ≡ 1 → ⊥) → compareBuffer P base page buffer ≡ buffer
+  unfolding compareBuffer
+  compare-kept k e h = ap (λ (t : ℕ). cond (eqb t 1) (splice buffer 0 (coded 0 (diffs 0 (pageOf P base) page))) buffer) e ∙ rw (ne-eqb k 1 h)
+
+  pub compare-written : compareNumbers P base page buffer .kind ≡ 1 → compareBuffer P base page buffer ≡ splice buffer 0 (coded 0 (diffs 0 (pageOf P base) page))
+  unfolding compareBuffer
+  compare-written e = ap (λ (t : ℕ). cond (eqb t 1) (splice buffer 0 (coded 0 (diffs 0 (pageOf P base) page))) buffer) e

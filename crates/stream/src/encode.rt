@@ -1,0 +1,77 @@
+// The writer's stream of two pages.
+use crate::Code;
+use crate::Difference;
+
+ghost use mathlib.Core.Path.{_≡_};
+ghost use Prim.Native.Nat.{_+_, _≤_};
+ghost use lib.ListN.{length, set};
+ghost use lib.Seq.{sets};
+ghost use Rattle.stream.specs.Differences.{spelled};
+ghost use Rattle.stream.specs.Steps.{before, near, Differs, Put};
+
+// Stores a byte, if there is room for it.
+fn put(room: &mut [u8], at: usize, value: u8)
+    ensures { λ _. ⌜ now (room .exit) ≡ set (now (room .entry)) at value ⌝ }
+{
+    if at < room.len() {
+        room[at] = value;
+    }
+}
+
+// Stores an entry as far as there is room, and answers the place after it, room or not.
+fn put_entry(room: &mut [u8], used: usize, jump: usize, value: u8) -> usize
+    requires { ⌜ used ≤ 131072 ⌝ }
+    ensures { λ r. ⌜ Put (now (room .entry)) used (spelled jump value) r (now (room .exit)) ⌝ }
+{
+    if jump < Code::LONG as usize {
+        put(room, used, jump as u8);
+        put(room, used + 1, value);
+        return used + Code::SHORT_WIDTH;
+    }
+    put(room, used, Code::LONG);
+    put(room, used + 1, (jump % 256) as u8);
+    put(room, used + 2, (jump / 256 % 256) as u8);
+    put(room, used + 3, value);
+    used + Code::LONG_WIDTH
+}
+
+// What is known where the last difference before `next` was the last of all.
+fn found(length: usize, entries: usize, next: usize) -> Difference
+    requires { ⌜ next ≤ 65536 ⌝ }
+    ensures { λ r. ⌜ (r .length ≡ length) × (r .entries ≡ entries) × (r .last ≡ before next) ⌝ }
+{
+    Difference {
+        length: length,
+        entries: entries,
+        last: (next as i32) - 1,
+    }
+}
+
+// One pass over both pages. Equal bytes go by in `next_diff`.
+fn encode(base: &[u8], page: &[u8], room: &mut [u8]) -> Difference
+    requires { ⌜ length (now page) ≤ 65536 ⌝ }
+    ensures { λ r. ⌜ Differs (now (base .entry)) (now (page .entry)) (now (room .entry)) r (now (room .exit)) ⌝ }
+{
+    let mut next = 0;
+    let mut used = 0;
+    let mut entries = 0;
+    loop {
+        let at = span::next_diff(base, page, next);
+        if base.len() <= at {
+            return found(used, entries, next);
+        }
+        if page.len() <= at {
+            return found(used, entries, next);
+        }
+        used = put_entry(room, used, at - next, page[at]);
+        entries += 1;
+        next = at + 1;
+    }
+}
+
+// The writer's stream of a page against its base. It is stored as far as there is room, and its numbers are those of the whole.
+pub fn difference(base: &[u8], page: &[u8], room: &mut [u8]) -> Difference
+    ensures { λ r. ⌜ Differs (now (base .entry)) (near (now (page .entry))) (now (room .entry)) r (now (room .exit)) ⌝ }
+{
+    encode(base, span::part(page, 0, Code::REACH), room)
+}
