@@ -14,8 +14,6 @@ use Rattle.layout.specs.Sizes.{slotSize, lengthAt, payloadAt, room}
 use Rattle.layout.specs.Numbers.{number, le}
 use Rattle.layout.specs.declared.SlotState.{SlotState}
 use Rattle.layout.specs.declared.SlotState.the-variants.{Empty, Patch, Full, Unsound}
-use Rattle.layout.specs.declared.Kind.{Kind}
-use Rattle.layout.specs.declared.Kind.the-variants.{Empty as EmptyKind, Patch as PatchKind, Full as FullKind}
 
 -- EMPTY: all bytes zero
 unfoldable pub emptySlot : List ℕ
@@ -65,11 +63,9 @@ stateNumbers (Patch n) = soundSlot 1 n
 stateNumbers Full = soundSlot 2 0
 stateNumbers Unsound = unsoundSlot
 
--- the sound slot of a kind
-unfoldable pub slotFor : Kind → List ℕ → List ℕ
-slotFor EmptyKind payload = emptySlot
-slotFor PatchKind payload = patchSlot payload
-slotFor FullKind payload = fullSlot
+-- the sound slot of a kind, by its number
+unfoldable pub slotImage : ℕ → List ℕ → List ℕ
+slotImage k payload = cond (eqb k 0) emptySlot (cond (eqb k 1) (patchSlot payload) fullSlot)
 
 -- Laws
 

@@ -8,7 +8,8 @@ ghost use Prim.Native.Nat.{_≤_};
 ghost use lib.Dec.{eqb, leb};
 ghost use lib.ListN.{length, getD};
 ghost use Rattle.layout.specs.Sizes.{slotSize, room};
-ghost use Rattle.layout.specs.Slots.{patchSlot, fullSlot, isPatch, payloadLength, slotNumbers, stateNumbers, slotFor};
+ghost use Rattle.layout.specs.Numbers.{kindNumber};
+ghost use Rattle.layout.specs.Slots.{patchSlot, fullSlot, isPatch, payloadLength, slotNumbers, stateNumbers, slotImage};
 
 // The payload's length of a sound PATCH slot, or 0: of 512 bytes of kind 1.
 fn patch_length(slot: &[u8]) -> usize
@@ -93,7 +94,7 @@ fn write_patch(slot: &mut [u8], payload: &[u8])
 
 // The sound slot of a kind, over whatever stood there. Only what is a slot, and a payload that fits, is touched.
 pub fn put_slot(slot: &mut [u8], kind: Kind, payload: &[u8])
-    ensures { λ _. ⌜ now (slot .exit) ≡ cond (eqb (length (now (slot .entry))) slotSize && leb (length (now (payload .entry))) room) (slotFor kind (now (payload .entry))) (now (slot .entry)) ⌝ }
+    ensures { λ _. ⌜ now (slot .exit) ≡ cond (eqb (length (now (slot .entry))) slotSize && leb (length (now (payload .entry))) room) (slotImage (kindNumber kind) (now (payload .entry))) (now (slot .entry)) ⌝ }
 {
     if slot.len() != Layout::SLOT {
         return;

@@ -8,16 +8,13 @@ use lib.Dec.{leb}
 use borrow.Author.Tests.{le-leb, lt-leb}
 use lib.ListN.{length}
 use Rattle.span.specs.Bytes.{part}
-use Rattle.layout.specs.Sizes.{slotSize, payloadAt, slotAt}
+use Rattle.layout.specs.Sizes.{payloadAt, slotAt}
 use Rattle.layout.specs.Refusals.{Row, _⇐_, firstOf, orElse, decided, Groups, ordered, first-append, or-some, decided-done, decided-refused}
 use Rattle.layout.specs.Headers.{patchHeadRows}
 use Rattle.layout.specs.Areas.{blocksIn, patchFits}
 use Rattle.layout.specs.Slots.{isPatch, payloadLength}
+use Rattle.store.specs.Frame.{slotOf}
 use Rattle.store.specs.declared.Place.{Place}
-
--- the slot of block b
-unfoldable pub slotOf : List ℕ → ℕ → List ℕ
-slotOf patch b = part (slotAt b) slotSize patch
 
 -- "It looks at the patch area alone."
 unfoldable pub showRows : ℕ → List ℕ → ℕ → List Row

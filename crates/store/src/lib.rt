@@ -18,6 +18,24 @@ pub enum Judged {
     Refused(Refusal),
 }
 
+// What Read answers: the kind of the block's slot.
+pub enum Reading {
+    Done { kind: Kind },
+    Refused(Refusal),
+}
+
+// What Write answers: the kind stored, and the stream's length.
+pub enum Written {
+    Done { kind: Kind, length: usize },
+    Refused(Refusal),
+}
+
+// What Build answers. With a slot, payload, full page or place that is wrong comes its block; with any other refusal, 0.
+pub enum Built {
+    Done,
+    Refused { refusal: Refusal, block: usize },
+}
+
 // A part of a patch area.
 pub struct Place {
     pub at: usize,

@@ -35,9 +35,9 @@ applies-sound base payload page copied after e l l′ h k s f g =
     let t : take (length page) base ≡ base = take-all (length page) base (omega arith) in
     let f′ : copied ≡ base = f ∙ ap (λ (x : List ℕ). splice page 0 x) t ∙ splice-whole page base h in
     let g′ : after ≡ applied base (payloadStream (reach (length page)) payload) =
-        g ∙ ap (λ (x : List ℕ). applied x (payloadStream (reach (length x)) payload)) f′ ∙ ap (λ (x : ℕ). applied base (payloadStream (reach x) payload)) h in
+    g ∙ ap (λ (x : List ℕ). applied x (payloadStream (reach (length x)) payload)) f′ ∙ ap (λ (x : ℕ). applied base (payloadStream (reach x) payload)) h in
     let z : appliedNumbers (AppliedDone e l′) ≡ application true (payloadStream (reach (length page)) payload) =
-        λ i. record { number = 0; entries = s .entries i; last = (k ∙ s .last) i } in
+    λ i. record { number = 0; entries = s .entries i; last = (k ∙ s .last) i } in
     record { numbers = rw (s .is) z; bytes = rw (s .is) g′ }
 
 pub apply-refused : (P : ℕ) (base payload page : List ℕ) → pagesFit P base page ≡ false → Apply P base payload page (AppliedRefused Page) page

@@ -1,4 +1,4 @@
-use Rattle.layout.specs.Slots.{slotFor, emptySlot, full-laid}
+use Rattle.layout.specs.Slots.{slotImage, emptySlot, full-laid}
 use Rattle.layout.specs.Sizes.{slotSize, room}
 use Rattle.span.specs.Bytes.{zeros}
 use borrow.Author.Tests.{eq-eqb, ne-eqb, le-leb, lt-leb}
@@ -50,7 +50,7 @@ same-length : tie.Need-same-length
 same-length c = search needs
 
 returns-3 : tie.Need-returns-3
-unfolding slotFor emptySlot
+unfolding slotImage emptySlot
 returns-3 c =
     let at = c .before .before .before .before .before .before .before .before .before .before in
     let s : List ℕ = at .args .slot .now in
@@ -64,7 +64,7 @@ same-length-2 : tie.Need-same-length-2
 same-length-2 c = search needs
 
 returns-4 : tie.Need-returns-4
-unfolding slotFor
+unfolding slotImage
 returns-4 c =
     let at = c .before .before .before .before .before .before .before .before .before .before in
     let s : List ℕ = at .args .slot .now in
@@ -78,7 +78,7 @@ same-length-3 : tie.Need-same-length-3
 same-length-3 c = search needs
 
 returns-5 : tie.Need-returns-5
-unfolding slotFor
+unfolding slotImage
 returns-5 c =
     let at = c .before .before .before .before .before .before .before .before .before .before in
     let s : List ℕ = at .args .slot .now in

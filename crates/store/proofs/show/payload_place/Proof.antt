@@ -1,6 +1,7 @@
 use Rattle.store.proofs.Told.{on, off}
 use Rattle.store.specs.declared.Place.{Place}
-use Rattle.store.specs.Show.{slotOf, showPlace, show-length, show-header, show-block, show-slot, show-done}
+use Rattle.store.specs.Frame.{slotOf}
+use Rattle.store.specs.Show.{showPlace, show-length, show-header, show-block, show-slot, show-done}
 use Rattle.layout.specs.Slots.{isPatch, payloadLength, length-none, length-some}
 use Rattle.layout.specs.Areas.{blocksIn, patchFits, patch-fits-is}
 use Rattle.layout.specs.Numbers.{faultNumber, refusalNumber, refusal-some}
