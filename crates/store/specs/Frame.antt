@@ -1,7 +1,8 @@
 -- What the calls on both areas look at before they look at a block, and a block's own bytes.
-use Prim.Native.Nat.{ℕ, _≤_, _<_}
-use mathlib.Core.Path.{_≡_, sym, ap, _∙_}
-use mathlib.Core.Bool.{Bool, not}
+use Prim.Native.Nat.{ℕ}
+use native.Mathlib.Omega.{arith}
+use mathlib.Core.Path.{_≡_, refl, sym, ap, _∙_}
+use mathlib.Core.Bool.{Bool, true, false, not, _&&_, cond}
 use mathlib.Core.List.{List, [], _∷_, _++_, append-assoc}
 use lib.Dec.{leb}
 use lib.ListN.{length}
@@ -9,7 +10,7 @@ use Rattle.span.specs.Bytes.{part}
 use Rattle.layout.specs.Sizes.{slotSize, slotAt, pageAt}
 use Rattle.layout.specs.Refusals.{Row, _⇐_, firstOf, orElse, Groups, ordered, first-append}
 use Rattle.layout.specs.Headers.{headerRows}
-use Rattle.layout.specs.Areas.{blocksIn, lengthRows}
+use Rattle.layout.specs.Areas.{blocksIn, patchFits, fullFits, lengthRows}
 
 -- the slot of block b, and its place in the full area
 unfoldable pub slotOf : List ℕ → ℕ → List ℕ
@@ -44,3 +45,39 @@ ordered-frame P patch full g e f =
     ∙ first-append (g .pages ++ (g .lengths ++ (g .buffers ++ g .headers))) rest
     ∙ ap (λ (l : List Row). orElse (firstOf (g .pages ++ (l ++ (g .buffers ++ g .headers)))) (firstOf rest)) e
     ∙ ap (λ (l : List Row). orElse (firstOf (g .pages ++ (lengthRows P (length patch) (length full) ++ (g .buffers ++ l)))) (firstOf rest)) f
+
+-- Laws
+
+abbrev pub lengthsFit : ℕ → List ℕ → List ℕ → Bool
+lengthsFit P patch full = patchFits P (length patch) && fullFits P (blocksIn (length patch)) (length full)
+
+-- the number of a frame, by its tests and the headers' number
+unfoldable pub frameNumber : Bool → Bool → Bool → ℕ → ℕ
+frameNumber pages lengths buffers headers = orElse (cond (not pages) 1 0) (orElse (cond (not lengths) 2 0) (orElse (cond (not buffers) 9 0) headers))
+
+module _ (P : ℕ) (patch full : List ℕ) where
+  pub frame-is : (a b : Bool) → firstOf (frameRows P ((1 ⇐ not a) ∷ []) ((9 ⇐ not b) ∷ []) patch full) ≡ frameNumber a (lengthsFit P patch full) b (firstOf (headerRows P patch full))
+  unfolding frameRows frameNumber firstOf lengthRows
+  frame-is a b = refl
+
+  -- a call without pages, or without a buffer, has nothing of theirs to refuse
+  pub frame-pages : (a : Bool) → firstOf (frameRows P ((1 ⇐ not a) ∷ []) [] patch full) ≡ firstOf (frameRows P ((1 ⇐ not a) ∷ []) ((9 ⇐ not true) ∷ []) patch full)
+  unfolding frameRows firstOf orElse lengthRows
+  frame-pages a = refl
+
+  pub frame-buffer : (b : Bool) → firstOf (frameRows P [] ((9 ⇐ not b) ∷ []) patch full) ≡ firstOf (frameRows P ((1 ⇐ not true) ∷ []) ((9 ⇐ not b) ∷ []) patch full)
+  unfolding frameRows firstOf orElse
+  frame-buffer b = refl
+
+  -- a frame that is sound has sound lengths and headers
+  pub frame-sound : (a b : Bool) → frameNumber a (lengthsFit P patch full) b (firstOf (headerRows P patch full)) ≡ 0
+      → (a ≡ true) × (lengthsFit P patch full ≡ true) × (b ≡ true) × (firstOf (headerRows P patch full) ≡ 0)
+  unfolding frameNumber orElse
+  frame-sound a b e = go a (lengthsFit P patch full) b e
+    where
+      go : (a l b : Bool) → orElse (cond (not a) 1 0) (orElse (cond (not l) 2 0) (orElse (cond (not b) 9 0) (firstOf (headerRows P patch full)))) ≡ 0
+          → (a ≡ true) × (l ≡ true) × (b ≡ true) × (firstOf (headerRows P patch full) ≡ 0)
+      go true true true e = (refl, refl, refl, e)
+      go true true false e = absurd (omega arith)
+      go true false b e = absurd (omega arith)
+      go false l b e = absurd (omega arith)

@@ -1,5 +1,6 @@
 // The calls on areas. Every call checks first and changes after: a refusal is decided before the first byte is written.
 pub mod format;
+mod frame;
 pub mod judge;
 pub mod show;
 

@@ -8,16 +8,24 @@ use lib.Dec.{eqb, leb, ltb}
 use lib.ListN.{length, take}
 use lib.Seq.{take-length, take-all}
 use lib.IntN.{ℤ, pos}
-use borrow.Author.Tests.{eq-eqb, ne-eqb, eqb-true}
-use Rattle.span.specs.Bytes.{zeros, splice}
-use Rattle.span.specs.Laws.{splice-whole}
+use borrow.Author.Tests.{eq-eqb, ne-eqb, eqb-true, le-leb, lt-leb, lt-ltb, le-ltb}
+use native.Mathlib.Decide.{decLt}
+use Rattle.span.specs.Bytes.{zeros, splice, part}
+use Rattle.span.specs.Laws.{splice-whole, part-splice}
 use Rattle.layout.specs.Sizes.{pageSize, room}
 use Rattle.layout.specs.Refusals.{firstOf}
+use Rattle.layout.specs.Numbers.{kindNumber}
+use Rattle.layout.specs.declared.Kind.{Kind}
+use Rattle.layout.specs.declared.Kind.the-variants.{Empty, Patch, Full}
 use Rattle.layout.specs.declared.Refusal.the-variants.{Page, Payload, Buffer}
 use Rattle.stream.specs.Entries.{Stream, payloadStream, sound, entries, last, start, applied}
-use Rattle.stream.specs.Steps.{reach, SoundAs, Applies, application}
-use Rattle.stream.specs.Calls.{pageOf, pagesFit, applyRows, Apply, appliedNumbers}
-use Rattle.stream.specs.Laws.{page-length, apply-number, apply-done, apply-not}
+use Rattle.stream.specs.Differences.{diffs, coded, written}
+use Rattle.stream.specs.Steps.{farthest, reach, near, SoundAs, Applies, application, Differs, Compares}
+use Rattle.stream.specs.Calls.{pageOf, pagesFit, applyRows, Apply, appliedNumbers, kindFor, compareRows, comparison, compareNumbers, compareBuffer, ComparedNumbers, comparedNumbers, Compare}
+use Rattle.stream.specs.Laws.{page-length, apply-number, apply-done, apply-not, compare-number, compare-done, compare-not}
+use Rattle.stream.specs.declared.Difference.{Difference}
+use Rattle.stream.specs.declared.Compared.{Compared}
+use Rattle.stream.specs.declared.Compared.the-variants.{Done as ComparedDone, Refused as ComparedRefused}
 use Rattle.stream.specs.declared.Applied.{Applied}
 use Rattle.stream.specs.declared.Applied.the-variants.{Done as AppliedDone, Refused as AppliedRefused}
 
@@ -35,9 +43,9 @@ applies-sound base payload page copied after e l l′ h k s f g =
     let t : take (length page) base ≡ base = take-all (length page) base (omega arith) in
     let f′ : copied ≡ base = f ∙ ap (λ (x : List ℕ). splice page 0 x) t ∙ splice-whole page base h in
     let g′ : after ≡ applied base (payloadStream (reach (length page)) payload) =
-    g ∙ ap (λ (x : List ℕ). applied x (payloadStream (reach (length x)) payload)) f′ ∙ ap (λ (x : ℕ). applied base (payloadStream (reach x) payload)) h in
+        g ∙ ap (λ (x : List ℕ). applied x (payloadStream (reach (length x)) payload)) f′ ∙ ap (λ (x : ℕ). applied base (payloadStream (reach x) payload)) h in
     let z : appliedNumbers (AppliedDone e l′) ≡ application true (payloadStream (reach (length page)) payload) =
-    λ i. record { number = 0; entries = s .entries i; last = (k ∙ s .last) i } in
+        λ i. record { number = 0; entries = s .entries i; last = (k ∙ s .last) i } in
     record { numbers = rw (s .is) z; bytes = rw (s .is) g′ }
 
 pub apply-refused : (P : ℕ) (base payload page : List ℕ) → pagesFit P base page ≡ false → Apply P base payload page (AppliedRefused Page) page
@@ -74,3 +82,108 @@ apply-over P base present payload page after answer h k e a =
           numbers = b .numbers ∙ ap (λ (t : Bool). application t (payloadStream P payload)) s ∙ sym (d .0);
           bytes = b .bytes ∙ ap (λ (t : Bool). cond t (applied present (payloadStream P payload)) page) s ∙ sym (d .1);
         }
+
+-- Compare
+
+pub kind-none : (n : ℕ) → n ≡ 0 → 0 ≡ kindFor n
+unfolding kindFor
+kind-none n e = rw (eq-eqb n 0 e)
+
+pub kind-large : (n : ℕ) → room < n → 2 ≡ kindFor n
+unfolding kindFor
+kind-large n h = rw (ne-eqb n 0 (λ q. omega arith), lt-leb n room h)
+
+pub kind-patch : (n : ℕ) → (n ≡ 0 → ⊥) → n ≤ room → 1 ≡ kindFor n
+unfolding kindFor
+kind-patch n h k = rw (ne-eqb n 0 h, le-leb n room k)
+
+-- a patch fits
+pub patch-fits : (n : ℕ) → 1 ≡ kindFor n → n ≤ room
+unfolding kindFor
+patch-fits n e =
+    elim (decLt room n)
+    [ yes h ↦ absurd (omega (arith, e ∙ sym (kind-large n h)))
+    | no h ↦ omega arith
+    ]
+
+pub near-is : (page : List ℕ) → length page ≤ farthest → near page ≡ page
+unfolding part
+near-is page h = take-all farthest page h
+
+module _ (base page room₀ room₁ buffer : List ℕ) (d : Difference) (l : ℤ) (h : length page ≤ farthest) (e : l ≡ d .last) (w : Differs base (near page) room₀ d room₁) where
+  w′ : Differs base page room₀ d room₁
+  w′ = subst (λ (x : List ℕ). Differs base x room₀ d room₁) (near-is page h) w
+
+  done-numbers : (k : Kind) → kindNumber k ≡ kindFor (d .length) → comparedNumbers (ComparedDone k (d .length) (d .entries) l) ≡ comparison (diffs 0 base page)
+  unfolding comparison written
+  done-numbers k q = λ i. record {
+    number = 0;
+    kind = (q ∙ ap kindFor (w′ .length)) i;
+    length = w′ .length i;
+    entries = w′ .entries i;
+    last = (e ∙ w′ .last) i;
+  }
+
+  done-kind : (k : Kind) → kindNumber k ≡ kindFor (d .length) → kindFor (length (written base page)) ≡ kindNumber k
+  done-kind k q = sym (q ∙ ap kindFor (w′ .length))
+
+  -- same or large: the buffer stays
+  pub compares-kept : (k : Kind) → kindNumber k ≡ kindFor (d .length) → (kindNumber k ≡ 1 → ⊥) → Compares base page buffer (ComparedDone k (d .length) (d .entries) l) buffer
+  compares-kept k q n = record {
+    numbers = done-numbers k q;
+    bytes =
+        sym
+        (ap (λ (t : ℕ). cond (eqb t 1) (splice buffer 0 (written base page)) buffer) (done-kind k q)
+        ∙ ap (λ (t : Bool). cond t (splice buffer 0 (written base page)) buffer) (ne-eqb (kindNumber k) 1 n));
+  }
+
+  -- patch: the stream is in the room, and goes to the buffer
+  pub compares-patch : (after : List ℕ) (k : ℕ) → length room₀ ≡ room → room ≤ length buffer → 1 ≡ kindFor (d .length) → k ≡ d .length
+      → after ≡ splice buffer 0 (take (length buffer) (part 0 k room₁))
+      → Compares base page buffer (ComparedDone Patch (d .length) (d .entries) l) after
+  compares-patch after k r b q o f =
+      let n : d .length ≤ room = patch-fits (d .length) q in
+      let m : d .length ≡ length (written base page) = w′ .length in
+      let t : take (length room₀) (written base page) ≡ written base page = take-all (length room₀) (written base page) (omega arith) in
+      let g : part 0 (d .length) room₁ ≡ written base page =
+          ap (λ (x : List ℕ). part 0 (d .length) x) (w′ .bytes ∙ ap (λ (x : List ℕ). splice room₀ 0 x) t)
+          ∙ part-splice room₀ 0 (written base page) (d .length) (sym m) (omega arith) in
+      let u : take (length buffer) (written base page) ≡ written base page = take-all (length buffer) (written base page) (omega arith) in
+      record {
+        numbers = done-numbers Patch q;
+        bytes =
+            f
+            ∙ ap (λ (j : ℕ). splice buffer 0 (take (length buffer) (part 0 j room₁))) o
+            ∙ ap (λ (x : List ℕ). splice buffer 0 (take (length buffer) x)) g
+            ∙ ap (λ (x : List ℕ). splice buffer 0 x) u
+            ∙ sym (ap (λ (t : ℕ). cond (eqb t 1) (splice buffer 0 (written base page)) buffer) (done-kind Patch q));
+      }
+
+pub compare-refused-page : (P : ℕ) (base page buffer : List ℕ) → pagesFit P base page ≡ false → Compare P base page buffer (ComparedRefused Page) buffer
+compare-refused-page P base page buffer h =
+    let e : firstOf (compareRows P base page buffer) ≡ 1 = compare-number P base page buffer ∙ rw h in
+    let d = compare-not P base page buffer 0 e in
+    record { numbers = sym (d .0); bytes = sym (d .1) }
+
+pub compare-refused-buffer : (P : ℕ) (base page buffer : List ℕ) → pagesFit P base page ≡ true → length buffer < room → Compare P base page buffer (ComparedRefused Buffer) buffer
+compare-refused-buffer P base page buffer h k =
+    let e : firstOf (compareRows P base page buffer) ≡ 9 = compare-number P base page buffer ∙ rw (h, lt-ltb (length buffer) room k) in
+    let d = compare-not P base page buffer 8 e in
+    record { numbers = sym (d .0); bytes = sym (d .1) }
+
+-- with the page that the base stands for
+pub compare-with : (P : ℕ) (base present page buffer after : List ℕ) (answer : Compared) → pagesFit P base page ≡ true → room ≤ length buffer → pageOf P base ≡ present
+    → Compares present page buffer answer after → Compare P base page buffer answer after
+unfolding compareBuffer comparison written
+compare-with P base present page buffer after answer h k e a =
+    let f : firstOf (compareRows P base page buffer) ≡ 0 = compare-number P base page buffer ∙ rw (h, le-ltb (length buffer) room k) in
+    let g : compareNumbers P base page buffer ≡ comparison (diffs 0 present page) =
+        compare-done P base page buffer f ∙ ap (λ (x : List ℕ). comparison (diffs 0 x page)) e in
+    record {
+      numbers = a .numbers ∙ sym g;
+      bytes =
+          a .bytes
+          ∙ sym
+            (ap (λ (x : ComparedNumbers). cond (eqb (x .kind) 1) (splice buffer 0 (coded 0 (diffs 0 (pageOf P base) page))) buffer) g
+            ∙ ap (λ (x : List ℕ). cond (eqb (kindFor (length (written present page))) 1) (splice buffer 0 (coded 0 (diffs 0 x page))) buffer) e);
+    }

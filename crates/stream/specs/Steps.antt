@@ -5,6 +5,7 @@ use mathlib.Core.Path.{_≡_}
 use mathlib.Core.Bool.{Bool, true, false, cond}
 use mathlib.Core.List.{List}
 use mathlib.Core.Logic.{_⊎_}
+use lib.Dec.{eqb}
 use lib.ListN.{length, drop, take}
 use lib.ListN.{length as lengthOf}
 use lib.Seq.{sets}
@@ -12,7 +13,8 @@ use lib.IntN.{ℤ, pos, subℕ}
 use Rattle.span.specs.Bytes.{part, splice}
 use Rattle.stream.specs.Differences.{diffs, written, lastPlace}
 use Rattle.stream.specs.Entries.{Stream, done, cut, out, entry, Next, code, inPage, stream, start, payloadStream, sound, entries as entriesOf, last as lastOf, applied}
-use Rattle.stream.specs.Calls.{AppliedNumbers, appliedNumbers}
+use Rattle.stream.specs.Calls.{kindFor, comparison, comparedNumbers, AppliedNumbers, appliedNumbers}
+use Rattle.stream.specs.declared.Compared.{Compared}
 use Rattle.stream.specs.declared.Applied.{Applied}
 use Rattle.stream.specs.declared.Step.{Step}
 use Rattle.stream.specs.declared.Step.the-variants.{End, Broken, Entry}
@@ -88,3 +90,9 @@ pub record Differs (base page room : List ℕ) (d : Difference) (after : List �
   pub entries : d .entries ≡ lengthOf (diffs 0 base page)
   pub last : d .last ≡ lastPlace start (diffs 0 base page)
   pub bytes : after ≡ splice room 0 (take (lengthOf room) (written base page))
+
+-- Compare with a base that is there
+
+pub record Compares (base page buffer : List ℕ) (answer : Compared) (after : List ℕ) : Type 0 where
+  pub numbers : comparedNumbers answer ≡ comparison (diffs 0 base page)
+  pub bytes : after ≡ cond (eqb (kindFor (lengthOf (written base page))) 1) (splice buffer 0 (written base page)) buffer

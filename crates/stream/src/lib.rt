@@ -6,11 +6,14 @@ pub mod payload;
 use layout::Kind;
 use layout::Layout;
 use layout::Refusal;
+
 ghost use mathlib.Core.Path.{_≡_};
-ghost use lib.ListN.{length};
-ghost use Rattle.layout.specs.Sizes.{pageSize};
-ghost use Rattle.stream.specs.Steps.{reach, Applies};
-ghost use Rattle.stream.specs.Calls.{pagesFit, Apply};
+ghost use Prim.Native.Nat.{_≤_};
+ghost use lib.ListN.{length as lengthOf};
+ghost use Rattle.layout.specs.Sizes.{pageSize, room as roomOf};
+ghost use Rattle.layout.specs.Numbers.{kindNumber};
+ghost use Rattle.stream.specs.Steps.{farthest, reach, Applies, Compares};
+ghost use Rattle.stream.specs.Calls.{pagesFit, kindFor, Apply, Compare};
 
 // What Compare answers: the kind, the stream's length, the number of entries and the last differing position.
 pub enum Compared {
@@ -60,9 +63,7 @@ pub struct Code;
 impl Code {
     // The first byte of an entry with a 16-bit jump, and how many bytes an entry takes.
     pub const LONG: u8 = 255;
-
     pub const SHORT_WIDTH: usize = 2;
-
     pub const LONG_WIDTH: usize = 4;
     // The most bytes of a page that 16-bit jumps are made for.
     pub const REACH: usize = 65536;
@@ -81,10 +82,73 @@ pub fn pages_fit(base: &[u8], page: &[u8]) -> bool
     base.len() == Layout::PAGE
 }
 
+// What a stream of this length is: none, one that fits a slot, or too long.
+pub fn kind_for(length: usize) -> Kind
+    ensures { λ r. ⌜ kindNumber r ≡ kindFor length ⌝ }
+{
+    if length == 0 {
+        return Kind::Empty;
+    }
+    if Layout::ROOM < length {
+        return Kind::Full;
+    }
+    Kind::Patch
+}
+
+// Compare with a base that is there. The stream is made in a room of its own, since it may turn out too long for the payload.
+fn compare_to(base: &[u8], page: &[u8], payload: &mut [u8]) -> Compared
+    requires { ⌜ (lengthOf (now page) ≤ farthest) × (roomOf ≤ lengthOf (now payload)) ⌝ }
+    ensures { λ r. ⌜ Compares (now (base .entry)) (now (page .entry)) (now (payload .entry)) r (now (payload .exit)) ⌝ }
+{
+    let mut room = [0u8; Layout::ROOM];
+    let d = encode::difference(base, page, &mut room);
+    let length = d.length;
+    match kind_for(length) {
+        Kind::Empty => Compared::Done {
+            kind: Kind::Empty,
+            length: length,
+            entries: d.entries,
+            last: d.last,
+        },
+        Kind::Full => Compared::Done {
+            kind: Kind::Full,
+            length: length,
+            entries: d.entries,
+            last: d.last,
+        },
+        Kind::Patch => {
+            span::copy(payload, &room[0..length]);
+            Compared::Done {
+                kind: Kind::Patch,
+                length: length,
+                entries: d.entries,
+                last: d.last,
+            }
+        }
+    }
+}
+
+// Finds what a page differs in from its base.
+pub fn compare(base: &[u8], page: &[u8], payload: &mut [u8]) -> Compared
+    ensures { λ r. ⌜ Compare pageSize (now (base .entry)) (now (page .entry)) (now (payload .entry)) r (now (payload .exit)) ⌝ }
+{
+    if !pages_fit(base, page) {
+        return Compared::Refused(Refusal::Page);
+    }
+    if payload.len() < Layout::ROOM {
+        return Compared::Refused(Refusal::Buffer);
+    }
+    if base.len() == 0 {
+        let zeros = [0u8; Layout::PAGE];
+        return compare_to(&zeros, page, payload);
+    }
+    compare_to(base, page, payload)
+}
+
 // Apply to a base that is there: the whole payload is checked before the page's first byte is written.
 fn apply_to(base: &[u8], payload: &[u8], page: &mut [u8]) -> Applied
-    requires { ⌜ length (now base) ≡ length (now page) ⌝ }
-    ensures { λ r. ⌜ Applies (reach (length (now (page .entry)))) (now (base .entry)) (now (payload .entry)) (now (page .entry)) r (now (page .exit)) ⌝ }
+    requires { ⌜ lengthOf (now base) ≡ lengthOf (now page) ⌝ }
+    ensures { λ r. ⌜ Applies (reach (lengthOf (now (page .entry)))) (now (base .entry)) (now (payload .entry)) (now (page .entry)) r (now (page .exit)) ⌝ }
 {
     match payload::check(payload, page.len()) {
         Checked::Unsound => Applied::Refused(Refusal::Payload),

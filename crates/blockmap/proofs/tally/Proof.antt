@@ -2,12 +2,11 @@ use Rattle.blockmap.proofs.Turns.{Passed, start, turn, done-patch, done
 use Rattle.blockmap.specs.PairLaws.{unused-bad, bad-byte, entry-reserved, pairs-most}
 use Rattle.blockmap.specs.Pairs.{mapBytes, someUsed, patchPair, fullPair}
 use lib.ListN.{getD}
-use mathlib.Core.Bool.{true, false}
+use mathlib.Core.Bool.{false}
 use Rattle.blockmap.specs.CallLaws.{tally-length, tally-buffer, tally-pair, tally-done}
-use Rattle.blockmap.specs.Pairs.{pairs, patchPair, fullPair, reservedPair}
 use Rattle.layout.specs.Sizes.{pageSize}
-use mathlib.Core.Path.{_≡_, sym, ap, _∙_}
-use Prim.Native.Nat.{ℕ, _+_, _-_, _*_, _≤_}
+use mathlib.Core.Path.{_≡_, sym, _∙_}
+use Prim.Native.Nat.{_-_, _*_, _≤_}
 use native.Mathlib.Omega.{arith}
 use borrow.Author.Needs.{needs}
 use Rattle.blockmap.proofs.tally.Statement.{statement}

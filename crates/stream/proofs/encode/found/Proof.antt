@@ -21,11 +21,12 @@ sub-t5 c =
 
 -- src/encode.rt:39:1
 returns : tie.Need-returns
-returns c = (
-  refl,
-  refl,
-  toZ-ofZ w32 (toZ w32 (c .args .next) -ℤ pos 1) (sub-t5 c) ∙ before-read (c .args .next) (c .pre),
-)
+returns c =
+    (
+      refl,
+      refl,
+      toZ-ofZ w32 (toZ w32 (c .args .next) -ℤ pos 1) (sub-t5 c) ∙ before-read (c .args .next) (c .pre),
+    )
 
 pub found-spec : {M : Type 1} → statement M
 found-spec = tie.close (tie.spec cast-t4 sub-t5 returns)

@@ -28,9 +28,9 @@ returns c =
     let a = c .before .before .args in
     let q : ℤ = c .before .moved .result in
     let e : toZ w64 (ofZ w64 q) ≡ a .position +ℤ pos (a .jump + 1) =
-    toZ-ofZ w64 q (record { sfits = c .before .moved .ok })
-    ∙ c .before .moved .ensures
-    ∙ ap (λ (z : ℤ). z +ℤ pos (a .jump + 1)) (toZ-ofZ w32 (a .position) (c .before .before .fits .position)) in
+        toZ-ofZ w64 q (record { sfits = c .before .moved .ok })
+        ∙ c .before .moved .ensures
+        ∙ ap (λ (z : ℤ). z +ℤ pos (a .jump + 1)) (toZ-ofZ w32 (a .position) (c .before .before .fits .position)) in
     below (reach (a .size)) (toZ w64 (ofZ w64 q)) (a .position +ℤ pos (a .jump + 1)) (a .value) (a .next) e (c .if1 .taken)
 
 -- src/entry.rt:28:14
@@ -47,9 +47,9 @@ returns-2 c =
     let a = c .before .before .before .args in
     let q : ℤ = c .before .before .moved .result in
     let e : toZ w64 (ofZ w64 q) ≡ a .position +ℤ pos (a .jump + 1) =
-    toZ-ofZ w64 q (record { sfits = c .before .before .moved .ok })
-    ∙ c .before .before .moved .ensures
-    ∙ ap (λ (z : ℤ). z +ℤ pos (a .jump + 1)) (toZ-ofZ w32 (a .position) (c .before .before .before .fits .position)) in
+        toZ-ofZ w64 q (record { sfits = c .before .before .moved .ok })
+        ∙ c .before .before .moved .ensures
+        ∙ ap (λ (z : ℤ). z +ℤ pos (a .jump + 1)) (toZ-ofZ w32 (a .position) (c .before .before .before .fits .position)) in
     beyond (reach (a .size)) (toZ w64 (ofZ w64 q)) (a .position +ℤ pos (a .jump + 1)) (a .value) (a .next) e (omega arith)
 
 -- src/entry.rt:33:9
@@ -58,9 +58,9 @@ returns-3 c =
     let a = c .before .before .before .before .args in
     let q : ℤ = c .before .before .before .moved .result in
     let e : toZ w64 (ofZ w64 q) ≡ a .position +ℤ pos (a .jump + 1) =
-    toZ-ofZ w64 q (record { sfits = c .before .before .before .moved .ok })
-    ∙ c .before .before .before .moved .ensures
-    ∙ ap (λ (z : ℤ). z +ℤ pos (a .jump + 1)) (toZ-ofZ w32 (a .position) (c .before .before .before .before .fits .position)) in
+        toZ-ofZ w64 q (record { sfits = c .before .before .before .moved .ok })
+        ∙ c .before .before .before .moved .ensures
+        ∙ ap (λ (z : ℤ). z +ℤ pos (a .jump + 1)) (toZ-ofZ w32 (a .position) (c .before .before .before .before .fits .position)) in
     beyond (reach (a .size)) (toZ w64 (ofZ w64 q)) (a .position +ℤ pos (a .jump + 1)) (a .value) (a .next) e (omega arith)
 
 -- src/entry.rt:36:19
@@ -74,9 +74,9 @@ returns-4 c =
     let a = c .before .before .before .before .args in
     let q : ℤ = c .before .before .before .moved .result in
     let e : toZ w64 (ofZ w64 q) ≡ a .position +ℤ pos (a .jump + 1) =
-    toZ-ofZ w64 q (record { sfits = c .before .before .before .moved .ok })
-    ∙ c .before .before .before .moved .ensures
-    ∙ ap (λ (z : ℤ). z +ℤ pos (a .jump + 1)) (toZ-ofZ w32 (a .position) (c .before .before .before .before .fits .position)) in
+        toZ-ofZ w64 q (record { sfits = c .before .before .before .moved .ok })
+        ∙ c .before .before .before .moved .ensures
+        ∙ ap (λ (z : ℤ). z +ℤ pos (a .jump + 1)) (toZ-ofZ w32 (a .position) (c .before .before .before .before .fits .position)) in
     landed-in (toZ w64 (ofZ w64 q)) (c .before .before .if1 .left) (reach (a .size)) (a .position +ℤ pos (a .jump + 1)) (a .value) (a .next) e (omega arith) (omega arith)
 
 pub landed-spec : {M : Type 1} → statement M

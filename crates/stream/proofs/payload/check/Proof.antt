@@ -55,7 +55,7 @@ returns-3 c =
     let a = c .before .before .before .before .before .before .before .args in
     let l = c .before .before .before .loop in
     let f : Follows (reach (a .size)) (a .payload .now) (l .place) (stream (reach (a .size)) (toZ w32 (l .position)) code (drop (l .place) (a .payload .now))) End =
-    told (reach (a .size)) (a .payload .now) (l .place) (stream (reach (a .size)) (toZ w32 (l .position)) code (drop (l .place) (a .payload .now))) (c .before .before .step .result) End (c .enum-told .given .1) (c .before .before .step .ensures) in
+        told (reach (a .size)) (a .payload .now) (l .place) (stream (reach (a .size)) (toZ w32 (l .position)) code (drop (l .place) (a .payload .now))) (c .before .before .step .result) End (c .enum-told .given .1) (c .before .before .step .ensures) in
     passed-all (reach (a .size)) (a .payload .now) (l .place) (toZ w32 (l .position)) (l .entries) (l .inv) (omega arith) (omega arith) f
 
 -- src/payload.rt:34:17
@@ -68,7 +68,7 @@ returns-4 c =
     let a = c .before .before .before .before .before .before .before .args in
     let l = c .before .before .before .loop in
     let f : Follows (reach (a .size)) (a .payload .now) (l .place) (stream (reach (a .size)) (toZ w32 (l .position)) code (drop (l .place) (a .payload .now))) Broken =
-    told (reach (a .size)) (a .payload .now) (l .place) (stream (reach (a .size)) (toZ w32 (l .position)) code (drop (l .place) (a .payload .now))) (c .before .before .step .result) Broken (c .enum-told2 .given .1) (c .before .before .step .ensures) in
+        told (reach (a .size)) (a .payload .now) (l .place) (stream (reach (a .size)) (toZ w32 (l .position)) code (drop (l .place) (a .payload .now))) (c .before .before .step .result) Broken (c .enum-told2 .given .1) (c .before .before .step .ensures) in
     passed-broken (reach (a .size)) (a .payload .now) (l .place) (toZ w32 (l .position)) (l .entries) (l .inv) f
 
 -- src/payload.rt:36:37
@@ -85,7 +85,7 @@ loop-less c =
     let a = c .before .before .before .before .before .before .before .before .args in
     let l = c .before .before .before .before .loop in
     let f : Follows (reach (a .size)) (a .payload .now) (l .place) (stream (reach (a .size)) (toZ w32 (l .position)) code (drop (l .place) (a .payload .now))) (Entry (c .before .at .given .0 .0) (c .before .at .given .0 .1 .0) (c .before .at .given .0 .1 .1 .0)) =
-    told (reach (a .size)) (a .payload .now) (l .place) (stream (reach (a .size)) (toZ w32 (l .position)) code (drop (l .place) (a .payload .now))) (c .before .before .before .step .result) (Entry (c .before .at .given .0 .0) (c .before .at .given .0 .1 .0) (c .before .at .given .0 .1 .1 .0)) (c .before .at .given .1) (c .before .before .before .step .ensures) in
+        told (reach (a .size)) (a .payload .now) (l .place) (stream (reach (a .size)) (toZ w32 (l .position)) code (drop (l .place) (a .payload .now))) (c .before .before .before .step .result) (Entry (c .before .at .given .0 .0) (c .before .at .given .0 .1 .0) (c .before .at .given .0 .1 .1 .0)) (c .before .at .given .1) (c .before .before .before .step .ensures) in
     omega (arith, f .on, f .within)
 
 -- src/payload.rt:25:5
@@ -94,7 +94,7 @@ loop-again c =
     let a = c .before .before .before .before .before .before .before .before .args in
     let l = c .before .before .before .before .loop in
     let f : Follows (reach (a .size)) (a .payload .now) (l .place) (stream (reach (a .size)) (toZ w32 (l .position)) code (drop (l .place) (a .payload .now))) (Entry (c .before .at .given .0 .0) (c .before .at .given .0 .1 .0) (c .before .at .given .0 .1 .1 .0)) =
-    told (reach (a .size)) (a .payload .now) (l .place) (stream (reach (a .size)) (toZ w32 (l .position)) code (drop (l .place) (a .payload .now))) (c .before .before .before .step .result) (Entry (c .before .at .given .0 .0) (c .before .at .given .0 .1 .0) (c .before .at .given .0 .1 .1 .0)) (c .before .at .given .1) (c .before .before .before .step .ensures) in
+        told (reach (a .size)) (a .payload .now) (l .place) (stream (reach (a .size)) (toZ w32 (l .position)) code (drop (l .place) (a .payload .now))) (c .before .before .before .step .result) (Entry (c .before .at .given .0 .0) (c .before .at .given .0 .1 .0) (c .before .at .given .0 .1 .1 .0)) (c .before .at .given .1) (c .before .before .before .step .ensures) in
     let q : ℤ = c .before .at .given .0 .0 in
     passed-more (reach (a .size)) (a .payload .now) (l .place) (toZ w32 (l .position)) (l .entries) (l .inv) q (toZ w32 (ofZ w32 q)) (c .before .at .given .0 .1 .0) (c .before .at .given .0 .1 .1 .0) (place-back (reach (a .size)) q (omega arith) (f .lands)) f
 

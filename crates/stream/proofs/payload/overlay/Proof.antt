@@ -47,7 +47,7 @@ returns c =
     let a = c .before .before .before .before .before .before .args in
     let l = c .before .before .before .loop in
     let f : Follows (reach (length (a .page .now))) (a .payload .now) (l .place) (stream (reach (length (a .page .now))) (toZ w32 (l .position)) code (drop (l .place) (a .payload .now))) (End) =
-    told (reach (length (a .page .now))) (a .payload .now) (l .place) (stream (reach (length (a .page .now))) (toZ w32 (l .position)) code (drop (l .place) (a .payload .now))) (c .before .before .step .result) (End) (c .enum-told .given .1) (c .before .before .step .ensures) in
+        told (reach (length (a .page .now))) (a .payload .now) (l .place) (stream (reach (length (a .page .now))) (toZ w32 (l .position)) code (drop (l .place) (a .payload .now))) (c .before .before .step .result) (End) (c .enum-told .given .1) (c .before .before .step .ensures) in
     laid-all (reach (length (a .page .now))) (a .page .now) (a .payload .now) (l .page) (l .place) (toZ w32 (l .position)) (l .inv .1) f
 
 -- src/payload.rt:58:17
@@ -64,7 +64,7 @@ returns-2 c =
     let a = c .before .before .before .before .before .before .args in
     let l = c .before .before .before .loop in
     let f : Follows (reach (length (a .page .now))) (a .payload .now) (l .place) (stream (reach (length (a .page .now))) (toZ w32 (l .position)) code (drop (l .place) (a .payload .now))) (Broken) =
-    told (reach (length (a .page .now))) (a .payload .now) (l .place) (stream (reach (length (a .page .now))) (toZ w32 (l .position)) code (drop (l .place) (a .payload .now))) (c .before .before .step .result) (Broken) (c .enum-told2 .given .1) (c .before .before .step .ensures) in
+        told (reach (length (a .page .now))) (a .payload .now) (l .place) (stream (reach (length (a .page .now))) (toZ w32 (l .position)) code (drop (l .place) (a .payload .now))) (c .before .before .step .result) (Broken) (c .enum-told2 .given .1) (c .before .before .step .ensures) in
     laid-broken (reach (length (a .page .now))) (a .page .now) (a .payload .now) (l .page) (l .place) (toZ w32 (l .position)) (l .inv .1) f
 
 -- src/payload.rt:60:37
@@ -77,7 +77,7 @@ cast-page c =
     let a = c .before .before .before .before .before .before .before .args in
     let l = c .before .before .before .before .loop in
     let f : Follows (reach (length (a .page .now))) (a .payload .now) (l .place) (stream (reach (length (a .page .now))) (toZ w32 (l .position)) code (drop (l .place) (a .payload .now))) (Entry (c .before .at .given .0 .0) (c .before .at .given .0 .1 .0) (c .before .at .given .0 .1 .1 .0)) =
-    told (reach (length (a .page .now))) (a .payload .now) (l .place) (stream (reach (length (a .page .now))) (toZ w32 (l .position)) code (drop (l .place) (a .payload .now))) (c .before .before .before .step .result) (Entry (c .before .at .given .0 .0) (c .before .at .given .0 .1 .0) (c .before .at .given .0 .1 .1 .0)) (c .before .at .given .1) (c .before .before .before .step .ensures) in
+        told (reach (length (a .page .now))) (a .payload .now) (l .place) (stream (reach (length (a .page .now))) (toZ w32 (l .position)) code (drop (l .place) (a .payload .now))) (c .before .before .before .step .result) (Entry (c .before .at .given .0 .0) (c .before .at .given .0 .1 .0) (c .before .at .given .0 .1 .1 .0)) (c .before .at .given .1) (c .before .before .before .step .ensures) in
     index-fits (reach (length (a .page .now))) (c .before .at .given .0 .0) (omega arith) (f .lands)
 
 -- src/payload.rt:61:17
@@ -86,7 +86,7 @@ slice-write-page c =
     let a = c .before .before .before .before .before .before .before .args in
     let l = c .before .before .before .before .loop in
     let f : Follows (reach (length (a .page .now))) (a .payload .now) (l .place) (stream (reach (length (a .page .now))) (toZ w32 (l .position)) code (drop (l .place) (a .payload .now))) (Entry (c .before .at .given .0 .0) (c .before .at .given .0 .1 .0) (c .before .at .given .0 .1 .1 .0)) =
-    told (reach (length (a .page .now))) (a .payload .now) (l .place) (stream (reach (length (a .page .now))) (toZ w32 (l .position)) code (drop (l .place) (a .payload .now))) (c .before .before .before .step .result) (Entry (c .before .at .given .0 .0) (c .before .at .given .0 .1 .0) (c .before .at .given .0 .1 .1 .0)) (c .before .at .given .1) (c .before .before .before .step .ensures) in
+        told (reach (length (a .page .now))) (a .payload .now) (l .place) (stream (reach (length (a .page .now))) (toZ w32 (l .position)) code (drop (l .place) (a .payload .now))) (c .before .before .before .step .result) (Entry (c .before .at .given .0 .0) (c .before .at .given .0 .1 .0) (c .before .at .given .0 .1 .1 .0)) (c .before .at .given .1) (c .before .before .before .step .ensures) in
     omega (arith, index-in (reach (length (a .page .now))) (c .before .at .given .0 .0) (omega arith) (f .lands), l .inv .1 .same)
 
 -- src/payload.rt:52:5
@@ -95,7 +95,7 @@ loop-less c =
     let a = c .before .before .before .before .before .before .before .args in
     let l = c .before .before .before .before .loop in
     let f : Follows (reach (length (a .page .now))) (a .payload .now) (l .place) (stream (reach (length (a .page .now))) (toZ w32 (l .position)) code (drop (l .place) (a .payload .now))) (Entry (c .before .at .given .0 .0) (c .before .at .given .0 .1 .0) (c .before .at .given .0 .1 .1 .0)) =
-    told (reach (length (a .page .now))) (a .payload .now) (l .place) (stream (reach (length (a .page .now))) (toZ w32 (l .position)) code (drop (l .place) (a .payload .now))) (c .before .before .before .step .result) (Entry (c .before .at .given .0 .0) (c .before .at .given .0 .1 .0) (c .before .at .given .0 .1 .1 .0)) (c .before .at .given .1) (c .before .before .before .step .ensures) in
+        told (reach (length (a .page .now))) (a .payload .now) (l .place) (stream (reach (length (a .page .now))) (toZ w32 (l .position)) code (drop (l .place) (a .payload .now))) (c .before .before .before .step .result) (Entry (c .before .at .given .0 .0) (c .before .at .given .0 .1 .0) (c .before .at .given .0 .1 .1 .0)) (c .before .at .given .1) (c .before .before .before .step .ensures) in
     omega (arith, f .on, f .within)
 
 -- src/payload.rt:52:5
@@ -104,7 +104,7 @@ loop-again c =
     let a = c .before .before .before .before .before .before .before .args in
     let l = c .before .before .before .before .loop in
     let f : Follows (reach (length (a .page .now))) (a .payload .now) (l .place) (stream (reach (length (a .page .now))) (toZ w32 (l .position)) code (drop (l .place) (a .payload .now))) (Entry (c .before .at .given .0 .0) (c .before .at .given .0 .1 .0) (c .before .at .given .0 .1 .1 .0)) =
-    told (reach (length (a .page .now))) (a .payload .now) (l .place) (stream (reach (length (a .page .now))) (toZ w32 (l .position)) code (drop (l .place) (a .payload .now))) (c .before .before .before .step .result) (Entry (c .before .at .given .0 .0) (c .before .at .given .0 .1 .0) (c .before .at .given .0 .1 .1 .0)) (c .before .at .given .1) (c .before .before .before .step .ensures) in
+        told (reach (length (a .page .now))) (a .payload .now) (l .place) (stream (reach (length (a .page .now))) (toZ w32 (l .position)) code (drop (l .place) (a .payload .now))) (c .before .before .before .step .result) (Entry (c .before .at .given .0 .0) (c .before .at .given .0 .1 .0) (c .before .at .given .0 .1 .1 .0)) (c .before .at .given .1) (c .before .before .before .step .ensures) in
     let q : ℤ = c .before .at .given .0 .0 in
     (l .inv .0, laid-more (reach (length (a .page .now))) (a .page .now) (a .payload .now) (l .page) (l .place) (toZ w32 (l .position)) (l .inv .1) q (toZ w32 (ofZ w32 q)) (c .before .at .given .0 .1 .0) (c .before .at .given .0 .1 .1 .0) (place-back (reach (length (a .page .now))) q (omega arith) (f .lands)) f)
 
