@@ -431,7 +431,7 @@ same-parts at n m xs ys zs e f =
 pub copied-whole : (d s : List ℕ) → length s ≡ length d → splice d 0 (take (length d) s) ≡ s
 copied-whole d s e = ap (λ (l : List ℕ). splice d 0 l) (take-all (length d) s (omega arith)) ∙ splice-whole d s e
 
-mid-length : (a k : ℕ) (xs : List ℕ) → a + k ≤ length xs → length (midOf a k xs) ≡ k
+pub mid-length : (a k : ℕ) (xs : List ℕ) → a + k ≤ length xs → length (midOf a k xs) ≡ k
 mid-length a k xs h = simp (length-take, length-drop) (omega arith)
 
 -- copied into

@@ -1,7 +1,6 @@
 // What every call on both areas decides before it looks at a block: 1, 2, 9 and the headers, in this order and in no other place.
 use layout::Fault;
 use layout::Refusal;
-
 ghost use mathlib.Core.Path.{_≡_};
 ghost use mathlib.Core.Bool.{not};
 ghost use mathlib.Core.List.{[], _∷_};

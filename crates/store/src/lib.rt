@@ -1,8 +1,11 @@
 // The calls on areas. Every call checks first and changes after: a refusal is decided before the first byte is written.
+mod carry;
 pub mod format;
 mod frame;
 pub mod judge;
+pub mod read;
 pub mod show;
+pub mod write;
 
 use layout::Kind;
 use layout::Refusal;

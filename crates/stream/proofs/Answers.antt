@@ -43,9 +43,9 @@ applies-sound base payload page copied after e l l′ h k s f g =
     let t : take (length page) base ≡ base = take-all (length page) base (omega arith) in
     let f′ : copied ≡ base = f ∙ ap (λ (x : List ℕ). splice page 0 x) t ∙ splice-whole page base h in
     let g′ : after ≡ applied base (payloadStream (reach (length page)) payload) =
-        g ∙ ap (λ (x : List ℕ). applied x (payloadStream (reach (length x)) payload)) f′ ∙ ap (λ (x : ℕ). applied base (payloadStream (reach x) payload)) h in
+    g ∙ ap (λ (x : List ℕ). applied x (payloadStream (reach (length x)) payload)) f′ ∙ ap (λ (x : ℕ). applied base (payloadStream (reach x) payload)) h in
     let z : appliedNumbers (AppliedDone e l′) ≡ application true (payloadStream (reach (length page)) payload) =
-        λ i. record { number = 0; entries = s .entries i; last = (k ∙ s .last) i } in
+    λ i. record { number = 0; entries = s .entries i; last = (k ∙ s .last) i } in
     record { numbers = rw (s .is) z; bytes = rw (s .is) g′ }
 
 pub apply-refused : (P : ℕ) (base payload page : List ℕ) → pagesFit P base page ≡ false → Apply P base payload page (AppliedRefused Page) page
@@ -101,9 +101,9 @@ kind-patch n h k = rw (ne-eqb n 0 h, le-leb n room k)
 pub patch-fits : (n : ℕ) → 1 ≡ kindFor n → n ≤ room
 unfolding kindFor
 patch-fits n e =
-    elim (decLt room n)
-    [ yes h ↦ absurd (omega (arith, e ∙ sym (kind-large n h)))
-    | no h ↦ omega arith
+    elim (decLt room n) [
+      | yes h ↦ absurd (omega (arith, e ∙ sym (kind-large n h)))
+      | no h ↦ omega arith
     ]
 
 pub near-is : (page : List ℕ) → length page ≤ farthest → near page ≡ page
@@ -146,8 +146,8 @@ module _ (base page room₀ room₁ buffer : List ℕ) (d : Difference) (l : ℤ
       let m : d .length ≡ length (written base page) = w′ .length in
       let t : take (length room₀) (written base page) ≡ written base page = take-all (length room₀) (written base page) (omega arith) in
       let g : part 0 (d .length) room₁ ≡ written base page =
-          ap (λ (x : List ℕ). part 0 (d .length) x) (w′ .bytes ∙ ap (λ (x : List ℕ). splice room₀ 0 x) t)
-          ∙ part-splice room₀ 0 (written base page) (d .length) (sym m) (omega arith) in
+      ap (λ (x : List ℕ). part 0 (d .length) x) (w′ .bytes ∙ ap (λ (x : List ℕ). splice room₀ 0 x) t)
+      ∙ part-splice room₀ 0 (written base page) (d .length) (sym m) (omega arith) in
       let u : take (length buffer) (written base page) ≡ written base page = take-all (length buffer) (written base page) (omega arith) in
       record {
         numbers = done-numbers Patch q;
@@ -178,12 +178,12 @@ unfolding compareBuffer comparison written
 compare-with P base present page buffer after answer h k e a =
     let f : firstOf (compareRows P base page buffer) ≡ 0 = compare-number P base page buffer ∙ rw (h, le-ltb (length buffer) room k) in
     let g : compareNumbers P base page buffer ≡ comparison (diffs 0 present page) =
-        compare-done P base page buffer f ∙ ap (λ (x : List ℕ). comparison (diffs 0 x page)) e in
+    compare-done P base page buffer f ∙ ap (λ (x : List ℕ). comparison (diffs 0 x page)) e in
     record {
       numbers = a .numbers ∙ sym g;
       bytes =
           a .bytes
           ∙ sym
-            (ap (λ (x : ComparedNumbers). cond (eqb (x .kind) 1) (splice buffer 0 (coded 0 (diffs 0 (pageOf P base) page))) buffer) g
-            ∙ ap (λ (x : List ℕ). cond (eqb (kindFor (length (written present page))) 1) (splice buffer 0 (coded 0 (diffs 0 x page))) buffer) e);
+          (ap (λ (x : ComparedNumbers). cond (eqb (x .kind) 1) (splice buffer 0 (coded 0 (diffs 0 (pageOf P base) page))) buffer) g
+          ∙ ap (λ (x : List ℕ). cond (eqb (kindFor (length (written present page))) 1) (splice buffer 0 (coded 0 (diffs 0 x page))) buffer) e);
     }

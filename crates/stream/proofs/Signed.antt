@@ -25,6 +25,7 @@ moved-fits (negsuc k) by f h = go (ltb by (suc k))
   where
     g : k < 2 ^ 31
     g = f .sfits
+
     go : (t : Bool) → SFits w64 (cond t (negsuc (suc k - suc by)) (pos (by - suc k)))
     go true = record { sfits = omega arith }
     go false = record { sfits = omega arith }

@@ -83,7 +83,7 @@ module _ (n : ℕ) (payload : List ℕ) (place : ℕ) (p : ℤ) (count : ℕ) (h
   unfolding sound whole
   passed-broken e =
       let f : whole (payloadStream n payload) ≡ false =
-          h .wholly ∙ ⊎-elim (λ (x : stream n p code (drop place payload) ≡ cut). ap (λ (s : Stream). whole s) x) (λ (x : stream n p code (drop place payload) ≡ out). ap (λ (s : Stream). whole s) x) e in
+      h .wholly ∙ ⊎-elim (λ (x : stream n p code (drop place payload) ≡ cut). ap (λ (s : Stream). whole s) x) (λ (x : stream n p code (drop place payload) ≡ out). ap (λ (s : Stream). whole s) x) e in
       ap (λ (t : Bool). leb 1 (length payload) && leb (length payload) room && t) f ∙ and-false (leb 1 (length payload) && leb (length payload) room)
 
 pub unsound-empty : (n : ℕ) (payload : List ℕ) → length payload ≡ 0 → sound n payload ≡ false

@@ -53,7 +53,7 @@ pub put-long : (room a b d g : List ℕ) (used jump v : ℕ) → 255 ≤ jump �
 unfolding spelled le
 put-long room a b d g used jump v h e₁ e₂ e₃ e₄ =
     let s : spelled jump v ≡ 255 ∷ (jump % 256) ∷ (jump / 256 % 256) ∷ v ∷ [] =
-        ap (λ (t : Bool). cond t (jump ∷ v ∷ []) (255 ∷ (le 2 jump ++ (v ∷ [])))) (le-ltb jump 255 h) in
+    ap (λ (t : Bool). cond t (jump ∷ v ∷ []) (255 ∷ (le 2 jump ++ (v ∷ [])))) (le-ltb jump 255 h) in
     let q₁ : used + 1 ≡ suc used = add-one used in
     let q₂ : used + 2 ≡ suc (suc used) = omega arith in
     let q₃ : used + 3 ≡ suc (suc (suc used)) = omega arith in
@@ -76,18 +76,18 @@ stored room w = splice room 0 (take (length room) w)
 store-one : (room w : List ℕ) (k v : ℕ) → k ≡ length w → set (stored room w) k v ≡ stored room (w ++ (v ∷ []))
 store-one room w k v e =
     let m : length (w ++ (v ∷ [])) ≡ length w + 1 = length-append w (v ∷ []) in
-    elim (decLt k (length room))
-    [ yes h ↦
-        let t : take (length room) w ≡ w = take-all (length room) w (omega arith) in
-        let t′ : take (length room) (w ++ (v ∷ [])) ≡ w ++ (v ∷ []) = take-all (length room) (w ++ (v ∷ [])) (omega arith) in
-        let q : k ≡ 0 + length w = omega arith in
-        ap (λ (l : List ℕ). set (splice room 0 l) k v) t
-        ∙ ap (λ (j : ℕ). set (splice room 0 w) j v) q
-        ∙ splice-more room 0 w v (omega arith)
-        ∙ ap (λ (l : List ℕ). splice room 0 l) (sym t′)
-    | no h ↦
-        let l : length (stored room w) ≡ length room = splice-length room 0 (take (length room) w) (simp length-take (omega arith)) in
-        set-out (stored room w) k v (omega arith) ∙ ap (λ (l : List ℕ). splice room 0 l) (sym (take-append-le (length room) w (v ∷ []) (omega arith)))
+    elim (decLt k (length room)) [
+      | yes h ↦
+          let t : take (length room) w ≡ w = take-all (length room) w (omega arith) in
+          let t′ : take (length room) (w ++ (v ∷ [])) ≡ w ++ (v ∷ []) = take-all (length room) (w ++ (v ∷ [])) (omega arith) in
+          let q : k ≡ 0 + length w = omega arith in
+          ap (λ (l : List ℕ). set (splice room 0 l) k v) t
+          ∙ ap (λ (j : ℕ). set (splice room 0 w) j v) q
+          ∙ splice-more room 0 w v (omega arith)
+          ∙ ap (λ (l : List ℕ). splice room 0 l) (sym t′)
+      | no h ↦
+          let l : length (stored room w) ≡ length room = splice-length room 0 (take (length room) w) (simp length-take (omega arith)) in
+          set-out (stored room w) k v (omega arith) ∙ ap (λ (l : List ℕ). splice room 0 l) (sym (take-append-le (length room) w (v ∷ []) (omega arith)))
     ]
 
 store-more : (ys room w : List ℕ) (k : ℕ) → k ≡ length w → sets (stored room w) k ys ≡ stored room (w ++ ys)
@@ -137,21 +137,21 @@ module _ (base page : List ℕ) (from at : ℕ) (e : at ≡ nextDiff base page f
   rest-skip : rest base page from ≡ rest base page at
   unfolding Same
   rest-skip =
-      elim (decLt from at)
-      [ yes l ↦
-          let w : (at ≤ length base) × (at ≤ length page) = n .within l in
-          let k : ℕ = at - from in
-          let q : from + k ≡ at = omega arith in
-          let lb : length (drop from base) ≡ length base - from = length-drop from base in
-          let lp : length (drop from page) ≡ length page - from = length-drop from page in
-          diffs-skip k from (drop from base) (drop from page) (omega arith) (omega arith)
-          (λ i j. getD-drop from base i 0 ∙ n .alike (from + i) (omega arith) (omega arith) ∙ sym (getD-drop from page i 0))
-          ∙ ap (λ (l : List ℕ). diffs (from + k) l (drop k (drop from page))) (drop-drop k from base)
-          ∙ ap (λ (l : List ℕ). diffs (from + k) (drop (from + k) base) l) (drop-drop k from page)
-          ∙ ap (λ (j : ℕ). rest base page j) q
-      | no l ↦
-          let q : from ≡ at = omega (arith, n .on) in
-          ap (λ (j : ℕ). rest base page j) q
+      elim (decLt from at) [
+        | yes l ↦
+            let w : (at ≤ length base) × (at ≤ length page) = n .within l in
+            let k : ℕ = at - from in
+            let q : from + k ≡ at = omega arith in
+            let lb : length (drop from base) ≡ length base - from = length-drop from base in
+            let lp : length (drop from page) ≡ length page - from = length-drop from page in
+            diffs-skip k from (drop from base) (drop from page) (omega arith) (omega arith)
+            (λ i j. getD-drop from base i 0 ∙ n .alike (from + i) (omega arith) (omega arith) ∙ sym (getD-drop from page i 0))
+            ∙ ap (λ (l : List ℕ). diffs (from + k) l (drop k (drop from page))) (drop-drop k from base)
+            ∙ ap (λ (l : List ℕ). diffs (from + k) (drop (from + k) base) l) (drop-drop k from page)
+            ∙ ap (λ (j : ℕ). rest base page j) q
+        | no l ↦
+            let q : from ≡ at = omega (arith, n .on) in
+            ap (λ (j : ℕ). rest base page j) q
       ]
 
   pub rest-ends : (length base ≤ at) ⊎ (length page ≤ at) → rest base page from ≡ []
@@ -165,11 +165,11 @@ module _ (base page : List ℕ) (from at : ℕ) (e : at ≡ nextDiff base page f
       ∙ ap (λ (xs : List ℕ). diffs at xs (drop at page)) (peel base at (at + 1) l refl)
       ∙ ap (λ (ys : List ℕ). diffs at (getD base at 0 ∷ drop (at + 1) base) ys) (peel page at (at + 1) m refl)
       ∙ ap
-        (λ (t : Bool).
-          elim t as (λ _. List Change)
-          [ true ↦ rest base page (at + 1)
-          | false ↦ record { place = at; value = getD page at 0 } ∷ rest base page (at + 1)
-          ]) (ne-eqb (getD base at 0) (getD page at 0) (n .differ l m))
+      (λ (t : Bool).
+      elim t as (λ _. List Change) [
+        | true ↦ rest base page (at + 1)
+        | false ↦ record { place = at; value = getD page at 0 } ∷ rest base page (at + 1)
+      ]) (ne-eqb (getD base at 0) (getD page at 0) (n .differ l m))
 
 -- The loop: what is known after the differences before `next`.
 pub record Written (base page room₀ room : List ℕ) (next used count : ℕ) : Type 0 where
@@ -202,13 +202,13 @@ written-none base page room = record {
 spelled-width : (jump v : ℕ) → length (spelled jump v) ≤ 2 * (jump + 1)
 unfolding spelled le
 spelled-width jump v =
-    elim (decLt jump 255)
-    [ yes h ↦
-        let e : length (spelled jump v) ≡ 2 = ap (λ (t : Bool). length (cond t (jump ∷ v ∷ []) (255 ∷ (le 2 jump ++ (v ∷ []))))) (lt-ltb jump 255 h) in
-        omega arith
-    | no h ↦
-        let e : length (spelled jump v) ≡ 4 = ap (λ (t : Bool). length (cond t (jump ∷ v ∷ []) (255 ∷ (le 2 jump ++ (v ∷ []))))) (le-ltb jump 255 (omega arith)) in
-        omega arith
+    elim (decLt jump 255) [
+      | yes h ↦
+          let e : length (spelled jump v) ≡ 2 = ap (λ (t : Bool). length (cond t (jump ∷ v ∷ []) (255 ∷ (le 2 jump ++ (v ∷ []))))) (lt-ltb jump 255 h) in
+          omega arith
+      | no h ↦
+          let e : length (spelled jump v) ≡ 4 = ap (λ (t : Bool). length (cond t (jump ∷ v ∷ []) (255 ∷ (le 2 jump ++ (v ∷ []))))) (le-ltb jump 255 (omega arith)) in
+          omega arith
     ]
 
 module _ (base page room₀ room : List ℕ) (next used count at : ℕ) (w : Written base page room₀ room next used count) (e : at ≡ nextDiff base page next) where
@@ -222,7 +222,7 @@ module _ (base page room₀ room : List ℕ) (next used count at : ℕ) (w : Wri
       let x : length (w .spelt ++ s) ≡ length (w .spelt) + length s = length-append (w .spelt) s in
       let y : length (rest base page next) ≡ suc (length (rest base page (at + 1))) = ap (λ (ds : List Change). length ds) r in
       let b : room′ ≡ stored room₀ (w .spelt ++ s) =
-          p .bytes ∙ ap (λ (l : List ℕ). sets l used s) (w .bytes) ∙ store-more s room₀ (w .spelt) used (w .size) in
+      p .bytes ∙ ap (λ (l : List ℕ). sets l used s) (w .bytes) ∙ store-more s room₀ (w .spelt) used (w .size) in
       let t : length (sets room used s) ≡ length room = length-sets room used s in
       let z : length room′ ≡ length (sets room used s) = ap (λ (l : List ℕ). length l) (p .bytes) in
       record {

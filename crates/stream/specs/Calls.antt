@@ -45,17 +45,17 @@ kindFor n = cond (eqb n 0) 0 (cond (leb n room) 1 2)
 unfoldable pub compareRows : ℕ → List ℕ → List ℕ → List ℕ → List Row
 compareRows P base page buffer =
     ordered
-    (record
-    { pages = pageRows P base page
-    ; lengths = []
-    ; buffers = (9 ⇐ ltb (length buffer) room) ∷ []
-    ; headers = []
-    ; block = []
-    ; slot = []
-    ; full = []
-    ; payload = []
-    ; place = []
-    ; pair = []
+    (record {
+      pages = pageRows P base page;
+      lengths = [];
+      buffers = (9 ⇐ ltb (length buffer) room) ∷ [];
+      headers = [];
+      block = [];
+      slot = [];
+      full = [];
+      payload = [];
+      place = [];
+      pair = [];
     })
 
 -- the answer where nothing is refused
@@ -69,9 +69,9 @@ refusedComparison n = record { number = n; kind = 0; length = 0; entries = 0; la
 
 unfoldable pub compareNumbers : ℕ → List ℕ → List ℕ → List ℕ → ComparedNumbers
 compareNumbers P base page buffer =
-    elim (firstOf (compareRows P base page buffer))
-    [ zero ↦ comparison (diffs 0 (pageOf P base) page)
-    | suc n ↦ refusedComparison (suc n)
+    elim (firstOf (compareRows P base page buffer)) [
+      | zero ↦ comparison (diffs 0 (pageOf P base) page)
+      | suc n ↦ refusedComparison (suc n)
     ]
 
 -- "Only for patch is the payload written; later bytes of the buffer stay."
@@ -98,17 +98,17 @@ pub record AppliedNumbers : Type 0 where
 unfoldable pub applyRows : ℕ → List ℕ → List ℕ → List ℕ → List Row
 applyRows P base payload page =
     ordered
-    (record
-    { pages = pageRows P base page
-    ; lengths = []
-    ; buffers = []
-    ; headers = []
-    ; block = []
-    ; slot = []
-    ; full = []
-    ; payload = (7 ⇐ not (sound P payload)) ∷ []
-    ; place = []
-    ; pair = []
+    (record {
+      pages = pageRows P base page;
+      lengths = [];
+      buffers = [];
+      headers = [];
+      block = [];
+      slot = [];
+      full = [];
+      payload = (7 ⇐ not (sound P payload)) ∷ [];
+      place = [];
+      pair = [];
     })
 
 abbrev refusedApplication : ℕ → AppliedNumbers
@@ -116,16 +116,16 @@ refusedApplication n = record { number = n; entries = 0; last = pos 0 }
 
 unfoldable pub applyNumbers : ℕ → List ℕ → List ℕ → List ℕ → AppliedNumbers
 applyNumbers P base payload page =
-    elim (firstOf (applyRows P base payload page))
-    [ zero ↦ record { number = 0; entries = entries (payloadStream P payload); last = last start (payloadStream P payload) }
-    | suc n ↦ refusedApplication (suc n)
+    elim (firstOf (applyRows P base payload page)) [
+      | zero ↦ record { number = 0; entries = entries (payloadStream P payload); last = last start (payloadStream P payload) }
+      | suc n ↦ refusedApplication (suc n)
     ]
 
 unfoldable pub applyPage : ℕ → List ℕ → List ℕ → List ℕ → List ℕ
 applyPage P base payload page =
-    elim (firstOf (applyRows P base payload page))
-    [ zero ↦ applied (pageOf P base) (payloadStream P payload)
-    | suc n ↦ page
+    elim (firstOf (applyRows P base payload page)) [
+      | zero ↦ applied (pageOf P base) (payloadStream P payload)
+      | suc n ↦ page
     ]
 
 abbrev pub appliedNumbers : Applied → AppliedNumbers

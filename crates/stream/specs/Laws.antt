@@ -64,15 +64,15 @@ module _ (P : ℕ) (base payload page : List ℕ) where
 
   pub apply-done : firstOf (applyRows P base payload page) ≡ 0
       → (applyNumbers P base payload page ≡ record { number = 0; entries = entries (payloadStream P payload); last = last start (payloadStream P payload) })
-        × (applyPage P base payload page ≡ applied (pageOf P base) (payloadStream P payload))
+      × (applyPage P base payload page ≡ applied (pageOf P base) (payloadStream P payload))
   unfolding applyNumbers applyPage
   apply-done e = (
     ap
-    (λ (k : ℕ).
-      elim k as (λ _. AppliedNumbers)
-      [ zero ↦ record { number = 0; entries = entries (payloadStream P payload); last = last start (payloadStream P payload) }
-      | suc n ↦ record { number = suc n; entries = 0; last = pos 0 }
-      ]) e,
+        (λ (k : ℕ).
+        elim k as (λ _. AppliedNumbers) [
+          | zero ↦ record { number = 0; entries = entries (payloadStream P payload); last = last start (payloadStream P payload) }
+          | suc n ↦ record { number = suc n; entries = 0; last = pos 0 }
+        ]) e,
     ap (λ (k : ℕ). elim k as (λ _. List ℕ) [ zero ↦ applied (pageOf P base) (payloadStream P payload) | suc n ↦ page ]) e,
   )
 
@@ -81,11 +81,11 @@ module _ (P : ℕ) (base payload page : List ℕ) where
   unfolding applyNumbers applyPage
   apply-not m e = (
     ap
-    (λ (k : ℕ).
-      elim k as (λ _. AppliedNumbers)
-      [ zero ↦ record { number = 0; entries = entries (payloadStream P payload); last = last start (payloadStream P payload) }
-      | suc n ↦ record { number = suc n; entries = 0; last = pos 0 }
-      ]) e,
+        (λ (k : ℕ).
+        elim k as (λ _. AppliedNumbers) [
+          | zero ↦ record { number = 0; entries = entries (payloadStream P payload); last = last start (payloadStream P payload) }
+          | suc n ↦ record { number = suc n; entries = 0; last = pos 0 }
+        ]) e,
     ap (λ (k : ℕ). elim k as (λ _. List ℕ) [ zero ↦ applied (pageOf P base) (payloadStream P payload) | suc n ↦ page ]) e,
   )
 
@@ -107,22 +107,22 @@ module _ (P : ℕ) (base page buffer : List ℕ) where
   compare-done e =
       ap
       (λ (k : ℕ).
-        elim k as (λ _. ComparedNumbers)
-        [ zero ↦ comparison (diffs 0 (pageOf P base) page)
+      elim k as (λ _. ComparedNumbers) [
+        | zero ↦ comparison (diffs 0 (pageOf P base) page)
         | suc n ↦ record { number = suc n; kind = 0; length = 0; entries = 0; last = pos 0 }
-        ]) e
+      ]) e
 
   pub compare-not : (m : ℕ) → firstOf (compareRows P base page buffer) ≡ suc m
       → (compareNumbers P base page buffer ≡ record { number = suc m; kind = 0; length = 0; entries = 0; last = pos 0 }) × (compareBuffer P base page buffer ≡ buffer)
   unfolding compareNumbers compareBuffer
   compare-not m e =
       let f : compareNumbers P base page buffer ≡ record { number = suc m; kind = 0; length = 0; entries = 0; last = pos 0 } =
-          ap
-          (λ (k : ℕ).
-            elim k as (λ _. ComparedNumbers)
-            [ zero ↦ comparison (diffs 0 (pageOf P base) page)
-            | suc n ↦ record { number = suc n; kind = 0; length = 0; entries = 0; last = pos 0 }
-            ]) e in
+      ap
+      (λ (k : ℕ).
+      elim k as (λ _. ComparedNumbers) [
+        | zero ↦ comparison (diffs 0 (pageOf P base) page)
+        | suc n ↦ record { number = suc n; kind = 0; length = 0; entries = 0; last = pos 0 }
+      ]) e in
       (f, ap (λ (x : ComparedNumbers). cond (eqb (x .kind) 1) (splice buffer 0 (coded 0 (diffs 0 (pageOf P base) page))) buffer) f)
 
   -- by the kind, where nothing is refused

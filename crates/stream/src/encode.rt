@@ -1,7 +1,6 @@
 // The writer's stream of two pages.
 use crate::Code;
 use crate::Difference;
-
 ghost use mathlib.Core.Path.{_≡_};
 ghost use Prim.Native.Nat.{_+_, _≤_};
 ghost use lib.ListN.{length, set};

@@ -1,7 +1,6 @@
 // The reader's step: one entry of a payload.
 use crate::Code;
 use crate::Step;
-
 ghost use mathlib.Core.Path.{_≡_};
 ghost use Prim.Native.Nat.{_+_, _≤_, _<_};
 ghost use lib.ListN.{drop};
@@ -53,7 +52,13 @@ pub fn step(payload: &[u8], place: usize, position: i32, size: usize) -> Step
             return Step::Broken;
         }
         let value = payload[place + 1];
-        return landed(position, first as u32, value, place + Code::SHORT_WIDTH, size);
+        return landed(
+            position,
+            first as u32,
+            value,
+            place + Code::SHORT_WIDTH,
+            size,
+        );
     }
     if left < Code::LONG_WIDTH {
         return Step::Broken;

@@ -6,7 +6,6 @@ pub mod payload;
 use layout::Kind;
 use layout::Layout;
 use layout::Refusal;
-
 ghost use mathlib.Core.Path.{_≡_};
 ghost use Prim.Native.Nat.{_≤_};
 ghost use lib.ListN.{length as lengthOf};
@@ -63,7 +62,9 @@ pub struct Code;
 impl Code {
     // The first byte of an entry with a 16-bit jump, and how many bytes an entry takes.
     pub const LONG: u8 = 255;
+
     pub const SHORT_WIDTH: usize = 2;
+
     pub const LONG_WIDTH: usize = 4;
     // The most bytes of a page that 16-bit jumps are made for.
     pub const REACH: usize = 65536;

@@ -3,7 +3,6 @@ use crate::Checked;
 use crate::Step;
 use crate::entry;
 use layout::Layout;
-
 ghost use mathlib.Core.Path.{_≡_};
 ghost use lib.ListN.{length};
 ghost use Rattle.stream.specs.Entries.{payloadStream, applied};
@@ -33,7 +32,11 @@ pub fn check(payload: &[u8], size: usize) -> Checked
             Step::Broken => {
                 return Checked::Unsound;
             }
-            Step::Entry { position: at, value: _, next } => {
+            Step::Entry {
+                position: at,
+                value: _,
+                next,
+            } => {
                 position = at;
                 place = next;
                 entries += 1;
@@ -57,7 +60,11 @@ pub fn overlay(page: &mut [u8], payload: &[u8])
             Step::Broken => {
                 return;
             }
-            Step::Entry { position: at, value, next } => {
+            Step::Entry {
+                position: at,
+                value,
+                next,
+            } => {
                 page[at as usize] = value;
                 position = at;
                 place = next;

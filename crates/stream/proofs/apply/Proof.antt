@@ -11,41 +11,30 @@ use Rattle.stream.proofs.Answers.{apply-refused, apply-over}
 use borrow.Author.Needs.{needs}
 use Rattle.stream.proofs.apply.Statement.{statement}
 use Rattle.stream.proofs.apply.Tie as tie
-use Rattle.stream.proofs.apply.Reads as reads
-use Rattle.stream.proofs.apply.Lts as lts
-use Rattle.stream.proofs.apply_to.Reads as apply-to-reads
-use Rattle.stream.proofs.pages_fit.Reads as pages-fit-reads
 
--- src/lib.rt:104:9
 pages-fit-requires : tie.Need-pages-fit-requires
 pages-fit-requires c κs = search needs
 
--- src/lib.rt:105:9
 same-length : tie.Need-same-length
 same-length c = search needs
 
--- src/lib.rt:105:9
 returns : tie.Need-returns
 returns c =
     let a = c .before .before .before .before .before .before .args in
     apply-refused pageSize (a .base .now) (a .payload .now) (a .page .now) (off (c .before .pages-fit .result) (c .before .pages-fit .ensures) (c .if1 .taken))
 
--- src/lib.rt:109:25
 slice-aggregate-apply-to : tie.Need-slice-aggregate-apply-to
 slice-aggregate-apply-to c = search needs
 
--- src/lib.rt:109:9
 apply-to-requires : tie.Need-apply-to-requires
 apply-to-requires c κs =
     let a = c .before .before .before .before .before .before .before .before .before .args in
     let f : pagesFit pageSize (a .base .now) (a .page .now) ≡ true = on (c .before .before .before .before .pages-fit .result) (c .before .before .before .before .pages-fit .ensures) (c .before .before .before .if1 .left) in
     sym (page-length pageSize (a .base .now) (a .page .now) f)
 
--- src/lib.rt:109:9
 same-length-2 : tie.Need-same-length-2
 same-length-2 c = search needs
 
--- src/lib.rt:109:9
 returns-2 : tie.Need-returns-2
 unfolding zeros
 returns-2 c =
@@ -53,18 +42,15 @@ returns-2 c =
     let f : pagesFit pageSize (a .base .now) (a .page .now) ≡ true = on (c .before .before .before .before .before .before .before .pages-fit .result) (c .before .before .before .before .before .before .before .pages-fit .ensures) (c .before .before .before .before .before .before .if1 .left) in
     apply-over pageSize (a .base .now) (zeros pageSize) (a .payload .now) (a .page .now) (c .before .before .apply-to .last .1 .1 .0) (c .before .before .apply-to .result) f (omega arith) (base-none pageSize (a .base .now) (c .before .before .before .before .before .if2 .taken)) (c .before .before .apply-to .ensures)
 
--- src/lib.rt:111:5
 apply-to-requires-2 : tie.Need-apply-to-requires-2
 apply-to-requires-2 c κs =
     let a = c .before .before .before .before .before .before .before .before .args in
     let f : pagesFit pageSize (a .base .now) (a .page .now) ≡ true = on (c .before .before .before .pages-fit .result) (c .before .before .before .pages-fit .ensures) (c .before .before .if1 .left) in
     base-length pageSize (a .base .now) (a .page .now) f (c .before .if2 .left) ∙ sym (page-length pageSize (a .base .now) (a .page .now) f)
 
--- src/lib.rt:101:1
 same-length-3 : tie.Need-same-length-3
 same-length-3 c = search needs
 
--- src/lib.rt:101:1
 returns-3 : tie.Need-returns-3
 returns-3 c =
     let a = c .before .before .before .before .before .before .before .before .before .before .before .args in

@@ -12,33 +12,22 @@ use Rattle.stream.proofs.Answers.{applies-unsound, applies-sound}
 use borrow.Author.Needs.{needs}
 use Rattle.stream.proofs.apply_to.Statement.{statement}
 use Rattle.stream.proofs.apply_to.Tie as tie
-use Rattle.stream.proofs.apply_to.Reads as reads
-use Rattle.stream.proofs.apply_to.Lts as lts
-use Rattle.span.proofs.copy.Reads as copy-reads
-use Rattle.stream.proofs.payload.check.Reads as check-reads
-use Rattle.stream.proofs.payload.overlay.Reads as overlay-reads
 
--- src/lib.rt:87:11
 check-requires : tie.Need-check-requires
 check-requires c κs = search needs
 
--- src/lib.rt:88:46
 enum-told : tie.Need-enum-told
 enum-told c = search needs
 
--- src/lib.rt:89:26
 enum-known-entries : tie.Need-enum-known-entries
 enum-known-entries c = search needs
 
--- src/lib.rt:90:13
 copy-requires : tie.Need-copy-requires
 copy-requires c κs = search needs
 
--- src/lib.rt:91:13
 overlay-requires : tie.Need-overlay-requires
 overlay-requires c κs = search needs
 
--- src/lib.rt:83:1
 returns : tie.Need-returns
 returns c =
     let a = c .before .before .before .before .before .before .args in
@@ -46,11 +35,9 @@ returns c =
     applies-unsound k (a .base .now) (a .payload .now) (a .page .now)
     (subst (λ (r : Checked). Judges k (a .payload .now) r) (c .enum-told .given .1) (c .before .before .check .ensures))
 
--- src/lib.rt:83:1
 same-length : tie.Need-same-length
 same-length c = search needs
 
--- src/lib.rt:83:1
 returns-2 : tie.Need-returns-2
 returns-2 c =
     let a = c .before .before .before .before .before .before .before .before .before .before .before .before .before .before .before .args in

@@ -12,33 +12,24 @@ use Rattle.stream.proofs.Answers.{compare-refused-page, compare-refused
 use borrow.Author.Needs.{needs}
 use Rattle.stream.proofs.compare.Statement.{statement}
 use Rattle.stream.proofs.compare.Tie as tie
-use Rattle.stream.proofs.compare.Reads as reads
-use Rattle.stream.proofs.compare.Lts as lts
-use Rattle.stream.proofs.compare_to.Reads as compare-to-reads
-use Rattle.stream.proofs.pages_fit.Reads as pages-fit-reads
 
--- src/lib.rt:135:9
 pages-fit-requires : tie.Need-pages-fit-requires
 pages-fit-requires c κs = search needs
 
--- src/lib.rt:136:9
 returns : tie.Need-returns
 returns c =
     let a = c .before .before .before .before .before .args in
     compare-refused-page pageSize (a .base .now) (a .page .now) (a .payload .now) (off (c .before .pages-fit .result) (c .before .pages-fit .ensures) (c .if1 .taken))
 
--- src/lib.rt:139:9
 returns-2 : tie.Need-returns-2
 returns-2 c =
     let a = c .before .before .before .before .before .before .args in
     let f : pagesFit pageSize (a .base .now) (a .page .now) ≡ true = on (c .before .before .pages-fit .result) (c .before .before .pages-fit .ensures) (c .before .if1 .left) in
     compare-refused-buffer pageSize (a .base .now) (a .page .now) (a .payload .now) f (c .if2 .taken)
 
--- src/lib.rt:143:27
 slice-aggregate-compare-to : tie.Need-slice-aggregate-compare-to
 slice-aggregate-compare-to c = search needs
 
--- src/lib.rt:143:9
 compare-to-requires : tie.Need-compare-to-requires
 compare-to-requires c κs =
     let a = c .before .before .before .before .before .before .before .before .before .args in
@@ -46,11 +37,9 @@ compare-to-requires c κs =
     let g : length (a .page .now) ≡ 8192 = page-length pageSize (a .base .now) (a .page .now) f in
     (omega arith, c .before .before .before .if2 .left)
 
--- src/lib.rt:143:9
 same-length : tie.Need-same-length
 same-length c = search needs
 
--- src/lib.rt:143:9
 returns-3 : tie.Need-returns-3
 unfolding zeros
 returns-3 c =
@@ -58,7 +47,6 @@ returns-3 c =
     let f : pagesFit pageSize (a .base .now) (a .page .now) ≡ true = on (c .before .before .before .before .before .before .before .before .pages-fit .result) (c .before .before .before .before .before .before .before .before .pages-fit .ensures) (c .before .before .before .before .before .before .before .if1 .left) in
     compare-with pageSize (a .base .now) (zeros pageSize) (a .page .now) (a .payload .now) (c .before .before .compare-to .last .1 .1 .0) (c .before .before .compare-to .result) f (c .before .before .before .before .before .before .if2 .left) (base-none pageSize (a .base .now) (c .before .before .before .before .before .if3 .taken)) (c .before .before .compare-to .ensures)
 
--- src/lib.rt:145:5
 compare-to-requires-2 : tie.Need-compare-to-requires-2
 compare-to-requires-2 c κs =
     let a = c .before .before .before .before .before .before .before .before .args in
@@ -66,11 +54,9 @@ compare-to-requires-2 c κs =
     let g : length (a .page .now) ≡ 8192 = page-length pageSize (a .base .now) (a .page .now) f in
     (omega arith, c .before .before .if2 .left)
 
--- src/lib.rt:132:1
 same-length-2 : tie.Need-same-length-2
 same-length-2 c = search needs
 
--- src/lib.rt:132:1
 returns-4 : tie.Need-returns-4
 returns-4 c =
     let a = c .before .before .before .before .before .before .before .before .before .before .before .args in

@@ -13,55 +13,39 @@ use Rattle.stream.proofs.Answers.{patch-fits, compares-kept, compares-p
 use borrow.Author.Needs.{needs}
 use Rattle.stream.proofs.compare_to.Statement.{statement}
 use Rattle.stream.proofs.compare_to.Tie as tie
-use Rattle.stream.proofs.compare_to.Reads as reads
-use Rattle.stream.proofs.compare_to.Lts as lts
-use Rattle.span.proofs.copy.Reads as copy-reads
-use Rattle.stream.proofs.encode.difference.Reads as difference-reads
-use Rattle.stream.proofs.kind_for.Reads as kind-for-reads
 
--- src/lib.rt:104:44
 slice-aggregate-difference : tie.Need-slice-aggregate-difference
 slice-aggregate-difference c = search needs
 
--- src/lib.rt:104:9
 difference-requires : tie.Need-difference-requires
 difference-requires c κs = search needs
 
--- src/lib.rt:106:11
 kind-for-requires : tie.Need-kind-for-requires
 kind-for-requires c κs = search needs
 
--- src/lib.rt:108:19
 enum-told : tie.Need-enum-told
 enum-told c = search needs
 
--- src/lib.rt:114:19
 enum-told-2 : tie.Need-enum-told-2
 enum-told-2 c = search needs
 
--- src/lib.rt:120:24
 enum-told-3 : tie.Need-enum-told-3
 enum-told-3 c = search needs
 
--- src/lib.rt:120:33
 sub-copy : tie.Need-sub-copy
 sub-copy c = search needs
 
--- src/lib.rt:120:33
 part-copy-start : tie.Need-part-copy-start
 part-copy-start c = search needs
 
--- src/lib.rt:120:33
 part-copy-end : tie.Need-part-copy-end
 part-copy-end c =
     let e : 1 ≡ kindFor (c .before .before .before .before .before .before .difference .result .length) = sym (ap kindNumber (c .before .before .enum-told3 .given .1)) ∙ c .before .before .before .before .kind-for .ensures in
     omega (arith, patch-fits (c .before .before .before .before .before .before .difference .result .length) e, c .before .before .before .before .before .before .difference .kept .1 .1 .0)
 
--- src/lib.rt:120:13
 copy-requires : tie.Need-copy-requires
 copy-requires c κs = search needs
 
--- src/lib.rt:99:1
 returns : tie.Need-returns
 unfolding zeros
 returns c =
@@ -69,7 +53,6 @@ returns c =
     let e : 0 ≡ kindFor (c .before .before .before .before .before .difference .result .length) = sym (ap kindNumber (c .before .enum-told .given .1)) ∙ c .before .before .before .kind-for .ensures in
     compares-kept (a .base .now) (a .page .now) (zeros 504) (c .before .before .before .before .before .difference .last .1 .1 .0) (a .payload .now) (c .before .before .before .before .before .difference .result) (toZ w32 (ofZ w32 (c .before .before .before .before .before .difference .result .last))) (c .before .before .before .before .before .before .before .before .before .before .pre .0) (toZ-ofZ w32 (c .before .before .before .before .before .difference .result .last) (record { sfits = c .struct-told .given .1 .1 .0 .1 })) (c .before .before .before .before .before .difference .ensures) Empty e (λ q. omega arith)
 
--- src/lib.rt:99:1
 returns-2 : tie.Need-returns-2
 unfolding zeros
 returns-2 c =
@@ -77,11 +60,9 @@ returns-2 c =
     let e : 2 ≡ kindFor (c .before .before .before .before .before .difference .result .length) = sym (ap kindNumber (c .before .enum-told2 .given .1)) ∙ c .before .before .before .kind-for .ensures in
     compares-kept (a .base .now) (a .page .now) (zeros 504) (c .before .before .before .before .before .difference .last .1 .1 .0) (a .payload .now) (c .before .before .before .before .before .difference .result) (toZ w32 (ofZ w32 (c .before .before .before .before .before .difference .result .last))) (c .before .before .before .before .before .before .before .before .before .before .pre .0) (toZ-ofZ w32 (c .before .before .before .before .before .difference .result .last) (record { sfits = c .struct-told2 .given .1 .1 .0 .1 })) (c .before .before .before .before .before .difference .ensures) Full e (λ q. omega arith)
 
--- src/lib.rt:99:1
 same-length : tie.Need-same-length
 same-length c = search needs
 
--- src/lib.rt:99:1
 returns-3 : tie.Need-returns-3
 unfolding zeros part
 returns-3 c =

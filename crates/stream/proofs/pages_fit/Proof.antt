@@ -4,22 +4,17 @@ use Rattle.stream.specs.Laws.{fits-other, fits-none, fits-some}
 use borrow.Author.Needs.{needs}
 use Rattle.stream.proofs.pages_fit.Statement.{statement}
 use Rattle.stream.proofs.pages_fit.Tie as tie
-use Rattle.stream.proofs.pages_fit.Reads as reads
-use Rattle.stream.proofs.pages_fit.Lts as lts
 
--- src/lib.rt:74:9
 returns : tie.Need-returns
 returns c =
     let a = c .before .args in
     sym (fits-other pageSize (a .base .now) (a .page .now) (c .if1 .taken))
 
--- src/lib.rt:77:9
 returns-2 : tie.Need-returns-2
 returns-2 c =
     let a = c .before .before .args in
     sym (fits-none pageSize (a .base .now) (a .page .now) (c .before .if1 .left) (c .if2 .taken))
 
--- src/lib.rt:70:1
 returns-3 : tie.Need-returns-3
 returns-3 c =
     let a = c .before .before .args in

@@ -9,27 +9,19 @@ use Rattle.span.specs.Bytes.{part}
 use borrow.Author.Needs.{needs}
 use Rattle.stream.proofs.encode.difference.Statement.{statement}
 use Rattle.stream.proofs.encode.difference.Tie as tie
-use Rattle.stream.proofs.encode.difference.Reads as reads
-use Rattle.stream.proofs.encode.difference.Lts as lts
-use Rattle.span.proofs.part.Reads as part-reads
-use Rattle.stream.proofs.encode.encode.Reads as encode-reads
 
--- src/encode.rt:76:18
 part-requires : tie.Need-part-requires
 part-requires c κs = search needs
 
--- src/encode.rt:76:5
 encode-requires : tie.Need-encode-requires
 encode-requires c κs =
     let a = c .before .before .before .before .before .args in
     let e : length (c .before .part .result .now) ≡ length (part 0 65536 (a .page .now)) = ap (λ (l : List ℕ). length l) (c .before .part .ensures) in
     omega (arith, part-short 0 65536 (a .page .now))
 
--- src/encode.rt:73:1
 same-length : tie.Need-same-length
 same-length c = search needs
 
--- src/encode.rt:73:1
 returns : tie.Need-returns
 returns c =
     let a = c .before .before .before .before .before .before .before .before .args in

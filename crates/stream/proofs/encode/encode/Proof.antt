@@ -6,11 +6,6 @@ use Rattle.stream.proofs.Writing.{at-on, Written, written-none, written
 use borrow.Author.Needs.{needs}
 use Rattle.stream.proofs.encode.encode.Statement.{statement}
 use Rattle.stream.proofs.encode.encode.Tie as tie
-use Rattle.stream.proofs.encode.encode.Reads as reads
-use Rattle.stream.proofs.encode.encode.Lts as lts
-use Rattle.span.proofs.next_diff.Reads as next-diff-reads
-use Rattle.stream.proofs.encode.found.Reads as found-reads
-use Rattle.stream.proofs.encode.put_entry.Reads as put-entry-reads
 
 abbrev Inv-loop : tie.InvT-loop
 Inv-loop base page room₀ next₀ used₀ entries₀ room next used entries = Written base page room₀ room next used entries
@@ -18,59 +13,50 @@ Inv-loop base page room₀ next₀ used₀ entries₀ room next used entries = W
 abbrev μ-loop : tie.MeasureT-loop
 μ-loop base page room₀ next₀ used₀ entries₀ room next used entries = length page - next
 
--- src/encode.rt:58:5
 loop-holds : tie.Need-loop-holds Inv-loop μ-loop
 loop-holds c =
     let a = c .before .before .before .args in
     written-none (a .base .now) (a .page .now) (a .room .now)
 
--- src/encode.rt:59:13
 next-diff-requires : tie.Need-next-diff-requires Inv-loop μ-loop
 next-diff-requires c κs = search needs
 
--- src/encode.rt:61:13
 found-requires : tie.Need-found-requires Inv-loop μ-loop
 found-requires c κs =
     let a = c .before .before .before .before .before .before .args in
     let l = c .before .before .loop in
     omega (arith, c .before .before .before .before .before .before .pre, l .inv .on)
 
--- src/encode.rt:61:13
 same-length : tie.Need-same-length Inv-loop μ-loop
 same-length c =
     let a = c .before .before .before .before .before .before .before .args in
     let l = c .before .before .before .loop in
     l .inv .kept
 
--- src/encode.rt:61:13
 returns : tie.Need-returns Inv-loop μ-loop
 returns c =
     let a = c .before .before .before .before .before .before .before .args in
     let l = c .before .before .before .loop in
     written-all (a .base .now) (a .page .now) (a .room .now) (l .room) (l .next) (l .used) (l .entries) (c .before .before .next-diff .result) (l .inv) (c .before .before .next-diff .ensures) (c .found .result) (inl (c .before .if1 .taken)) (c .found .ensures)
 
--- src/encode.rt:64:13
 found-requires-2 : tie.Need-found-requires-2 Inv-loop μ-loop
 found-requires-2 c κs =
     let a = c .before .before .before .before .before .before .before .args in
     let l = c .before .before .before .loop in
     omega (arith, c .before .before .before .before .before .before .before .pre, l .inv .on)
 
--- src/encode.rt:64:13
 same-length-2 : tie.Need-same-length-2 Inv-loop μ-loop
 same-length-2 c =
     let a = c .before .before .before .before .before .before .before .before .args in
     let l = c .before .before .before .before .loop in
     l .inv .kept
 
--- src/encode.rt:64:13
 returns-2 : tie.Need-returns-2 Inv-loop μ-loop
 returns-2 c =
     let a = c .before .before .before .before .before .before .before .before .args in
     let l = c .before .before .before .before .loop in
     written-all (a .base .now) (a .page .now) (a .room .now) (l .room) (l .next) (l .used) (l .entries) (c .before .before .before .next-diff .result) (l .inv) (c .before .before .before .next-diff .ensures) (c .found2 .result) (inr (c .before .if2 .taken)) (c .found2 .ensures)
 
--- src/encode.rt:66:38
 sub-put-entry : tie.Need-sub-put-entry Inv-loop μ-loop
 sub-put-entry c =
     let a = c .before .before .before .before .before .before .before .before .args in
@@ -78,32 +64,27 @@ sub-put-entry c =
     let o : l .next ≤ c .before .before .before .next-diff .result = at-on (a .base .now) (a .page .now) (l .next) (c .before .before .before .next-diff .result) (c .before .before .before .next-diff .ensures) (l .inv .on) in
     omega arith
 
--- src/encode.rt:66:49
 shared-slice-read-put-entry : tie.Need-shared-slice-read-put-entry Inv-loop μ-loop
 shared-slice-read-put-entry c = search needs
 
--- src/encode.rt:66:9
 put-entry-requires : tie.Need-put-entry-requires Inv-loop μ-loop
 put-entry-requires c κs =
     let a = c .before .before .before .before .before .before .before .before .before .args in
     let l = c .before .before .before .before .before .loop in
     omega (arith, l .inv .short, l .inv .on, c .before .before .before .before .before .before .before .before .before .pre)
 
--- src/encode.rt:67:9
 add-entries : tie.Need-add-entries Inv-loop μ-loop
 add-entries c =
     let a = c .before .before .before .before .before .before .before .before .before .before .before .before .args in
     let l = c .before .before .before .before .before .before .before .before .loop in
     omega (arith, l .inv .few, l .inv .on, c .before .before .before .before .before .before .before .before .before .before .before .before .pre)
 
--- src/encode.rt:68:16
 add-next : tie.Need-add-next Inv-loop μ-loop
 add-next c =
     let a = c .before .before .before .before .before .before .before .before .before .before .before .before .args in
     let l = c .before .before .before .before .before .before .before .before .loop in
     omega (arith, c .before .before .before .before .before .if2 .left, c .before .before .before .before .before .before .before .before .before .before .before .before .pre)
 
--- src/encode.rt:58:5
 loop-less : tie.Need-loop-less Inv-loop μ-loop
 loop-less c =
     let a = c .before .before .before .before .before .before .before .before .before .before .before .before .args in
@@ -111,7 +92,6 @@ loop-less c =
     let o : l .next ≤ c .before .before .before .before .before .before .before .next-diff .result = at-on (a .base .now) (a .page .now) (l .next) (c .before .before .before .before .before .before .before .next-diff .result) (c .before .before .before .before .before .before .before .next-diff .ensures) (l .inv .on) in
     omega (arith, c .before .before .before .before .before .if2 .left)
 
--- src/encode.rt:58:5
 loop-again : tie.Need-loop-again Inv-loop μ-loop
 loop-again c =
     let a = c .before .before .before .before .before .before .before .before .before .before .before .before .args in

@@ -7,26 +7,20 @@ use Rattle.stream.proofs.Writing.{before-read, before-fits}
 use borrow.Author.Needs.{needs}
 use Rattle.stream.proofs.encode.found.Statement.{statement}
 use Rattle.stream.proofs.encode.found.Tie as tie
-use Rattle.stream.proofs.encode.found.Reads as reads
-use Rattle.stream.proofs.encode.found.Lts as lts
 
--- src/encode.rt:46:16
 cast-t4 : tie.Need-cast-t4
 cast-t4 c = search needs
 
--- src/encode.rt:46:15
 sub-t5 : tie.Need-sub-t5
 sub-t5 c =
     rw (before-read (c .args .next) (c .pre)) (before-fits (c .args .next) (c .pre))
 
--- src/encode.rt:39:1
 returns : tie.Need-returns
-returns c =
-    (
-      refl,
-      refl,
-      toZ-ofZ w32 (toZ w32 (c .args .next) -ℤ pos 1) (sub-t5 c) ∙ before-read (c .args .next) (c .pre),
-    )
+returns c = (
+  refl,
+  refl,
+  toZ-ofZ w32 (toZ w32 (c .args .next) -ℤ pos 1) (sub-t5 c) ∙ before-read (c .args .next) (c .pre),
+)
 
 pub found-spec : {M : Type 1} → statement M
 found-spec = tie.close (tie.spec cast-t4 sub-t5 returns)

@@ -3,22 +3,16 @@ use lib.Seq.{set-out}
 use borrow.Author.Needs.{needs}
 use Rattle.stream.proofs.encode.put.Statement.{statement}
 use Rattle.stream.proofs.encode.put.Tie as tie
-use Rattle.stream.proofs.encode.put.Reads as reads
-use Rattle.stream.proofs.encode.put.Lts as lts
 
--- src/encode.rt:17:9
 slice-write-room : tie.Need-slice-write-room
 slice-write-room c = search needs
 
--- src/encode.rt:13:1
 same-length : tie.Need-same-length
 same-length c = search needs
 
--- src/encode.rt:13:1
 returns : tie.Need-returns
 returns c = search needs
 
--- src/encode.rt:13:1
 returns-2 : tie.Need-returns-2
 returns-2 c =
     let a = c .before .args in

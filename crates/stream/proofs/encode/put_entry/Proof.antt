@@ -3,89 +3,66 @@ use Rattle.stream.proofs.Writing.{put-short, put-long}
 use borrow.Author.Needs.{needs}
 use Rattle.stream.proofs.encode.put_entry.Statement.{statement}
 use Rattle.stream.proofs.encode.put_entry.Tie as tie
-use Rattle.stream.proofs.encode.put_entry.Reads as reads
-use Rattle.stream.proofs.encode.put_entry.Lts as lts
-use Rattle.stream.proofs.encode.put.Reads as put-reads
 
--- src/encode.rt:26:15
 cast-if1 : tie.Need-cast-if1
 cast-if1 c = search needs
 
--- src/encode.rt:27:25
 cast-put : tie.Need-cast-put
 cast-put c = search needs
 
--- src/encode.rt:27:9
 put-requires : tie.Need-put-requires
 put-requires c κs = search needs
 
--- src/encode.rt:28:19
 add-put : tie.Need-add-put
 add-put c = search needs
 
--- src/encode.rt:28:9
 put-requires-2 : tie.Need-put-requires-2
 put-requires-2 c κs = search needs
 
--- src/encode.rt:29:16
 add-result : tie.Need-add-result
 add-result c = search needs
 
--- src/encode.rt:29:9
 same-length : tie.Need-same-length
 same-length c = search needs
 
--- src/encode.rt:29:9
 returns : tie.Need-returns
 returns c =
     let a = c .before .before .before .before .before .before .before .before .before .before .args in
     put-short (a .room .now) (c .before .before .before .before .before .before .put .last .0) (c .before .before .put2 .last .0) (a .used) (a .jump) (a .value) (omega arith) (c .before .before .before .before .before .before .put .ensures) (c .before .before .put2 .ensures)
 
--- src/encode.rt:31:5
 put-requires-3 : tie.Need-put-requires-3
 put-requires-3 c κs = search needs
 
--- src/encode.rt:32:15
 add-put-2 : tie.Need-add-put-2
 add-put-2 c = search needs
 
--- src/encode.rt:32:25
 cast-put-2 : tie.Need-cast-put-2
 cast-put-2 c = search needs
 
--- src/encode.rt:32:5
 put-requires-4 : tie.Need-put-requires-4
 put-requires-4 c κs = search needs
 
--- src/encode.rt:33:15
 add-put-3 : tie.Need-add-put-3
 add-put-3 c = search needs
 
--- src/encode.rt:33:25
 cast-put-3 : tie.Need-cast-put-3
 cast-put-3 c = search needs
 
--- src/encode.rt:33:5
 put-requires-5 : tie.Need-put-requires-5
 put-requires-5 c κs = search needs
 
--- src/encode.rt:34:15
 add-put-4 : tie.Need-add-put-4
 add-put-4 c = search needs
 
--- src/encode.rt:34:5
 put-requires-6 : tie.Need-put-requires-6
 put-requires-6 c κs = search needs
 
--- src/encode.rt:35:5
 add-result-2 : tie.Need-add-result-2
 add-result-2 c = search needs
 
--- src/encode.rt:22:1
 same-length-2 : tie.Need-same-length-2
 same-length-2 c = search needs
 
--- src/encode.rt:22:1
 returns-2 : tie.Need-returns-2
 returns-2 c =
     let a = c .before .before .before .before .before .before .before .before .before .before .before .before .before .before .before .before .before .before .args in

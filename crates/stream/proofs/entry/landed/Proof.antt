@@ -10,30 +10,23 @@ use Rattle.stream.specs.Steps.{reach}
 use borrow.Author.Needs.{needs}
 use Rattle.stream.proofs.entry.landed.Statement.{statement}
 use Rattle.stream.proofs.entry.landed.Tie as tie
-use Rattle.stream.proofs.entry.landed.Reads as reads
-use Rattle.stream.proofs.entry.landed.Lts as lts
-use Rattle.stream.proofs.entry.moved.Reads as moved-reads
 
--- src/entry.rt:24:30
 add-moved : tie.Need-add-moved
 add-moved c = search needs
 
--- src/entry.rt:24:9
 moved-requires : tie.Need-moved-requires
 moved-requires c κs = search needs
 
--- src/entry.rt:26:9
 returns : tie.Need-returns
 returns c =
     let a = c .before .before .args in
     let q : ℤ = c .before .moved .result in
     let e : toZ w64 (ofZ w64 q) ≡ a .position +ℤ pos (a .jump + 1) =
-        toZ-ofZ w64 q (record { sfits = c .before .moved .ok })
-        ∙ c .before .moved .ensures
-        ∙ ap (λ (z : ℤ). z +ℤ pos (a .jump + 1)) (toZ-ofZ w32 (a .position) (c .before .before .fits .position)) in
+    toZ-ofZ w64 q (record { sfits = c .before .moved .ok })
+    ∙ c .before .moved .ensures
+    ∙ ap (λ (z : ℤ). z +ℤ pos (a .jump + 1)) (toZ-ofZ w32 (a .position) (c .before .before .fits .position)) in
     below (reach (a .size)) (toZ w64 (ofZ w64 q)) (a .position +ℤ pos (a .jump + 1)) (a .value) (a .next) e (c .if1 .taken)
 
--- src/entry.rt:28:14
 cast-at : tie.Need-cast-at
 cast-at c =
     let q : ℤ = c .before .moved .result in
@@ -41,42 +34,38 @@ cast-at c =
     let f : SFits w64 q = record { sfits = c .before .moved .ok } in
     (not-below r (c .if1 .left), read-fits r (c .if1 .left) q (toZ-ofZ w64 q f) f)
 
--- src/entry.rt:30:9
 returns-2 : tie.Need-returns-2
 returns-2 c =
     let a = c .before .before .before .args in
     let q : ℤ = c .before .before .moved .result in
     let e : toZ w64 (ofZ w64 q) ≡ a .position +ℤ pos (a .jump + 1) =
-        toZ-ofZ w64 q (record { sfits = c .before .before .moved .ok })
-        ∙ c .before .before .moved .ensures
-        ∙ ap (λ (z : ℤ). z +ℤ pos (a .jump + 1)) (toZ-ofZ w32 (a .position) (c .before .before .before .fits .position)) in
+    toZ-ofZ w64 q (record { sfits = c .before .before .moved .ok })
+    ∙ c .before .before .moved .ensures
+    ∙ ap (λ (z : ℤ). z +ℤ pos (a .jump + 1)) (toZ-ofZ w32 (a .position) (c .before .before .before .fits .position)) in
     beyond (reach (a .size)) (toZ w64 (ofZ w64 q)) (a .position +ℤ pos (a .jump + 1)) (a .value) (a .next) e (omega arith)
 
--- src/entry.rt:33:9
 returns-3 : tie.Need-returns-3
 returns-3 c =
     let a = c .before .before .before .before .args in
     let q : ℤ = c .before .before .before .moved .result in
     let e : toZ w64 (ofZ w64 q) ≡ a .position +ℤ pos (a .jump + 1) =
-        toZ-ofZ w64 q (record { sfits = c .before .before .before .moved .ok })
-        ∙ c .before .before .before .moved .ensures
-        ∙ ap (λ (z : ℤ). z +ℤ pos (a .jump + 1)) (toZ-ofZ w32 (a .position) (c .before .before .before .before .fits .position)) in
+    toZ-ofZ w64 q (record { sfits = c .before .before .before .moved .ok })
+    ∙ c .before .before .before .moved .ensures
+    ∙ ap (λ (z : ℤ). z +ℤ pos (a .jump + 1)) (toZ-ofZ w32 (a .position) (c .before .before .before .before .fits .position)) in
     beyond (reach (a .size)) (toZ w64 (ofZ w64 q)) (a .position +ℤ pos (a .jump + 1)) (a .value) (a .next) e (omega arith)
 
--- src/entry.rt:36:19
 cast-t10 : tie.Need-cast-t10
 cast-t10 c =
     place-fits (toZ w64 (ofZ w64 (c .before .before .before .moved .result))) (c .before .before .if1 .left) (omega arith)
 
--- src/entry.rt:20:1
 returns-4 : tie.Need-returns-4
 returns-4 c =
     let a = c .before .before .before .before .args in
     let q : ℤ = c .before .before .before .moved .result in
     let e : toZ w64 (ofZ w64 q) ≡ a .position +ℤ pos (a .jump + 1) =
-        toZ-ofZ w64 q (record { sfits = c .before .before .before .moved .ok })
-        ∙ c .before .before .before .moved .ensures
-        ∙ ap (λ (z : ℤ). z +ℤ pos (a .jump + 1)) (toZ-ofZ w32 (a .position) (c .before .before .before .before .fits .position)) in
+    toZ-ofZ w64 q (record { sfits = c .before .before .before .moved .ok })
+    ∙ c .before .before .before .moved .ensures
+    ∙ ap (λ (z : ℤ). z +ℤ pos (a .jump + 1)) (toZ-ofZ w32 (a .position) (c .before .before .before .before .fits .position)) in
     landed-in (toZ w64 (ofZ w64 q)) (c .before .before .if1 .left) (reach (a .size)) (a .position +ℤ pos (a .jump + 1)) (a .value) (a .next) e (omega arith) (omega arith)
 
 pub landed-spec : {M : Type 1} → statement M

@@ -6,25 +6,19 @@ use Rattle.stream.proofs.Signed.{widens, sum-read, moved-fits}
 use borrow.Author.Needs.{needs}
 use Rattle.stream.proofs.entry.moved.Statement.{statement}
 use Rattle.stream.proofs.entry.moved.Tie as tie
-use Rattle.stream.proofs.entry.moved.Reads as reads
-use Rattle.stream.proofs.entry.moved.Lts as lts
 
--- src/entry.rt:16:6
 cast-result : tie.Need-cast-result
 cast-result c =
     widens (c .args .position) (c .fits .position)
 
--- src/entry.rt:16:26
 cast-result-2 : tie.Need-cast-result-2
 cast-result-2 c = search needs
 
--- src/entry.rt:16:5
 add-result : tie.Need-add-result
 add-result c =
     let f : c .args .by < 2 ^ 32 = c .fits .by .fits in
     rw (sum-read (c .args .position) (c .args .by) (c .fits .position) f) (moved-fits (c .args .position) (c .args .by) (c .fits .position) f)
 
--- src/entry.rt:13:1
 returns : tie.Need-returns
 returns c =
     let f : c .args .by < 2 ^ 32 = c .fits .by .fits in

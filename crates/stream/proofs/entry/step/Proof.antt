@@ -11,55 +11,42 @@ use Rattle.stream.proofs.Reading.{at-end, short-cut, long-cut, lands, s
 use borrow.Author.Needs.{needs}
 use Rattle.stream.proofs.entry.step.Statement.{statement}
 use Rattle.stream.proofs.entry.step.Tie as tie
-use Rattle.stream.proofs.entry.step.Reads as reads
-use Rattle.stream.proofs.entry.step.Lts as lts
-use Rattle.stream.proofs.entry.landed.Reads as landed-reads
 
--- src/entry.rt:47:9
 returns : tie.Need-returns
 returns c =
     let a = c .before .before .args in
     at-end (reach (a .size)) (a .position) (a .payload .now) (a .place) (c .if1 .taken)
 
--- src/entry.rt:49:16
 sub-left : tie.Need-sub-left
 sub-left c = search needs
 
--- src/entry.rt:50:17
 shared-slice-read-first : tie.Need-shared-slice-read-first
 shared-slice-read-first c = search needs
 
--- src/entry.rt:53:13
 returns-2 : tie.Need-returns-2
 returns-2 c =
     let a = c .before .before .before .before .before .args in
     inl (short-cut (reach (a .size)) (a .position) (a .payload .now) (a .place) (omega arith) (c .if3 .taken) (c .before .if2 .taken))
 
--- src/entry.rt:55:29
 add-value : tie.Need-add-value
 add-value c = search needs
 
--- src/entry.rt:55:21
 shared-slice-read-value : tie.Need-shared-slice-read-value
 shared-slice-read-value c = search needs
 
--- src/entry.rt:56:33
 cast-landed : tie.Need-cast-landed
 cast-landed c =
     let a = c .before .before .before .before .before .before .args in
     omega (arith, c .shared-slice-known3 .given (a .place))
 
--- src/entry.rt:56:54
 add-landed : tie.Need-add-landed
 add-landed c = search needs
 
--- src/entry.rt:56:9
 landed-requires : tie.Need-landed-requires
 landed-requires c κs =
     let a = c .before .before .before .before .before .before .args in
     omega (arith, c .shared-slice-known3 .given (a .place))
 
--- src/entry.rt:56:9
 returns-3 : tie.Need-returns-3
 returns-3 c =
     let a = c .before .before .before .before .before .before .before .args in
@@ -69,71 +56,57 @@ returns-3 c =
     (short-read (reach (a .size)) (a .position) (a .payload .now) (a .place) (omega arith) (c .before .before .before .if2 .taken))
     (c .landed .ensures)
 
--- src/entry.rt:59:9
 returns-4 : tie.Need-returns-4
 returns-4 c =
     let a = c .before .before .before .before .before .args in
     inl (long-cut (reach (a .size)) (a .position) (a .payload .now) (a .place) (omega arith) (c .if4 .taken) (c .before .if2 .left))
 
--- src/entry.rt:61:25
 add-jump : tie.Need-add-jump
 add-jump c = search needs
 
--- src/entry.rt:61:17
 shared-slice-read-jump : tie.Need-shared-slice-read-jump
 shared-slice-read-jump c = search needs
 
--- src/entry.rt:61:17
 cast-jump : tie.Need-cast-jump
 cast-jump c =
     let a = c .before .before .before .before .before .before .args in
     omega (arith, c .shared-slice-known4 .given (a .place + 1))
 
--- src/entry.rt:61:61
 add-jump-2 : tie.Need-add-jump-2
 add-jump-2 c = search needs
 
--- src/entry.rt:61:53
 shared-slice-read-jump-2 : tie.Need-shared-slice-read-jump-2
 shared-slice-read-jump-2 c = search needs
 
--- src/entry.rt:61:53
 cast-jump-2 : tie.Need-cast-jump-2
 cast-jump-2 c =
     let a = c .before .before .before .before .before .before .before .args in
     omega (arith, c .shared-slice-known5 .given (a .place + 2))
 
--- src/entry.rt:61:46
 mul-jump : tie.Need-mul-jump
 mul-jump c =
     let a = c .before .before .before .before .before .before .before .args in
     omega (arith, c .shared-slice-known5 .given (a .place + 2))
 
--- src/entry.rt:61:16
 add-jump-3 : tie.Need-add-jump-3
 add-jump-3 c =
     let a = c .before .before .before .before .before .before .before .args in
     omega (arith, c .shared-slice-known5 .given (a .place + 1), c .shared-slice-known5 .given (a .place + 2))
 
--- src/entry.rt:62:25
 add-value-2 : tie.Need-add-value-2
 add-value-2 c = search needs
 
--- src/entry.rt:62:17
 shared-slice-read-value-2 : tie.Need-shared-slice-read-value-2
 shared-slice-read-value-2 c = search needs
 
--- src/entry.rt:63:35
 add-landed-2 : tie.Need-add-landed-2
 add-landed-2 c = search needs
 
--- src/entry.rt:63:5
 landed-requires-2 : tie.Need-landed-requires-2
 landed-requires-2 c κs =
     let a = c .before .before .before .before .before .before .before .before .args in
     omega (arith, c .shared-slice-known6 .given (a .place + 1), c .shared-slice-known6 .given (a .place + 2))
 
--- src/entry.rt:43:1
 returns-5 : tie.Need-returns-5
 returns-5 c =
     let a = c .before .before .before .before .before .before .before .before .before .args in

@@ -13,9 +13,6 @@ use Rattle.stream.proofs.Turns.{told, place-back, Passed, passed-none, 
 use borrow.Author.Needs.{needs}
 use Rattle.stream.proofs.payload.check.Statement.{statement}
 use Rattle.stream.proofs.payload.check.Tie as tie
-use Rattle.stream.proofs.payload.check.Reads as reads
-use Rattle.stream.proofs.payload.check.Lts as lts
-use Rattle.stream.proofs.entry.step.Reads as step-reads
 
 abbrev Inv-loop : tie.InvT-loop
 Inv-loop payload size place₀ position₀ entries₀ place position entries = Passed (reach size) payload place (toZ w32 position) entries
@@ -23,78 +20,66 @@ Inv-loop payload size place₀ position₀ entries₀ place position entries = P
 abbrev μ-loop : tie.MeasureT-loop
 μ-loop payload size place₀ position₀ entries₀ place position entries = length payload - place
 
--- src/payload.rt:17:9
 returns : tie.Need-returns Inv-loop μ-loop
 returns c =
     let a = c .before .before .args in
     unsound-empty (reach (a .size)) (a .payload .now) (c .if1 .taken)
 
--- src/payload.rt:20:9
 returns-2 : tie.Need-returns-2 Inv-loop μ-loop
 returns-2 c =
     let a = c .before .before .before .args in
     unsound-long (reach (a .size)) (a .payload .now) (c .if2 .taken)
 
--- src/payload.rt:25:5
 loop-holds : tie.Need-loop-holds Inv-loop μ-loop
 loop-holds c =
     let a = c .before .before .before .args in
     passed-none (reach (a .size)) (a .payload .now)
 
--- src/payload.rt:26:15
 step-requires : tie.Need-step-requires Inv-loop μ-loop
 step-requires c κs = search needs
 
--- src/payload.rt:28:17
 enum-told : tie.Need-enum-told Inv-loop μ-loop
 enum-told c = search needs
 
--- src/payload.rt:28:17
 returns-3 : tie.Need-returns-3 Inv-loop μ-loop
 returns-3 c =
     let a = c .before .before .before .before .before .before .before .args in
     let l = c .before .before .before .loop in
     let f : Follows (reach (a .size)) (a .payload .now) (l .place) (stream (reach (a .size)) (toZ w32 (l .position)) code (drop (l .place) (a .payload .now))) End =
-        told (reach (a .size)) (a .payload .now) (l .place) (stream (reach (a .size)) (toZ w32 (l .position)) code (drop (l .place) (a .payload .now))) (c .before .before .step .result) End (c .enum-told .given .1) (c .before .before .step .ensures) in
+    told (reach (a .size)) (a .payload .now) (l .place) (stream (reach (a .size)) (toZ w32 (l .position)) code (drop (l .place) (a .payload .now))) (c .before .before .step .result) End (c .enum-told .given .1) (c .before .before .step .ensures) in
     passed-all (reach (a .size)) (a .payload .now) (l .place) (toZ w32 (l .position)) (l .entries) (l .inv) (omega arith) (omega arith) f
 
--- src/payload.rt:34:17
 enum-told-2 : tie.Need-enum-told-2 Inv-loop μ-loop
 enum-told-2 c = search needs
 
--- src/payload.rt:34:17
 returns-4 : tie.Need-returns-4 Inv-loop μ-loop
 returns-4 c =
     let a = c .before .before .before .before .before .before .before .args in
     let l = c .before .before .before .loop in
     let f : Follows (reach (a .size)) (a .payload .now) (l .place) (stream (reach (a .size)) (toZ w32 (l .position)) code (drop (l .place) (a .payload .now))) Broken =
-        told (reach (a .size)) (a .payload .now) (l .place) (stream (reach (a .size)) (toZ w32 (l .position)) code (drop (l .place) (a .payload .now))) (c .before .before .step .result) Broken (c .enum-told2 .given .1) (c .before .before .step .ensures) in
+    told (reach (a .size)) (a .payload .now) (l .place) (stream (reach (a .size)) (toZ w32 (l .position)) code (drop (l .place) (a .payload .now))) (c .before .before .step .result) Broken (c .enum-told2 .given .1) (c .before .before .step .ensures) in
     passed-broken (reach (a .size)) (a .payload .now) (l .place) (toZ w32 (l .position)) (l .entries) (l .inv) f
 
--- src/payload.rt:36:37
 enum-known-at : tie.Need-enum-known-at Inv-loop μ-loop
 enum-known-at c = search needs
 
--- src/payload.rt:39:17
 add-entries : tie.Need-add-entries Inv-loop μ-loop
 add-entries c = search needs
 
--- src/payload.rt:25:5
 loop-less : tie.Need-loop-less Inv-loop μ-loop
 loop-less c =
     let a = c .before .before .before .before .before .before .before .before .args in
     let l = c .before .before .before .before .loop in
     let f : Follows (reach (a .size)) (a .payload .now) (l .place) (stream (reach (a .size)) (toZ w32 (l .position)) code (drop (l .place) (a .payload .now))) (Entry (c .before .at .given .0 .0) (c .before .at .given .0 .1 .0) (c .before .at .given .0 .1 .1 .0)) =
-        told (reach (a .size)) (a .payload .now) (l .place) (stream (reach (a .size)) (toZ w32 (l .position)) code (drop (l .place) (a .payload .now))) (c .before .before .before .step .result) (Entry (c .before .at .given .0 .0) (c .before .at .given .0 .1 .0) (c .before .at .given .0 .1 .1 .0)) (c .before .at .given .1) (c .before .before .before .step .ensures) in
+    told (reach (a .size)) (a .payload .now) (l .place) (stream (reach (a .size)) (toZ w32 (l .position)) code (drop (l .place) (a .payload .now))) (c .before .before .before .step .result) (Entry (c .before .at .given .0 .0) (c .before .at .given .0 .1 .0) (c .before .at .given .0 .1 .1 .0)) (c .before .at .given .1) (c .before .before .before .step .ensures) in
     omega (arith, f .on, f .within)
 
--- src/payload.rt:25:5
 loop-again : tie.Need-loop-again Inv-loop μ-loop
 loop-again c =
     let a = c .before .before .before .before .before .before .before .before .args in
     let l = c .before .before .before .before .loop in
     let f : Follows (reach (a .size)) (a .payload .now) (l .place) (stream (reach (a .size)) (toZ w32 (l .position)) code (drop (l .place) (a .payload .now))) (Entry (c .before .at .given .0 .0) (c .before .at .given .0 .1 .0) (c .before .at .given .0 .1 .1 .0)) =
-        told (reach (a .size)) (a .payload .now) (l .place) (stream (reach (a .size)) (toZ w32 (l .position)) code (drop (l .place) (a .payload .now))) (c .before .before .before .step .result) (Entry (c .before .at .given .0 .0) (c .before .at .given .0 .1 .0) (c .before .at .given .0 .1 .1 .0)) (c .before .at .given .1) (c .before .before .before .step .ensures) in
+    told (reach (a .size)) (a .payload .now) (l .place) (stream (reach (a .size)) (toZ w32 (l .position)) code (drop (l .place) (a .payload .now))) (c .before .before .before .step .result) (Entry (c .before .at .given .0 .0) (c .before .at .given .0 .1 .0) (c .before .at .given .0 .1 .1 .0)) (c .before .at .given .1) (c .before .before .before .step .ensures) in
     let q : ℤ = c .before .at .given .0 .0 in
     passed-more (reach (a .size)) (a .payload .now) (l .place) (toZ w32 (l .position)) (l .entries) (l .inv) q (toZ w32 (ofZ w32 q)) (c .before .at .given .0 .1 .0) (c .before .at .given .0 .1 .1 .0) (place-back (reach (a .size)) q (omega arith) (f .lands)) f
 

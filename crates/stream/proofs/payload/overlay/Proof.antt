@@ -13,9 +13,6 @@ use Rattle.stream.proofs.Turns.{told, place-back, Laid, laid-none, laid
 use borrow.Author.Needs.{needs}
 use Rattle.stream.proofs.payload.overlay.Statement.{statement}
 use Rattle.stream.proofs.payload.overlay.Tie as tie
-use Rattle.stream.proofs.payload.overlay.Reads as reads
-use Rattle.stream.proofs.payload.overlay.Lts as lts
-use Rattle.stream.proofs.entry.step.Reads as step-reads
 
 abbrev Inv-loop : tie.InvT-loop
 Inv-loop page₀ payload size place₀ position₀ page place position = (size ≡ length page₀) × Laid (reach (length page₀)) page₀ payload page place (toZ w32 position)
@@ -23,88 +20,75 @@ Inv-loop page₀ payload size place₀ position₀ page place position = (size �
 abbrev μ-loop : tie.MeasureT-loop
 μ-loop page₀ payload size place₀ position₀ page place position = length payload - place
 
--- src/payload.rt:52:5
 loop-holds : tie.Need-loop-holds Inv-loop μ-loop
 loop-holds c =
     let a = c .before .before .args in
     (refl, laid-none (reach (length (a .page .now))) (a .page .now) (a .payload .now))
 
--- src/payload.rt:53:15
 step-requires : tie.Need-step-requires Inv-loop μ-loop
 step-requires c κs = search needs
 
--- src/payload.rt:55:17
 enum-told : tie.Need-enum-told Inv-loop μ-loop
 enum-told c = search needs
 
--- src/payload.rt:55:17
 same-length : tie.Need-same-length Inv-loop μ-loop
 same-length c = search needs
 
--- src/payload.rt:55:17
 returns : tie.Need-returns Inv-loop μ-loop
 returns c =
     let a = c .before .before .before .before .before .before .args in
     let l = c .before .before .before .loop in
     let f : Follows (reach (length (a .page .now))) (a .payload .now) (l .place) (stream (reach (length (a .page .now))) (toZ w32 (l .position)) code (drop (l .place) (a .payload .now))) (End) =
-        told (reach (length (a .page .now))) (a .payload .now) (l .place) (stream (reach (length (a .page .now))) (toZ w32 (l .position)) code (drop (l .place) (a .payload .now))) (c .before .before .step .result) (End) (c .enum-told .given .1) (c .before .before .step .ensures) in
+    told (reach (length (a .page .now))) (a .payload .now) (l .place) (stream (reach (length (a .page .now))) (toZ w32 (l .position)) code (drop (l .place) (a .payload .now))) (c .before .before .step .result) (End) (c .enum-told .given .1) (c .before .before .step .ensures) in
     laid-all (reach (length (a .page .now))) (a .page .now) (a .payload .now) (l .page) (l .place) (toZ w32 (l .position)) (l .inv .1) f
 
--- src/payload.rt:58:17
 enum-told-2 : tie.Need-enum-told-2 Inv-loop μ-loop
 enum-told-2 c = search needs
 
--- src/payload.rt:58:17
 same-length-2 : tie.Need-same-length-2 Inv-loop μ-loop
 same-length-2 c = search needs
 
--- src/payload.rt:58:17
 returns-2 : tie.Need-returns-2 Inv-loop μ-loop
 returns-2 c =
     let a = c .before .before .before .before .before .before .args in
     let l = c .before .before .before .loop in
     let f : Follows (reach (length (a .page .now))) (a .payload .now) (l .place) (stream (reach (length (a .page .now))) (toZ w32 (l .position)) code (drop (l .place) (a .payload .now))) (Broken) =
-        told (reach (length (a .page .now))) (a .payload .now) (l .place) (stream (reach (length (a .page .now))) (toZ w32 (l .position)) code (drop (l .place) (a .payload .now))) (c .before .before .step .result) (Broken) (c .enum-told2 .given .1) (c .before .before .step .ensures) in
+    told (reach (length (a .page .now))) (a .payload .now) (l .place) (stream (reach (length (a .page .now))) (toZ w32 (l .position)) code (drop (l .place) (a .payload .now))) (c .before .before .step .result) (Broken) (c .enum-told2 .given .1) (c .before .before .step .ensures) in
     laid-broken (reach (length (a .page .now))) (a .page .now) (a .payload .now) (l .page) (l .place) (toZ w32 (l .position)) (l .inv .1) f
 
--- src/payload.rt:60:37
 enum-known-at : tie.Need-enum-known-at Inv-loop μ-loop
 enum-known-at c = search needs
 
--- src/payload.rt:61:22
 cast-page : tie.Need-cast-page Inv-loop μ-loop
 cast-page c =
     let a = c .before .before .before .before .before .before .before .args in
     let l = c .before .before .before .before .loop in
     let f : Follows (reach (length (a .page .now))) (a .payload .now) (l .place) (stream (reach (length (a .page .now))) (toZ w32 (l .position)) code (drop (l .place) (a .payload .now))) (Entry (c .before .at .given .0 .0) (c .before .at .given .0 .1 .0) (c .before .at .given .0 .1 .1 .0)) =
-        told (reach (length (a .page .now))) (a .payload .now) (l .place) (stream (reach (length (a .page .now))) (toZ w32 (l .position)) code (drop (l .place) (a .payload .now))) (c .before .before .before .step .result) (Entry (c .before .at .given .0 .0) (c .before .at .given .0 .1 .0) (c .before .at .given .0 .1 .1 .0)) (c .before .at .given .1) (c .before .before .before .step .ensures) in
+    told (reach (length (a .page .now))) (a .payload .now) (l .place) (stream (reach (length (a .page .now))) (toZ w32 (l .position)) code (drop (l .place) (a .payload .now))) (c .before .before .before .step .result) (Entry (c .before .at .given .0 .0) (c .before .at .given .0 .1 .0) (c .before .at .given .0 .1 .1 .0)) (c .before .at .given .1) (c .before .before .before .step .ensures) in
     index-fits (reach (length (a .page .now))) (c .before .at .given .0 .0) (omega arith) (f .lands)
 
--- src/payload.rt:61:17
 slice-write-page : tie.Need-slice-write-page Inv-loop μ-loop
 slice-write-page c =
     let a = c .before .before .before .before .before .before .before .args in
     let l = c .before .before .before .before .loop in
     let f : Follows (reach (length (a .page .now))) (a .payload .now) (l .place) (stream (reach (length (a .page .now))) (toZ w32 (l .position)) code (drop (l .place) (a .payload .now))) (Entry (c .before .at .given .0 .0) (c .before .at .given .0 .1 .0) (c .before .at .given .0 .1 .1 .0)) =
-        told (reach (length (a .page .now))) (a .payload .now) (l .place) (stream (reach (length (a .page .now))) (toZ w32 (l .position)) code (drop (l .place) (a .payload .now))) (c .before .before .before .step .result) (Entry (c .before .at .given .0 .0) (c .before .at .given .0 .1 .0) (c .before .at .given .0 .1 .1 .0)) (c .before .at .given .1) (c .before .before .before .step .ensures) in
+    told (reach (length (a .page .now))) (a .payload .now) (l .place) (stream (reach (length (a .page .now))) (toZ w32 (l .position)) code (drop (l .place) (a .payload .now))) (c .before .before .before .step .result) (Entry (c .before .at .given .0 .0) (c .before .at .given .0 .1 .0) (c .before .at .given .0 .1 .1 .0)) (c .before .at .given .1) (c .before .before .before .step .ensures) in
     omega (arith, index-in (reach (length (a .page .now))) (c .before .at .given .0 .0) (omega arith) (f .lands), l .inv .1 .same)
 
--- src/payload.rt:52:5
 loop-less : tie.Need-loop-less Inv-loop μ-loop
 loop-less c =
     let a = c .before .before .before .before .before .before .before .args in
     let l = c .before .before .before .before .loop in
     let f : Follows (reach (length (a .page .now))) (a .payload .now) (l .place) (stream (reach (length (a .page .now))) (toZ w32 (l .position)) code (drop (l .place) (a .payload .now))) (Entry (c .before .at .given .0 .0) (c .before .at .given .0 .1 .0) (c .before .at .given .0 .1 .1 .0)) =
-        told (reach (length (a .page .now))) (a .payload .now) (l .place) (stream (reach (length (a .page .now))) (toZ w32 (l .position)) code (drop (l .place) (a .payload .now))) (c .before .before .before .step .result) (Entry (c .before .at .given .0 .0) (c .before .at .given .0 .1 .0) (c .before .at .given .0 .1 .1 .0)) (c .before .at .given .1) (c .before .before .before .step .ensures) in
+    told (reach (length (a .page .now))) (a .payload .now) (l .place) (stream (reach (length (a .page .now))) (toZ w32 (l .position)) code (drop (l .place) (a .payload .now))) (c .before .before .before .step .result) (Entry (c .before .at .given .0 .0) (c .before .at .given .0 .1 .0) (c .before .at .given .0 .1 .1 .0)) (c .before .at .given .1) (c .before .before .before .step .ensures) in
     omega (arith, f .on, f .within)
 
--- src/payload.rt:52:5
 loop-again : tie.Need-loop-again Inv-loop μ-loop
 loop-again c =
     let a = c .before .before .before .before .before .before .before .args in
     let l = c .before .before .before .before .loop in
     let f : Follows (reach (length (a .page .now))) (a .payload .now) (l .place) (stream (reach (length (a .page .now))) (toZ w32 (l .position)) code (drop (l .place) (a .payload .now))) (Entry (c .before .at .given .0 .0) (c .before .at .given .0 .1 .0) (c .before .at .given .0 .1 .1 .0)) =
-        told (reach (length (a .page .now))) (a .payload .now) (l .place) (stream (reach (length (a .page .now))) (toZ w32 (l .position)) code (drop (l .place) (a .payload .now))) (c .before .before .before .step .result) (Entry (c .before .at .given .0 .0) (c .before .at .given .0 .1 .0) (c .before .at .given .0 .1 .1 .0)) (c .before .at .given .1) (c .before .before .before .step .ensures) in
+    told (reach (length (a .page .now))) (a .payload .now) (l .place) (stream (reach (length (a .page .now))) (toZ w32 (l .position)) code (drop (l .place) (a .payload .now))) (c .before .before .before .step .result) (Entry (c .before .at .given .0 .0) (c .before .at .given .0 .1 .0) (c .before .at .given .0 .1 .1 .0)) (c .before .at .given .1) (c .before .before .before .step .ensures) in
     let q : ℤ = c .before .at .given .0 .0 in
     (l .inv .0, laid-more (reach (length (a .page .now))) (a .page .now) (a .payload .now) (l .page) (l .place) (toZ w32 (l .position)) (l .inv .1) q (toZ w32 (ofZ w32 q)) (c .before .at .given .0 .1 .0) (c .before .at .given .0 .1 .1 .0) (place-back (reach (length (a .page .now))) q (omega arith) (f .lands)) f)
 

@@ -1,0 +1,174 @@
+use Rattle.store.specs.Write.{WriteOutcome, writeOutcome, blockOutcome, write-frame, write-block, write-within, same-base-write}
+use Rattle.store.specs.Read.{zeros-base}
+use Rattle.store.specs.Frame.{frameRows, frame-told, Sound, sound-frame, places}
+use Rattle.span.specs.Bytes.{zeros}
+use Rattle.stream.specs.Laws.{base-none}
+use Rattle.stream.specs.Calls.{pageRows, pageOf}
+use Rattle.layout.specs.Areas.{blocksIn, patchFits, patch-fits-is, slot-within}
+use Rattle.layout.specs.Refusals.{firstOf}
+use Rattle.layout.specs.Numbers.{faultNumber, refusalNumber, refusal-some}
+use Rattle.layout.specs.Sizes.{pageSize, blocksAtMost}
+use lib.ListN.{length}
+use lib.Dec.{lit<}
+use mathlib.Core.Bool.{Bool, true, false}
+use mathlib.Core.List.{List, []}
+use mathlib.Core.Path.{_≡_, refl, sym, ap, _∙_}
+use native.Mathlib.Omega.{arith}
+use Prim.Native.Nat.{ℕ, _+_, _≤_, _<_}
+use borrow.Author.Needs.{needs}
+use Rattle.store.proofs.write.write.Statement.{statement}
+use Rattle.store.proofs.write.write.Tie as tie
+
+pages-fit-requires : tie.Need-pages-fit-requires
+pages-fit-requires c κs = search needs
+
+frame-fault-requires : tie.Need-frame-fault-requires
+frame-fault-requires c κs = search needs
+
+enum-known-r : tie.Need-enum-known-r
+enum-known-r c = search needs
+
+enum-told : tie.Need-enum-told
+enum-told c = search needs
+
+blocks-requires : tie.Need-blocks-requires
+blocks-requires c κs = search needs
+
+same-length : tie.Need-same-length
+same-length c = search needs
+
+same-length-2 : tie.Need-same-length-2
+same-length-2 c = search needs
+
+returns : tie.Need-returns
+returns c =
+    let a = c .before .before .before .before .before .before .before .before .before .before .before .before .args in
+    let f = c .before .before .before .before .frame-fault in
+    let none : firstOf (frameRows pageSize (pageRows pageSize (a .base .now) (a .page .now)) [] (a .patch .now) (a .full .now)) ≡ 0 =
+    frame-told pageSize (a .patch .now) (a .full .now) (a .base .now) (a .page .now) (c .before .before .before .before .before .before .before .pages-fit .result) 0 (c .before .before .before .before .before .before .before .pages-fit .ensures) (sym (ap faultNumber (c .before .before .enum-told .given .1)) ∙ f .ensures) in
+    let ok : Sound pageSize (a .patch .now) (a .full .now) (a .base .now) (a .page .now) = sound-frame pageSize (a .patch .now) (a .full .now) (a .base .now) (a .page .now) none in
+    let e : writeOutcome pageSize (a .patch .now) (a .full .now) (a .block) (a .base .now) (a .page .now) ≡ record { number = 5; kind = 0; length = 0; patch = a .patch .now; full = a .full .now } = write-block pageSize (a .patch .now) (a .full .now) (a .block) (a .base .now) (a .page .now) none (omega (arith, c .before .blocks2 .ensures, c .if1 .taken)) in
+    record { numbers = rw e; patch-bytes = rw e; full-bytes = rw e }
+
+cast-write-block : tie.Need-cast-write-block
+cast-write-block c =
+    let a = c .before .before .before .before .before .before .before .before .before .before .before .before .before .before .before .args in
+    let f = c .before .before .before .before .before .before .before .frame-fault in
+    let none : firstOf (frameRows pageSize (pageRows pageSize (a .base .now) (a .page .now)) [] (a .patch .now) (a .full .now)) ≡ 0 =
+    frame-told pageSize (a .patch .now) (a .full .now) (a .base .now) (a .page .now) (c .before .before .before .before .before .before .before .before .before .before .pages-fit .result) 0 (c .before .before .before .before .before .before .before .before .before .before .pages-fit .ensures) (sym (ap faultNumber (c .before .before .before .before .before .enum-told .given .1)) ∙ f .ensures) in
+    let ok : Sound pageSize (a .patch .now) (a .full .now) (a .base .now) (a .page .now) = sound-frame pageSize (a .patch .now) (a .full .now) (a .base .now) (a .page .now) none in
+    let most : blocksIn (length (a .patch .now)) ≤ blocksAtMost pageSize = patch-fits-is pageSize (length (a .patch .now)) (ok .patch-fit) .1 in
+    omega (arith, c .before .before .before .before .blocks2 .ensures, c .before .before .before .if1 .left)
+
+slice-aggregate-write-block : tie.Need-slice-aggregate-write-block
+slice-aggregate-write-block c = search needs
+
+write-block-requires : tie.Need-write-block-requires
+write-block-requires c κs =
+    let a = c .before .before .before .before .before .before .before .before .before .before .before .before .before .before .before .before .args in
+    let f = c .before .before .before .before .before .before .before .before .frame-fault in
+    let none : firstOf (frameRows pageSize (pageRows pageSize (a .base .now) (a .page .now)) [] (a .patch .now) (a .full .now)) ≡ 0 =
+    frame-told pageSize (a .patch .now) (a .full .now) (a .base .now) (a .page .now) (c .before .before .before .before .before .before .before .before .before .before .before .pages-fit .result) 0 (c .before .before .before .before .before .before .before .before .before .before .before .pages-fit .ensures) (sym (ap faultNumber (c .before .before .before .before .before .before .enum-told .given .1)) ∙ f .ensures) in
+    let ok : Sound pageSize (a .patch .now) (a .full .now) (a .base .now) (a .page .now) = sound-frame pageSize (a .patch .now) (a .full .now) (a .base .now) (a .page .now) none in
+    let below : a .block < blocksIn (length (a .patch .now)) = omega (arith, c .before .before .before .before .before .blocks2 .ensures, c .before .before .before .before .if1 .left) in
+    ((refl, ok .page-size), (slot-within pageSize (length (a .patch .now)) (a .block) (ok .patch-fit) below, places pageSize (blocksIn (length (a .patch .now))) (a .full .now) (lit< tt) (ok .full-fit)))
+
+same-length-3 : tie.Need-same-length-3
+same-length-3 c = search needs
+
+same-length-4 : tie.Need-same-length-4
+same-length-4 c = search needs
+
+returns-2 : tie.Need-returns-2
+unfolding zeros
+returns-2 c =
+    let a = c .before .before .before .before .before .before .before .before .before .before .before .before .before .before .before .before .before .before .before .before .before .args in
+    let f = c .before .before .before .before .before .before .before .before .before .before .before .before .before .frame-fault in
+    let none : firstOf (frameRows pageSize (pageRows pageSize (a .base .now) (a .page .now)) [] (a .patch .now) (a .full .now)) ≡ 0 =
+    frame-told pageSize (a .patch .now) (a .full .now) (a .base .now) (a .page .now) (c .before .before .before .before .before .before .before .before .before .before .before .before .before .before .before .before .pages-fit .result) 0 (c .before .before .before .before .before .before .before .before .before .before .before .before .before .before .before .before .pages-fit .ensures) (sym (ap faultNumber (c .before .before .before .before .before .before .before .before .before .before .before .enum-told .given .1)) ∙ f .ensures) in
+    let ok : Sound pageSize (a .patch .now) (a .full .now) (a .base .now) (a .page .now) = sound-frame pageSize (a .patch .now) (a .full .now) (a .base .now) (a .page .now) none in
+    let below : a .block < blocksIn (length (a .patch .now)) = omega (arith, c .before .before .before .before .before .before .before .before .before .before .blocks2 .ensures, c .before .before .before .before .before .before .before .before .before .if1 .left) in
+    let e : writeOutcome pageSize (a .patch .now) (a .full .now) (a .block) (a .base .now) (a .page .now) ≡ blockOutcome pageSize (a .patch .now) (a .full .now) (a .block) (zeros pageSize) (a .page .now) =
+    write-within pageSize (a .patch .now) (a .full .now) (a .block) (a .base .now) (a .page .now) none below
+    ∙ same-base-write pageSize (a .patch .now) (a .full .now) (a .block) (a .base .now) (zeros pageSize) (a .page .now) (base-none pageSize (a .base .now) (c .before .before .before .before .before .before .before .before .if2 .taken) ∙ sym (zeros-base pageSize)) in
+    let w = c .before .before .before .before .write-block .ensures in
+    record { numbers = rw e (w .numbers); patch-bytes = rw e (w .patch-bytes); full-bytes = rw e (w .full-bytes) }
+
+cast-write-block-2 : tie.Need-cast-write-block-2
+cast-write-block-2 c =
+    let a = c .before .before .before .before .before .before .before .before .before .before .before .before .before .before .before .args in
+    let f = c .before .before .before .before .before .before .before .frame-fault in
+    let none : firstOf (frameRows pageSize (pageRows pageSize (a .base .now) (a .page .now)) [] (a .patch .now) (a .full .now)) ≡ 0 =
+    frame-told pageSize (a .patch .now) (a .full .now) (a .base .now) (a .page .now) (c .before .before .before .before .before .before .before .before .before .before .pages-fit .result) 0 (c .before .before .before .before .before .before .before .before .before .before .pages-fit .ensures) (sym (ap faultNumber (c .before .before .before .before .before .enum-told .given .1)) ∙ f .ensures) in
+    let ok : Sound pageSize (a .patch .now) (a .full .now) (a .base .now) (a .page .now) = sound-frame pageSize (a .patch .now) (a .full .now) (a .base .now) (a .page .now) none in
+    let most : blocksIn (length (a .patch .now)) ≤ blocksAtMost pageSize = patch-fits-is pageSize (length (a .patch .now)) (ok .patch-fit) .1 in
+    omega (arith, c .before .before .before .before .blocks2 .ensures, c .before .before .before .if1 .left)
+
+write-block-requires-2 : tie.Need-write-block-requires-2
+write-block-requires-2 c κs =
+    let a = c .before .before .before .before .before .before .before .before .before .before .before .before .before .before .before .args in
+    let f = c .before .before .before .before .before .before .before .frame-fault in
+    let none : firstOf (frameRows pageSize (pageRows pageSize (a .base .now) (a .page .now)) [] (a .patch .now) (a .full .now)) ≡ 0 =
+    frame-told pageSize (a .patch .now) (a .full .now) (a .base .now) (a .page .now) (c .before .before .before .before .before .before .before .before .before .before .pages-fit .result) 0 (c .before .before .before .before .before .before .before .before .before .before .pages-fit .ensures) (sym (ap faultNumber (c .before .before .before .before .before .enum-told .given .1)) ∙ f .ensures) in
+    let ok : Sound pageSize (a .patch .now) (a .full .now) (a .base .now) (a .page .now) = sound-frame pageSize (a .patch .now) (a .full .now) (a .base .now) (a .page .now) none in
+    let below : a .block < blocksIn (length (a .patch .now)) = omega (arith, c .before .before .before .before .blocks2 .ensures, c .before .before .before .if1 .left) in
+    ((ok .base-size (c .before .before .if2 .left), ok .page-size), (slot-within pageSize (length (a .patch .now)) (a .block) (ok .patch-fit) below, places pageSize (blocksIn (length (a .patch .now))) (a .full .now) (lit< tt) (ok .full-fit)))
+
+same-length-5 : tie.Need-same-length-5
+same-length-5 c = search needs
+
+same-length-6 : tie.Need-same-length-6
+same-length-6 c = search needs
+
+returns-3 : tie.Need-returns-3
+returns-3 c =
+    let a = c .before .before .before .before .before .before .before .before .before .before .before .args in
+    let r = c .before .r .given .0 .0 in
+    let told = frame-told pageSize (a .patch .now) (a .full .now) (a .base .now) (a .page .now) (c .before .before .before .before .before .before .pages-fit .result) (refusalNumber r) (c .before .before .before .before .before .before .pages-fit .ensures) (sym (ap faultNumber (c .before .r .given .1)) ∙ c .before .before .before .frame-fault .ensures) in
+    let e : writeOutcome pageSize (a .patch .now) (a .full .now) (a .block) (a .base .now) (a .page .now) ≡ record { number = refusalNumber r; kind = 0; length = 0; patch = a .patch .now; full = a .full .now } = write-frame pageSize (a .patch .now) (a .full .now) (a .block) (a .base .now) (a .page .now) (refusalNumber r) told (refusal-some r) in
+    record { numbers = rw e; patch-bytes = rw e; full-bytes = rw e }
+
+same-length-7 : tie.Need-same-length-7
+same-length-7 c = search needs
+
+same-length-8 : tie.Need-same-length-8
+same-length-8 c = search needs
+
+returns-4 : tie.Need-returns-4
+returns-4 c =
+    let a = c .before .before .before .before .before .before .before .before .before .before .before .before .before .before .before .before .before .before .before .before .args in
+    let f = c .before .before .before .before .before .before .before .before .before .before .before .before .frame-fault in
+    let none : firstOf (frameRows pageSize (pageRows pageSize (a .base .now) (a .page .now)) [] (a .patch .now) (a .full .now)) ≡ 0 =
+    frame-told pageSize (a .patch .now) (a .full .now) (a .base .now) (a .page .now) (c .before .before .before .before .before .before .before .before .before .before .before .before .before .before .before .pages-fit .result) 0 (c .before .before .before .before .before .before .before .before .before .before .before .before .before .before .before .pages-fit .ensures) (sym (ap faultNumber (c .before .before .before .before .before .before .before .before .before .before .enum-told .given .1)) ∙ f .ensures) in
+    let ok : Sound pageSize (a .patch .now) (a .full .now) (a .base .now) (a .page .now) = sound-frame pageSize (a .patch .now) (a .full .now) (a .base .now) (a .page .now) none in
+    let below : a .block < blocksIn (length (a .patch .now)) = omega (arith, c .before .before .before .before .before .before .before .before .before .blocks2 .ensures, c .before .before .before .before .before .before .before .before .if1 .left) in
+    let e : writeOutcome pageSize (a .patch .now) (a .full .now) (a .block) (a .base .now) (a .page .now) ≡ blockOutcome pageSize (a .patch .now) (a .full .now) (a .block) (a .base .now) (a .page .now) = write-within pageSize (a .patch .now) (a .full .now) (a .block) (a .base .now) (a .page .now) none below in
+    let w = c .before .before .before .before .write-block2 .ensures in
+    record { numbers = rw e (w .numbers); patch-bytes = rw e (w .patch-bytes); full-bytes = rw e (w .full-bytes) }
+
+pub write-spec : {M : Type 1} → statement M
+write-spec =
+    tie.close
+    (tie.spec
+    pages-fit-requires
+    frame-fault-requires
+    enum-known-r
+    enum-told
+    blocks-requires
+    same-length
+    same-length-2
+    returns
+    cast-write-block
+    slice-aggregate-write-block
+    write-block-requires
+    same-length-3
+    same-length-4
+    returns-2
+    cast-write-block-2
+    write-block-requires-2
+    same-length-5
+    same-length-6
+    returns-3
+    same-length-7
+    same-length-8
+    returns-4)
