@@ -1,3 +1,4 @@
 pub mod Told
 pub mod Pages
 pub mod Decisions
+pub mod BuildTold

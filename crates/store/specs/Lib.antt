@@ -5,3 +5,4 @@ pub mod Show
 pub mod Read
 pub mod Write
 pub mod Build
+pub mod BuildLaws

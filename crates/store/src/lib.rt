@@ -1,4 +1,5 @@
 // The calls on areas. Every call checks first and changes after: a refusal is decided before the first byte is written.
+pub mod build;
 mod carry;
 pub mod format;
 mod frame;

@@ -22,7 +22,7 @@ use Rattle.stream.specs.Entries.{Stream, payloadStream, sound, entries, 
 use Rattle.stream.specs.Differences.{diffs, coded, written}
 use Rattle.stream.specs.Steps.{farthest, reach, near, SoundAs, Applies, application, Differs, Compares}
 use Rattle.stream.specs.Calls.{pageOf, pagesFit, applyRows, Apply, appliedNumbers, kindFor, compareRows, comparison, compareNumbers, compareBuffer, ComparedNumbers, comparedNumbers, Compare}
-use Rattle.stream.specs.Laws.{page-length, apply-number, apply-done, apply-not, compare-number, compare-done, compare-not}
+use Rattle.stream.specs.Laws.{patch-fits, near-is, page-length, apply-number, apply-done, apply-not, compare-number, compare-done, compare-not}
 use Rattle.stream.specs.declared.Difference.{Difference}
 use Rattle.stream.specs.declared.Compared.{Compared}
 use Rattle.stream.specs.declared.Compared.the-variants.{Done as ComparedDone, Refused as ComparedRefused}
@@ -84,31 +84,6 @@ apply-over P base present payload page after answer h k e a =
         }
 
 -- Compare
-
-pub kind-none : (n : ℕ) → n ≡ 0 → 0 ≡ kindFor n
-unfolding kindFor
-kind-none n e = rw (eq-eqb n 0 e)
-
-pub kind-large : (n : ℕ) → room < n → 2 ≡ kindFor n
-unfolding kindFor
-kind-large n h = rw (ne-eqb n 0 (λ q. omega arith), lt-leb n room h)
-
-pub kind-patch : (n : ℕ) → (n ≡ 0 → ⊥) → n ≤ room → 1 ≡ kindFor n
-unfolding kindFor
-kind-patch n h k = rw (ne-eqb n 0 h, le-leb n room k)
-
--- a patch fits
-pub patch-fits : (n : ℕ) → 1 ≡ kindFor n → n ≤ room
-unfolding kindFor
-patch-fits n e =
-    elim (decLt room n) [
-      | yes h ↦ absurd (omega (arith, e ∙ sym (kind-large n h)))
-      | no h ↦ omega arith
-    ]
-
-pub near-is : (page : List ℕ) → length page ≤ farthest → near page ≡ page
-unfolding part
-near-is page h = take-all farthest page h
 
 module _ (base page room₀ room₁ buffer : List ℕ) (d : Difference) (l : ℤ) (h : length page ≤ farthest) (e : l ≡ d .last) (w : Differs base (near page) room₀ d room₁) where
   w′ : Differs base page room₀ d room₁

@@ -9,8 +9,8 @@ use mathlib.Core.Logic.{_⊎_, inl, inr}
 use lib.ListN.{length, drop, getD, length-drop, drop-of-length-le}
 use lib.Seq.{drop-cons}
 use lib.IntN.{ℤ, pos, _+ℤ_}
-use borrow.Author.Tests.{eq-eqb, ne-eqb}
 use Rattle.stream.specs.Entries.{Stream, done, cut, out, entry, Next, code, low, high, value, inPage, stream}
+use Rattle.stream.specs.StreamLaws.{code-short, code-long, value-is}
 use Rattle.stream.specs.Steps.{Follows, Entered, landing}
 use Rattle.stream.specs.declared.Step.{Step}
 use Rattle.stream.specs.declared.Step.the-variants.{End, Broken, Entry}
@@ -27,14 +27,6 @@ module _ (n : ℕ) (p : ℤ) where
   low-cut (a ∷ (b ∷ [])) h = refl
   low-cut (a ∷ (b ∷ (c ∷ l))) h = absurd (omega arith)
 
-  pub code-short : (b : ℕ) (bs : List ℕ) → (b ≡ 255 → ⊥) → stream n p code (b ∷ bs) ≡ stream n p (value 2 b) bs
-  unfolding stream
-  code-short b bs d = ap (λ (t : Bool). elim t as (λ _. Stream) [ true ↦ stream n p low bs | false ↦ stream n p (value 2 b) bs ]) (ne-eqb b 255 d)
-
-  pub code-long : (b : ℕ) (bs : List ℕ) → b ≡ 255 → stream n p code (b ∷ bs) ≡ stream n p low bs
-  unfolding stream
-  code-long b bs d = ap (λ (t : Bool). elim t as (λ _. Stream) [ true ↦ stream n p low bs | false ↦ stream n p (value 2 b) bs ]) (eq-eqb b 255 d)
-
   module _ (s : List ℕ) (at : ℕ) where
     pub at-end : length s ≤ at → stream n p code (drop at s) ≡ done
     unfolding stream
@@ -45,14 +37,14 @@ module _ (n : ℕ) (p : ℤ) where
     short-cut h k d =
         let o : length s ≤ at + 1 = omega arith in
         ap (λ (l : List ℕ). stream n p code l) (peel s at (at + 1) h refl)
-        ∙ code-short (getD s at 0) (drop (at + 1) s) d
+        ∙ code-short n p (getD s at 0) (drop (at + 1) s) d
         ∙ ap (λ (l : List ℕ). stream n p (value 2 (getD s at 0)) l) (drop-of-length-le s o)
 
     pub long-cut : at < length s → length s - at < 4 → getD s at 0 ≡ 255 → stream n p code (drop at s) ≡ cut
     long-cut h k d =
         let l : length (drop (at + 1) s) ≡ length s - (at + 1) = length-drop (at + 1) s in
         ap (λ (l : List ℕ). stream n p code l) (peel s at (at + 1) h refl)
-        ∙ code-long (getD s at 0) (drop (at + 1) s) d
+        ∙ code-long n p (getD s at 0) (drop (at + 1) s) d
         ∙ low-cut (drop (at + 1) s) (omega arith)
 
     -- an entry of this width and jump, whose value stands at `at + 1` or `at + 3`, lands or leaves the page
@@ -85,7 +77,7 @@ module _ (n : ℕ) (p : ℤ) where
     short-read h d =
         let e : at + 2 ≡ at + 1 + 1 = omega arith in
         ap (λ (l : List ℕ). stream n p code l) (peel s at (at + 1) (omega arith) refl)
-        ∙ code-short (getD s at 0) (drop (at + 1) s) d
+        ∙ code-short n p (getD s at 0) (drop (at + 1) s) d
         ∙ ap (λ (l : List ℕ). stream n p (value 2 (getD s at 0)) l) (peel s (at + 1) (at + 2) h e)
 
     pub long-read : at + 3 < length s → getD s at 0 ≡ 255
@@ -98,7 +90,7 @@ module _ (n : ℕ) (p : ℤ) where
         let a : ℕ = getD s (at + 1) 0 in
         let b : ℕ = getD s (at + 2) 0 in
         ap (λ (l : List ℕ). stream n p code l) (peel s at (at + 1) (omega arith) refl)
-        ∙ code-long (getD s at 0) (drop (at + 1) s) d
+        ∙ code-long n p (getD s at 0) (drop (at + 1) s) d
         ∙ ap (λ (l : List ℕ). stream n p low l) (peel s (at + 1) (at + 2) (omega arith) e)
         ∙ ap (λ (l : List ℕ). stream n p (high a) l) (peel s (at + 2) (at + 3) (omega arith) f)
         ∙ ap (λ (l : List ℕ). stream n p (value 4 (a + 256 * b)) l) (peel s (at + 3) (at + 4) h g)

@@ -23,6 +23,7 @@ use Rattle.stream.specs.Entries.{start}
 use Rattle.stream.specs.Differences.{Change, diffs, spelled, coded, written, lastPlace}
 use Rattle.stream.specs.Steps.{before, Put, Differs}
 use Rattle.stream.specs.declared.Difference.{Difference}
+use Rattle.stream.specs.ReadBack.{before-next}
 use Rattle.stream.proofs.Reading.{peel}
 
 -- The signed last position
@@ -33,11 +34,6 @@ before-fits (suc k) h = rw (le-ltb (suc k) 1 (omega arith)) (record { sfits = om
 
 pub before-read : (n : ℕ) → n ≤ 65536 → toZ w32 n -ℤ pos 1 ≡ subℕ n 1
 before-read n h = ap (λ (z : ℤ). z -ℤ pos 1) (toZ-pos w32 n (omega arith))
-
-pub before-next : (at : ℕ) → before (at + 1) ≡ pos at
-before-next at =
-    let e : at + 1 - 1 ≡ at = omega arith in
-    rw (le-ltb (at + 1) 1 (omega arith)) (ap pos e)
 
 -- One entry
 

@@ -1,19 +1,23 @@
 -- The laws of Compare's and Apply's definitions: when the pages fit, what the refusals come to, and each call's outcome by its number.
 use Prim.Native.Nat.{ℕ, zero, suc, _<_, _≤_}
 use native.Mathlib.Omega.{arith}
-use mathlib.Core.Path.{_≡_, refl, sym, ap, _∙_}
+use mathlib.Core.Path.{_≡_, refl, sym, ap, _∙_, subst}
 use mathlib.Core.Bool.{Bool, true, false, not, cond, _&&_, _||_, and-true, and-false, true≢false, false≢true}
 use mathlib.Core.List.{List, [], _∷_, _++_}
 use lib.Dec.{eqb, leb, ltb}
 use lib.ListN.{length}
 use lib.IntN.{ℤ, pos}
-use borrow.Author.Tests.{eq-eqb, ne-eqb, eqb-true}
-use Rattle.span.specs.Bytes.{zeros, splice}
+use borrow.Author.Tests.{eq-eqb, ne-eqb, eqb-true, le-leb, lt-leb}
+use native.Mathlib.Decide.{decLt}
+use lib.Seq.{take-all}
+use Rattle.span.specs.Bytes.{zeros, splice, part}
 use Rattle.layout.specs.Sizes.{room}
 use Rattle.layout.specs.Refusals.{Row, _⇐_, firstOf, orElse, ordered}
 use Rattle.stream.specs.Entries.{payloadStream, sound, entries, last, start, applied}
-use Rattle.stream.specs.Differences.{diffs, coded, lastPlace}
-use Rattle.stream.specs.Calls.{pageOf, pagesFit, pageRows, compareRows, comparison, compareNumbers, compareBuffer, ComparedNumbers, applyRows, applyNumbers, applyPage, AppliedNumbers}
+use Rattle.stream.specs.Differences.{diffs, coded, written}
+use Rattle.stream.specs.Steps.{farthest, reach, near, Differs}
+use Rattle.stream.specs.declared.Difference.{Difference}
+use Rattle.stream.specs.Calls.{pageOf, pagesFit, kindFor, compareRows, comparison, compareNumbers, compareBuffer, ComparedNumbers, applyRows, applyNumbers, applyPage, AppliedNumbers}
 
 -- Pages
 
@@ -88,6 +92,47 @@ module _ (P : ℕ) (base payload page : List ℕ) where
         ]) e,
     ap (λ (k : ℕ). elim k as (λ _. List ℕ) [ zero ↦ applied (pageOf P base) (payloadStream P payload) | suc n ↦ page ]) e,
   )
+
+-- Kinds, by the stream's length
+
+pub kind-none : (n : ℕ) → n ≡ 0 → 0 ≡ kindFor n
+unfolding kindFor
+kind-none n e = rw (eq-eqb n 0 e)
+
+pub kind-large : (n : ℕ) → room < n → 2 ≡ kindFor n
+unfolding kindFor
+kind-large n h = rw (ne-eqb n 0 (λ q. omega arith), lt-leb n room h)
+
+pub kind-patch : (n : ℕ) → (n ≡ 0 → ⊥) → n ≤ room → 1 ≡ kindFor n
+unfolding kindFor
+kind-patch n h k = rw (ne-eqb n 0 h, le-leb n room k)
+
+-- a patch fits
+pub patch-fits : (n : ℕ) → 1 ≡ kindFor n → n ≤ room
+unfolding kindFor
+patch-fits n e =
+    elim (decLt room n) [
+      | yes h ↦ absurd (omega (arith, e ∙ sym (kind-large n h)))
+      | no h ↦ omega arith
+    ]
+
+-- The pieces, in pages of an ordinary size
+
+pub near-is : (page : List ℕ) → length page ≤ farthest → near page ≡ page
+unfolding part
+near-is page h = take-all farthest page h
+
+pub reach-is : (n : ℕ) → n ≤ farthest → reach n ≡ n
+reach-is n h = omega arith
+
+pub differs-near : (base page room₀ after : List ℕ) (d : Difference) → length page ≤ farthest → Differs base (near page) room₀ d after → Differs base page room₀ d after
+differs-near base page room₀ after d h w = subst (λ (l : List ℕ). Differs base l room₀ d after) (near-is page h) w
+
+-- where there is room for the whole stream, it is there
+pub differs-fits : (base page room₀ after : List ℕ) (d : Difference) → Differs base page room₀ d after → d .length ≤ length room₀ → after ≡ splice room₀ 0 (written base page)
+differs-fits base page room₀ after d w h =
+    let e : d .length ≡ length (written base page) = w .length in
+    w .bytes ∙ ap (λ (l : List ℕ). splice room₀ 0 l) (take-all (length room₀) (written base page) (omega arith))
 
 -- Compare
 

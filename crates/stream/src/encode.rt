@@ -2,11 +2,10 @@
 use crate::Code;
 use crate::Difference;
 ghost use mathlib.Core.Path.{_≡_};
-ghost use Prim.Native.Nat.{_+_, _≤_};
+ghost use Prim.Native.Nat.{_*_, _≤_};
 ghost use lib.ListN.{length, set};
-ghost use lib.Seq.{sets};
 ghost use Rattle.stream.specs.Differences.{spelled};
-ghost use Rattle.stream.specs.Steps.{before, near, Differs, Put};
+ghost use Rattle.stream.specs.Steps.{farthest, before, near, Differs, Put};
 
 // Stores a byte, if there is room for it.
 fn put(room: &mut [u8], at: usize, value: u8)
@@ -19,7 +18,7 @@ fn put(room: &mut [u8], at: usize, value: u8)
 
 // Stores an entry as far as there is room, and answers the place after it, room or not.
 fn put_entry(room: &mut [u8], used: usize, jump: usize, value: u8) -> usize
-    requires { ⌜ used ≤ 131072 ⌝ }
+    requires { ⌜ used ≤ 2 * farthest ⌝ }
     ensures { λ r. ⌜ Put (now (room .entry)) used (spelled jump value) r (now (room .exit)) ⌝ }
 {
     if jump < Code::LONG as usize {
@@ -36,7 +35,7 @@ fn put_entry(room: &mut [u8], used: usize, jump: usize, value: u8) -> usize
 
 // What is known where the last difference before `next` was the last of all.
 fn found(length: usize, entries: usize, next: usize) -> Difference
-    requires { ⌜ next ≤ 65536 ⌝ }
+    requires { ⌜ next ≤ farthest ⌝ }
     ensures { λ r. ⌜ (r .length ≡ length) × (r .entries ≡ entries) × (r .last ≡ before next) ⌝ }
 {
     Difference {
@@ -48,7 +47,7 @@ fn found(length: usize, entries: usize, next: usize) -> Difference
 
 // One pass over both pages. Equal bytes go by in `next_diff`.
 fn encode(base: &[u8], page: &[u8], room: &mut [u8]) -> Difference
-    requires { ⌜ length (now page) ≤ 65536 ⌝ }
+    requires { ⌜ length (now page) ≤ farthest ⌝ }
     ensures { λ r. ⌜ Differs (now (base .entry)) (now (page .entry)) (now (room .entry)) r (now (room .exit)) ⌝ }
 {
     let mut next = 0;

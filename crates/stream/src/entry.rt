@@ -6,7 +6,7 @@ ghost use Prim.Native.Nat.{_+_, _≤_, _<_};
 ghost use lib.ListN.{drop};
 ghost use lib.IntN.{_+ℤ_, pos};
 ghost use Rattle.stream.specs.Entries.{stream, code as nextCode, inPage};
-ghost use Rattle.stream.specs.Steps.{reach, landing, Follows};
+ghost use Rattle.stream.specs.Steps.{farthest, reach, landing, Follows};
 
 // A position and a distance, in a width that holds every sum of the two.
 fn moved(position: i32, by: u32) -> i64
@@ -17,7 +17,7 @@ fn moved(position: i32, by: u32) -> i64
 
 // The entry that ends at this place, if it lies in the page.
 fn landed(position: i32, jump: u32, value: u8, next: usize, size: usize) -> Step
-    requires { ⌜ jump < 65536 ⌝ }
+    requires { ⌜ jump < farthest ⌝ }
     ensures { λ r. ⌜ r ≡ landing (inPage (reach size) (position +ℤ pos (jump + 1))) (position +ℤ pos (jump + 1)) value next ⌝ }
 {
     let to = moved(position, jump + 1);

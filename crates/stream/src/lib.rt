@@ -13,6 +13,7 @@ ghost use Rattle.layout.specs.Sizes.{pageSize, room as roomOf};
 ghost use Rattle.layout.specs.Numbers.{kindNumber};
 ghost use Rattle.stream.specs.Steps.{farthest, reach, Applies, Compares};
 ghost use Rattle.stream.specs.Calls.{pagesFit, kindFor, Apply, Compare};
+ghost use Rattle.stream.specs.declared.Compared.the-variants.{Done as ComparedDone};
 
 // What Compare answers: the kind, the stream's length, the number of entries and the last differing position.
 pub enum Compared {
@@ -96,6 +97,18 @@ pub fn kind_for(length: usize) -> Kind
     Kind::Patch
 }
 
+// The answer of a Compare that is not refused.
+fn answered(kind: Kind, length: usize, entries: usize, last: i32) -> Compared
+    ensures { λ r. ⌜ r ≡ ComparedDone kind length entries last ⌝ }
+{
+    Compared::Done {
+        kind: kind,
+        length: length,
+        entries: entries,
+        last: last,
+    }
+}
+
 // Compare with a base that is there. The stream is made in a room of its own, since it may turn out too long for the payload.
 fn compare_to(base: &[u8], page: &[u8], payload: &mut [u8]) -> Compared
     requires { ⌜ (lengthOf (now page) ≤ farthest) × (roomOf ≤ lengthOf (now payload)) ⌝ }
@@ -105,26 +118,11 @@ fn compare_to(base: &[u8], page: &[u8], payload: &mut [u8]) -> Compared
     let d = encode::difference(base, page, &mut room);
     let length = d.length;
     match kind_for(length) {
-        Kind::Empty => Compared::Done {
-            kind: Kind::Empty,
-            length: length,
-            entries: d.entries,
-            last: d.last,
-        },
-        Kind::Full => Compared::Done {
-            kind: Kind::Full,
-            length: length,
-            entries: d.entries,
-            last: d.last,
-        },
+        Kind::Empty => answered(Kind::Empty, length, d.entries, d.last),
+        Kind::Full => answered(Kind::Full, length, d.entries, d.last),
         Kind::Patch => {
             span::copy(payload, &room[0..length]);
-            Compared::Done {
-                kind: Kind::Patch,
-                length: length,
-                entries: d.entries,
-                last: d.last,
-            }
+            answered(Kind::Patch, length, d.entries, d.last)
         }
     }
 }

@@ -19,14 +19,14 @@ pub fn check(payload: &[u8], size: usize) -> Checked
         return Checked::Unsound;
     }
     let mut place = 0;
-    let mut position: i32 = -1;
+    let mut last: i32 = -1;
     let mut entries = 0;
     loop {
-        match entry::step(payload, place, position, size) {
+        match entry::step(payload, place, last, size) {
             Step::End => {
                 return Checked::Sound {
                     entries: entries,
-                    last: position,
+                    last: last,
                 };
             }
             Step::Broken => {
@@ -37,7 +37,7 @@ pub fn check(payload: &[u8], size: usize) -> Checked
                 value: _,
                 next,
             } => {
-                position = at;
+                last = at;
                 place = next;
                 entries += 1;
             }

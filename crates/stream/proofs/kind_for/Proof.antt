@@ -1,4 +1,4 @@
-use Rattle.stream.proofs.Answers.{kind-none, kind-large, kind-patch}
+use Rattle.stream.specs.Laws.{kind-none, kind-large, kind-patch}
 use borrow.Author.Needs.{needs}
 use Rattle.stream.proofs.kind_for.Statement.{statement}
 use Rattle.stream.proofs.kind_for.Tie as tie

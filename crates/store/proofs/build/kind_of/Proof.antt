@@ -1,0 +1,27 @@
+use Rattle.store.specs.BuildLaws.{pair-full}
+use Rattle.blockmap.specs.Pack.{pairOf}
+use Rattle.layout.specs.Sizes.{pageSize}
+use lib.ListN.{length, getD}
+use Prim.Native.Nat.{ℕ, _+_, _-_, _≤_, _<_}
+use native.Mathlib.Omega.{arith}
+use mathlib.Core.List.{List}
+use mathlib.Core.Bool.{Bool, true, false}
+use mathlib.Core.Path.{_≡_, refl, sym, ap, _∙_}
+use borrow.Author.Needs.{needs}
+use Rattle.store.proofs.build.kind_of.Statement.{statement}
+use Rattle.store.proofs.build.kind_of.Tie as tie
+
+returns : tie.Need-returns
+returns c =
+    sym (ap pairOf (c .if1 .taken))
+
+returns-2 : tie.Need-returns-2
+returns-2 c =
+    sym (ap pairOf (c .if2 .taken))
+
+returns-3 : tie.Need-returns-3
+returns-3 c =
+    pair-full (c .before .before .args .byte) (c .before .if1 .left) (c .if2 .left)
+
+pub kind-of-spec : {M : Type 1} → statement M
+kind-of-spec = tie.close (tie.spec returns returns-2 returns-3)

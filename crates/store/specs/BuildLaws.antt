@@ -1,0 +1,266 @@
+-- What the pieces of Build are to give, and the laws that join them to the definitions.
+use Prim.Native.Nat.{ℕ, zero, suc, _+_, _-_, _≤_, _<_}
+use native.Mathlib.Omega.{arith}
+use native.Mathlib.Numerals.{add-one}
+use native.Mathlib.Decide.{decLt}
+use mathlib.Core.Path.{_≡_, refl, sym, ap, _∙_}
+use mathlib.Core.Bool.{Bool, true, false, not, _&&_, cond}
+use mathlib.Core.List.{List, [], _∷_, _++_}
+use lib.Dec.{eqb, ltb, leb}
+use lib.ListN.{length, getD, set}
+use borrow.Author.Tests.{lt-ltb, le-ltb, le-leb, lt-leb, eq-eqb, ne-eqb, eqb-true, eqb-false, not-false}
+use Rattle.span.specs.Bytes.{zeros, part, same, splice}
+use Rattle.span.specs.Laws.{part-at, splice-more}
+use Rattle.layout.specs.Sizes.{slotSize, slotAt}
+use Rattle.layout.specs.Refusals.{Row, _⇐_, firstOf, orElse, decided, Groups, ordered, decided-done, decided-refused}
+use Rattle.layout.specs.Headers.{headerRows}
+use Rattle.layout.specs.Areas.{blocksIn, pagesIn, patchFits, fullFits, lengthRows}
+use Rattle.layout.specs.Slots.{SlotNumbers, slotNumbers, soundSlot, unsoundSlot, payloadOf, payloadLength, isPatch, plainNumbers, slot-short, slot-patch, slot-other}
+use Rattle.stream.specs.Entries.{sound}
+use Rattle.blockmap.specs.Pairs.{mapBytes}
+use Rattle.blockmap.specs.Pack.{pairOf, packedByte, packedFirst, packed}
+use Rattle.blockmap.specs.PackLaws.{packed-more, packed-first-length, packed-same}
+use Rattle.store.specs.Frame.{slotOf, placeOf, frameRows, ordered-frame}
+use Rattle.store.specs.Read.{slotRows, fullRows, payloadRows}
+use Rattle.store.specs.Build.{placeRows, blockFault, BlockFault, firstFault, buildRows, builtMap, BuildOutcome, buildOutcome, BuildNumbers}
+
+-- What the pieces of the code are to give
+
+-- 10 where a block's place holds stray bytes
+unfoldable pub straysIn : ℕ → List ℕ → ℕ → ℕ
+straysIn P full b = cond (ltb b (pagesIn P (length full)) && not (same (placeOf P full b) (zeros P))) 10 0
+
+abbrev pub faultNumbers : BlockFault → BuildNumbers
+faultNumbers f = record { number = f .number; block = f .block }
+
+-- the pair that a slot's first byte stands for
+unfoldable pub kindPair : List ℕ → ℕ → ℕ
+kindPair patch b = pairOf (getD patch (slotAt b) 0)
+
+-- A place
+
+module _ (P : ℕ) (full : List ℕ) (b : ℕ) where
+  pub no-place : pagesIn P (length full) ≤ b → straysIn P full b ≡ 0
+  unfolding straysIn
+  no-place h = rw (le-ltb b (pagesIn P (length full)) h)
+
+  pub clean-place : same (placeOf P full b) (zeros P) ≡ true → straysIn P full b ≡ 0
+  unfolding straysIn
+  clean-place e = rw e (go (ltb b (pagesIn P (length full))))
+    where
+      go : (t : Bool) → _≡_ {A = ℕ} (cond (t && false) 10 0) 0
+      go true = refl
+      go false = refl
+
+  pub stray-place : b < pagesIn P (length full) → same (placeOf P full b) (zeros P) ≡ false → straysIn P full b ≡ 10
+  unfolding straysIn
+  stray-place h e = rw (lt-ltb b (pagesIn P (length full)) h, e)
+
+-- A block, by what its slot is
+
+orElse-zero : (n : ℕ) → orElse n 0 ≡ n
+unfolding orElse
+orElse-zero zero = refl
+orElse-zero (suc n) = refl
+
+module _ (P : ℕ) (patch full : List ℕ) (b : ℕ) where
+  pub block-unsound : slotNumbers (slotOf patch b) ≡ unsoundSlot → blockFault P patch full b ≡ 6
+  unfolding blockFault ordered firstOf orElse slotRows fullRows payloadRows placeRows
+  block-unsound e = rw e
+
+  pub block-full-none : slotNumbers (slotOf patch b) ≡ soundSlot 2 0 → pagesIn P (length full) ≤ b → blockFault P patch full b ≡ 8
+  unfolding blockFault ordered firstOf orElse slotRows fullRows payloadRows placeRows
+  block-full-none e h = rw (e, le-leb (pagesIn P (length full)) b h)
+
+  pub block-full : slotNumbers (slotOf patch b) ≡ soundSlot 2 0 → b < pagesIn P (length full) → blockFault P patch full b ≡ 0
+  unfolding blockFault ordered firstOf orElse slotRows fullRows payloadRows placeRows
+  block-full e h = rw (e, lt-leb (pagesIn P (length full)) b h)
+
+  module _ (n : ℕ) (e : slotNumbers (slotOf patch b) ≡ soundSlot 1 n) where
+    pub block-payload : sound P (payloadOf (slotOf patch b)) ≡ false → blockFault P patch full b ≡ 7
+    unfolding blockFault ordered firstOf orElse slotRows fullRows payloadRows placeRows
+    block-payload h = rw (e, h)
+
+    pub block-patch : sound P (payloadOf (slotOf patch b)) ≡ true → blockFault P patch full b ≡ straysIn P full b
+    unfolding blockFault ordered firstOf orElse slotRows fullRows payloadRows placeRows straysIn
+    block-patch h = rw (e, h) (orElse-zero (straysIn P full b))
+
+  pub block-empty : slotNumbers (slotOf patch b) ≡ soundSlot 0 0 → blockFault P patch full b ≡ straysIn P full b
+  unfolding blockFault ordered firstOf orElse slotRows fullRows payloadRows placeRows straysIn
+  block-empty e = rw e (orElse-zero (straysIn P full b))
+
+-- All blocks
+
+module _ (P : ℕ) (patch full : List ℕ) where
+  pub fault-next : (b n : ℕ) → b < n → blockFault P patch full b ≡ 0 → firstFault P patch full b (n - b) ≡ firstFault P patch full (b + 1) (n - (b + 1))
+  unfolding firstFault
+  fault-next b n h e =
+      let q : n - b ≡ suc (n - (b + 1)) = omega arith in
+      ap (λ (k : ℕ). firstFault P patch full b k) q ∙ decided-done _ _ (blockFault P patch full b) e
+
+  pub fault-here : (b n r : ℕ) → b < n → blockFault P patch full b ≡ r → (r ≡ 0 → ⊥) → firstFault P patch full b (n - b) ≡ record { number = r; block = b }
+  unfolding firstFault
+  fault-here b n r h e some =
+      let q : n - b ≡ suc (n - (b + 1)) = omega arith in
+      ap (λ (k : ℕ). firstFault P patch full b k) q ∙ decided-refused _ _ (blockFault P patch full b) r e some
+
+  pub fault-end : (b n : ℕ) → n ≤ b → firstFault P patch full b (n - b) ≡ record { number = 0; block = 0 }
+  unfolding firstFault
+  fault-end b n h =
+      let q : n - b ≡ 0 = omega arith in
+      ap (λ (k : ℕ). firstFault P patch full b k) q
+
+-- The map
+
+pub pair-full : (k : ℕ) → (k ≡ 0 → ⊥) → (k ≡ 1 → ⊥) → pairOf 2 ≡ pairOf k
+unfolding pairOf
+pair-full zero h i = absurd (h refl)
+pair-full (suc zero) h i = absurd (i refl)
+pair-full (suc (suc k)) h i = refl
+
+-- one more byte of a packed map, laid over a buffer
+pub map-turn : (buffer map : List ℕ) (f : ℕ → ℕ) (n at v : ℕ) → at < length buffer → map ≡ splice buffer 0 (packedFirst f n at) → v ≡ packedByte f n at
+    → set map at v ≡ splice buffer 0 (packedFirst f n (at + 1))
+map-turn buffer map f n at v h e q =
+    let l : length (packedFirst f n at) ≡ at = packed-first-length f n at in
+    let z : 0 + length (packedFirst f n at) ≡ at = omega arith in
+    ap (λ (m : List ℕ). set m at v) e
+    ∙ ap (λ (i : ℕ). set (splice buffer 0 (packedFirst f n at)) i v) (sym z)
+    ∙ splice-more buffer 0 (packedFirst f n at) v (omega arith)
+    ∙ ap (λ (w : ℕ). splice buffer 0 (packedFirst f n at ++ (w ∷ []))) q
+    ∙ ap (λ (m : List ℕ). splice buffer 0 m) (sym (packed-more f n at))
+
+-- What an accepted frame and blocks without a fault say
+
+or-none : (a b : ℕ) → orElse a b ≡ 0 → (a ≡ 0) × (b ≡ 0)
+unfolding orElse
+or-none zero b e = (refl, e)
+or-none (suc a) b e = absurd (omega arith)
+
+row-off : (n : ℕ) (t : Bool) → cond t (suc n) 0 ≡ 0 → t ≡ false
+row-off n true e = absurd (omega arith)
+row-off n false e = refl
+
+module _ (P : ℕ) (patch full : List ℕ) where
+  pub frame-none : (fits : Bool) → firstOf (frameRows P ((1 ⇐ false) ∷ []) ((9 ⇐ not fits) ∷ []) patch full) ≡ 0
+      → ((patchFits P (length patch) && fullFits P (blocksIn (length patch)) (length full)) ≡ true) × (fits ≡ true) × (firstOf (headerRows P patch full) ≡ 0)
+  unfolding frameRows firstOf orElse lengthRows
+  frame-none fits e =
+      let lengths : Bool = patchFits P (length patch) && fullFits P (blocksIn (length patch)) (length full) in
+      let rest : ℕ = orElse (cond (not fits) 9 0) (firstOf (headerRows P patch full)) in
+      let a : _≡_ {A = ℕ} (cond (not lengths) 2 0) 0 × (rest ≡ 0) = or-none (cond (not lengths) 2 0) rest e in
+      let b : _≡_ {A = ℕ} (cond (not fits) 9 0) 0 × (firstOf (headerRows P patch full) ≡ 0) = or-none (cond (not fits) 9 0) (firstOf (headerRows P patch full)) (a .1) in
+      (not-false lengths (row-off 1 (not lengths) (a .0)), not-false fits (row-off 8 (not fits) (b .0)), b .1)
+
+  fault-none : (b k : ℕ) (x : ℕ) → decided x (firstFault P patch full (b + 1) k) (λ n. record { number = n; block = b }) .number ≡ 0 → (x ≡ 0) × (firstFault P patch full (b + 1) k .number ≡ 0)
+  unfolding decided
+  fault-none b k zero e = (refl, e)
+  fault-none b k (suc x) e = absurd (omega arith)
+
+  no-fault : (b k : ℕ) → firstFault P patch full b k .number ≡ 0 → (i : ℕ) → i < k → blockFault P patch full (b + i) ≡ 0
+  unfolding firstFault
+  no-fault b zero e i h = absurd (omega arith)
+  no-fault b (suc k) e zero h =
+      let q : b + 0 ≡ b = omega arith in
+      ap (λ (x : ℕ). blockFault P patch full x) q ∙ fault-none b k (blockFault P patch full b) e .0
+  no-fault b (suc k) e (suc i) h =
+      let q : b + suc i ≡ b + 1 + i = omega arith in
+      ap (λ (x : ℕ). blockFault P patch full x) q ∙ no-fault (b + 1) k (fault-none b k (blockFault P patch full b) e .1) i (omega arith)
+
+  pub no-faults : (n : ℕ) → firstFault P patch full 0 n .number ≡ 0 → (b : ℕ) → b < n → blockFault P patch full b ≡ 0
+  no-faults n e b h =
+      let q : b ≡ 0 + b = omega arith in
+      ap (λ (x : ℕ). blockFault P patch full x) q ∙ no-fault 0 n e b h
+
+  pub slot-sound : (b : ℕ) → blockFault P patch full b ≡ 0 → slotNumbers (slotOf patch b) .number ≡ 0
+  unfolding blockFault ordered firstOf slotRows
+  slot-sound b e =
+      let n : ℕ = slotNumbers (slotOf patch b) .number in
+      let r : List Row = fullRows P (slotOf patch b) full b ++ (payloadRows P (slotOf patch b) ++ (placeRows P (slotOf patch b) full b ++ [])) in
+      eqb-true n 0 (not-false (eqb n 0) (row-off 5 (not (eqb n 0)) (or-none (cond (not (eqb n 0)) 6 0) (firstOf r) e .0)))
+
+-- the first byte of a sound slot is its kind
+pub kind-first : (s : List ℕ) → slotNumbers s .number ≡ 0 → slotNumbers s .kind ≡ getD s 0 0
+unfolding plainNumbers
+kind-first s e = long (eqb (length s) slotSize) refl
+  where
+    never : {A : Type 0} → slotNumbers s ≡ unsoundSlot → A
+    never q =
+        let z : slotNumbers s .number ≡ 6 = ap (λ (x : SlotNumbers). x .number) q in
+        absurd (omega arith)
+
+    patch : (t : Bool) → getD s 0 0 ≡ 1 → slotNumbers s ≡ cond t (soundSlot 1 (payloadLength s)) unsoundSlot → slotNumbers s .kind ≡ getD s 0 0
+    patch true k q = ap (λ (x : SlotNumbers). x .kind) q ∙ sym k
+    patch false k q = never q
+
+    plain : (a b : Bool) → eqb (getD s 0 0) 0 ≡ a → eqb (getD s 0 0) 2 ≡ b → slotNumbers s ≡ cond a (soundSlot 0 0) (cond b (soundSlot 2 0) unsoundSlot) → slotNumbers s .kind ≡ getD s 0 0
+    plain true b p r q = ap (λ (x : SlotNumbers). x .kind) q ∙ sym (eqb-true (getD s 0 0) 0 p)
+    plain false true p r q = ap (λ (x : SlotNumbers). x .kind) q ∙ sym (eqb-true (getD s 0 0) 2 r)
+    plain false false p r q = never q
+
+    other : (t : Bool) → slotNumbers s ≡ cond t (plainNumbers (getD s 0 0)) unsoundSlot → slotNumbers s .kind ≡ getD s 0 0
+    other true q = plain (eqb (getD s 0 0) 0) (eqb (getD s 0 0) 2) refl refl q
+    other false q = never q
+
+    first : (t : Bool) → length s ≡ slotSize → eqb (getD s 0 0) 1 ≡ t → slotNumbers s .kind ≡ getD s 0 0
+    first true l k = patch (isPatch s) (eqb-true (getD s 0 0) 1 k) (slot-patch s l (eqb-true (getD s 0 0) 1 k))
+    first false l k = other (same (part 1 (slotSize - 1) s) (zeros (slotSize - 1))) (slot-other s l (eqb-false (getD s 0 0) 1 k))
+
+    long : (t : Bool) → eqb (length s) slotSize ≡ t → slotNumbers s .kind ≡ getD s 0 0
+    long true l = first (eqb (getD s 0 0) 1) (eqb-true (length s) slotSize l) refl
+    long false l = never (slot-short s (eqb-false (length s) slotSize l))
+
+-- so the map may be made from the slots' first bytes
+pub built-kinds : (P : ℕ) (patch full : List ℕ) → firstFault P patch full 0 (blocksIn (length patch)) .number ≡ 0 → builtMap patch ≡ packed (kindPair patch) (blocksIn (length patch))
+unfolding builtMap kindPair slotOf
+built-kinds P patch full e =
+    packed-same (λ b. pairOf (slotNumbers (slotOf patch b) .kind)) (kindPair patch) (blocksIn (length patch))
+    (λ b h.
+    let q : slotAt b + 0 ≡ slotAt b = omega arith in
+    ap pairOf
+    (kind-first (slotOf patch b) (slot-sound P patch full b (no-faults P patch full (blocksIn (length patch)) e b h))
+    ∙ part-at (slotAt b) slotSize patch 0 (omega arith)
+    ∙ ap (λ (k : ℕ). getD patch k 0) q))
+
+-- The whole call
+
+module _ (P : ℕ) (patch full map : List ℕ) where
+  pub build-frame : (fits : Bool) → ltb (length map) (mapBytes (blocksIn (length patch))) ≡ not fits
+      → firstOf (buildRows P patch full map) ≡ firstOf (frameRows P ((1 ⇐ false) ∷ []) ((9 ⇐ not fits) ∷ []) patch full)
+  unfolding buildRows firstOf orElse frameRows
+  build-frame fits e =
+      ordered-frame P patch full
+      (record {
+        pages = [];
+        lengths = lengthRows P (length patch) (length full);
+        buffers = (9 ⇐ ltb (length map) (mapBytes (blocksIn (length patch)))) ∷ [];
+        headers = headerRows P patch full;
+        block = [];
+        slot = [];
+        full = [];
+        payload = [];
+        place = [];
+        pair = [];
+      })
+      refl refl
+      ∙ orElse-zero (firstOf (frameRows P [] ((9 ⇐ ltb (length map) (mapBytes (blocksIn (length patch)))) ∷ []) patch full))
+      ∙ ap (λ (t : Bool). firstOf (frameRows P [] ((9 ⇐ t) ∷ []) patch full)) e
+
+  pub build-refused : (k : ℕ) → firstOf (buildRows P patch full map) ≡ k → (k ≡ 0 → ⊥) → buildOutcome P patch full map ≡ record { number = k; block = 0; map = map }
+  unfolding buildOutcome
+  build-refused k e h = decided-refused _ _ (firstOf (buildRows P patch full map)) k e h
+
+  module _ (e : firstOf (buildRows P patch full map) ≡ 0) where
+    pub build-faulty : (k b : ℕ) → firstFault P patch full 0 (blocksIn (length patch)) .number ≡ k → firstFault P patch full 0 (blocksIn (length patch)) .block ≡ b → (k ≡ 0 → ⊥)
+        → buildOutcome P patch full map ≡ record { number = k; block = b; map = map }
+    unfolding buildOutcome
+    build-faulty k b f g h =
+        decided-done _ _ (firstOf (buildRows P patch full map)) e
+        ∙ decided-refused _ _ (firstFault P patch full 0 (blocksIn (length patch)) .number) k f h
+        ∙ ap (λ (x : ℕ). record { number = k; block = x; map = map }) g
+
+    pub build-done : firstFault P patch full 0 (blocksIn (length patch)) .number ≡ 0 → buildOutcome P patch full map ≡ record { number = 0; block = 0; map = splice map 0 (builtMap patch) }
+    unfolding buildOutcome
+    build-done f =
+        decided-done _ _ (firstOf (buildRows P patch full map)) e
+        ∙ decided-done _ _ (firstFault P patch full 0 (blocksIn (length patch)) .number) f

@@ -1,0 +1,213 @@
+-- What Compare decides, and that Apply gives back what it wrote: "same" iff the pages are equal, "patch" iff the stream takes 1 to 504
+-- bytes, "large" otherwise.
+use Prim.Native.Nat.{ℕ, zero, suc, _+_, _-_, _≤_, _<_}
+use native.Mathlib.Omega.{arith}
+use native.Mathlib.Decide.{decLt}
+use mathlib.Core.Path.{_≡_, refl, sym, ap, _∙_, subst}
+use mathlib.Core.Bool.{Bool, true, false, cond, _&&_, _||_}
+use mathlib.Core.List.{List, [], _∷_, _++_}
+use mathlib.Core.Logic.{_↔_}
+use lib.Dec.{eqb, ltb, leb}
+use lib.ListN.{length, take}
+use lib.IntN.{ℤ}
+use borrow.Author.Tests.{eq-eqb, eqb-true, eqb-false, ltb-false}
+use Rattle.span.specs.Bytes.{splice, part}
+use Rattle.span.specs.Laws.{part-splice, zeros-length}
+use Rattle.layout.specs.Sizes.{room}
+use Rattle.layout.specs.Numbers.{le}
+use Rattle.layout.specs.Refusals.{firstOf}
+use Rattle.stream.specs.Entries.{payloadStream, sound, entries, last, start, applied}
+use Rattle.stream.specs.Differences.{Change, diffs, spelled, coded, written, lastPlace}
+use Rattle.stream.specs.Calls.{pageOf, pagesFit, kindFor, comparison, compareRows, compareNumbers, compareBuffer, ComparedNumbers, applyRows, applyNumbers, applyPage, AppliedNumbers}
+use Rattle.stream.specs.Laws.{page-length, base-length, base-none, base-some, kind-none, kind-large, kind-patch, patch-fits, compare-number, compare-done, compare-not, compare-written, apply-number, apply-done}
+use Rattle.stream.specs.ReadBack.{Back, read-back}
+
+-- By the stream
+
+diffs-none : (q : ℕ) (xs : List ℕ) → diffs q xs xs ≡ []
+unfolding diffs
+diffs-none q [] = refl
+diffs-none q (x ∷ xs) =
+    ap (λ (t : Bool). elim t as (λ _. List Change) [ true ↦ diffs (q + 1) xs xs | false ↦ record { place = q; value = x } ∷ diffs (q + 1) xs xs ]) (eq-eqb x x refl)
+    ∙ diffs-none (q + 1) xs
+
+none-same : (q : ℕ) (xs ys : List ℕ) → length xs ≡ length ys → length (diffs q xs ys) ≡ 0 → xs ≡ ys
+unfolding diffs
+none-same q [] [] e h = refl
+none-same q [] (y ∷ ys) e h = absurd (omega arith)
+none-same q (x ∷ xs) [] e h = absurd (omega arith)
+none-same q (x ∷ xs) (y ∷ ys) e h = go (eqb x y) refl (none-same (q + 1) xs ys (omega arith)) h
+  where
+    go : (t : Bool) → eqb x y ≡ t → (length (diffs (q + 1) xs ys) ≡ 0 → xs ≡ ys)
+        → length {A = Change} (elim t as (λ _. List Change) [ true ↦ diffs (q + 1) xs ys | false ↦ record { place = q; value = y } ∷ diffs (q + 1) xs ys ]) ≡ 0
+        → x ∷ xs ≡ y ∷ ys
+    go true k rest m = λ i. eqb-true x y k i ∷ rest m i
+    go false k rest m = absurd (omega arith)
+
+-- an entry takes some bytes, so a stream of none has no entries
+coded-none : (ds : List Change) (next : ℕ) → length (coded next ds) ≡ 0 → length ds ≡ 0
+unfolding coded spelled le
+coded-none [] next h = refl
+coded-none (c ∷ cs) next h = go (ltb (c .place - next) 255) h
+  where
+    go : (t : Bool) → length (cond t ((c .place - next) ∷ c .value ∷ []) (255 ∷ (le 2 (c .place - next) ++ (c .value ∷ []))) ++ coded (c .place + 1) cs) ≡ 0
+        → suc (length cs) ≡ 0
+    go true k = absurd (omega arith)
+    go false k = absurd (omega arith)
+
+-- a page equals its base iff its stream is empty
+pub same-iff : (base page : List ℕ) → length base ≡ length page → (length (written base page) ≡ 0) ↔ (base ≡ page)
+unfolding written coded
+same-iff base page e = (
+  λ h. none-same 0 base page e (coded-none (diffs 0 base page) 0 h),
+  λ h. ap (λ (l : List ℕ). length (coded 0 (diffs 0 l page))) h ∙ ap (λ (ds : List Change). length (coded 0 ds)) (diffs-none 0 page),
+)
+
+pub kind-0 : (n : ℕ) → (kindFor n ≡ 0) ↔ (n ≡ 0)
+kind-0 n = (
+  λ e.
+      elim (decLt 0 n) [
+        | yes h ↦
+            elim (decLt room n) [
+              | yes k ↦ absurd (omega (arith, kind-large n k))
+              | no k ↦ absurd (omega (arith, kind-patch n (λ q. omega arith) (omega arith)))
+            ]
+        | no h ↦ omega arith
+      ],
+  λ e. sym (kind-none n e),
+)
+
+pub kind-1 : (n : ℕ) → (kindFor n ≡ 1) ↔ ((1 ≤ n) × (n ≤ room))
+kind-1 n = (
+  λ e.
+      elim (decLt 0 n) [
+        | yes h ↦ (omega arith, patch-fits n (sym e))
+        | no h ↦
+            let z : n ≡ 0 = omega arith in
+            absurd (omega (arith, kind-none n z))
+      ],
+  λ h. sym (kind-patch n (λ q. omega arith) (h .1)),
+)
+
+pub kind-2 : (n : ℕ) → (kindFor n ≡ 2) ↔ (room < n)
+kind-2 n = (
+  λ e.
+      elim (decLt room n) [
+        | yes h ↦ h
+        | no h ↦
+            elim (decLt 0 n) [
+              | yes k ↦ absurd (omega (arith, kind-patch n (λ q. omega arith) (omega arith)))
+              | no k ↦
+                  let z : n ≡ 0 = omega arith in
+                  absurd (omega (arith, kind-none n z))
+            ]
+      ],
+  λ h. sym (kind-large n h),
+)
+
+-- By the calls: what holds of a Compare that is not refused
+
+module _ (P : ℕ) (base page buffer : List ℕ) where
+  -- the number it gives is that of the first refusal
+  pub compare-gives : compareNumbers P base page buffer .number ≡ firstOf (compareRows P base page buffer)
+  unfolding comparison
+  compare-gives = go (firstOf (compareRows P base page buffer)) refl
+    where
+      go : (k : ℕ) → firstOf (compareRows P base page buffer) ≡ k → compareNumbers P base page buffer .number ≡ firstOf (compareRows P base page buffer)
+      go zero e = ap (λ (x : ComparedNumbers). x .number) (compare-done P base page buffer e) ∙ sym e
+      go (suc m) e = ap (λ (x : ComparedNumbers). x .number) (compare-not P base page buffer m e .0) ∙ sym e
+
+  module _ (h : compareNumbers P base page buffer .number ≡ 0) where
+    accepted : firstOf (compareRows P base page buffer) ≡ 0
+    accepted = sym compare-gives ∙ h
+
+    pub accepted-fits : pagesFit P base page ≡ true
+    accepted-fits = go (pagesFit P base page) refl
+      where
+        go : (t : Bool) → pagesFit P base page ≡ t → t ≡ true
+        go true e = refl
+        go false e = absurd (omega (arith, sym accepted ∙ compare-number P base page buffer ∙ ap (λ (t : Bool). cond t (cond (ltb (length buffer) room) 9 0) 1) e))
+
+    pub accepted-room : room ≤ length buffer
+    accepted-room = go (ltb (length buffer) room) refl
+      where
+        go : (t : Bool) → ltb (length buffer) room ≡ t → room ≤ length buffer
+        go true e =
+            absurd
+            (omega (
+              arith,
+              sym accepted
+                  ∙ compare-number P base page buffer
+                  ∙ ap (λ (t : Bool). cond t (cond (ltb (length buffer) room) 9 0) 1) accepted-fits
+                  ∙ ap (λ (t : Bool). cond t 9 0) e,
+            ))
+        go false e = ltb-false (length buffer) room e
+
+    numbers : compareNumbers P base page buffer ≡ comparison (diffs 0 (pageOf P base) page)
+    numbers = compare-done P base page buffer accepted
+
+    pub base-is : length (pageOf P base) ≡ length page
+    base-is = go (eqb (length base) 0) refl
+      where
+        p : length page ≡ P
+        p = page-length P base page accepted-fits
+
+        go : (t : Bool) → eqb (length base) 0 ≡ t → length (pageOf P base) ≡ length page
+        go true e = ap (λ (l : List ℕ). length l) (base-none P base (eqb-true (length base) 0 e)) ∙ zeros-length P ∙ sym p
+        go false e =
+            let d : length base ≡ 0 → ⊥ = eqb-false (length base) 0 e in
+            ap (λ (l : List ℕ). length l) (base-some P base d) ∙ base-length P base page accepted-fits d ∙ sym p
+
+    -- the numbers are the whole stream's, for large too
+    pub compare-length : compareNumbers P base page buffer .length ≡ length (written (pageOf P base) page)
+    unfolding comparison written
+    compare-length = ap (λ (x : ComparedNumbers). x .length) numbers
+
+    compare-kind : compareNumbers P base page buffer .kind ≡ kindFor (length (written (pageOf P base) page))
+    unfolding comparison written
+    compare-kind = ap (λ (x : ComparedNumbers). x .kind) numbers
+
+    pub compare-same : (compareNumbers P base page buffer .kind ≡ 0) ↔ (pageOf P base ≡ page)
+    compare-same =
+        let s : (length (written (pageOf P base) page) ≡ 0) ↔ (pageOf P base ≡ page) = same-iff (pageOf P base) page base-is in
+        let k : (kindFor (length (written (pageOf P base) page)) ≡ 0) ↔ (length (written (pageOf P base) page) ≡ 0) = kind-0 (length (written (pageOf P base) page)) in
+        (λ e. s .0 (k .0 (sym compare-kind ∙ e)), λ e. compare-kind ∙ k .1 (s .1 e))
+
+    pub compare-patch : (compareNumbers P base page buffer .kind ≡ 1) ↔ ((1 ≤ length (written (pageOf P base) page)) × (length (written (pageOf P base) page) ≤ room))
+    compare-patch =
+        let k = kind-1 (length (written (pageOf P base) page)) in
+        (λ e. k .0 (sym compare-kind ∙ e), λ e. compare-kind ∙ k .1 e)
+
+    pub compare-large : (compareNumbers P base page buffer .kind ≡ 2) ↔ (room < length (written (pageOf P base) page))
+    compare-large =
+        let k = kind-2 (length (written (pageOf P base) page)) in
+        (λ e. k .0 (sym compare-kind ∙ e), λ e. compare-kind ∙ k .1 e)
+
+    -- Applying what Compare wrote to the same base gives the page, with Compare's own numbers.
+    pub compare-apply : P ≤ 65536 → compareNumbers P base page buffer .kind ≡ 1 → (lent : List ℕ) → length lent ≡ P
+        → (applyNumbers P base (take (compareNumbers P base page buffer .length) (compareBuffer P base page buffer)) lent
+        ≡ record { number = 0; entries = compareNumbers P base page buffer .entries; last = compareNumbers P base page buffer .last })
+        × (applyPage P base (take (compareNumbers P base page buffer .length) (compareBuffer P base page buffer)) lent ≡ page)
+    unfolding comparison written part pagesFit
+    compare-apply small k lent l =
+        let w : List ℕ = written (pageOf P base) page in
+        let p : length page ≡ P = page-length P base page accepted-fits in
+        let n : (1 ≤ length w) × (length w ≤ room) = compare-patch .0 k in
+        let b : Back P (pageOf P base) page = read-back P (pageOf P base) page small (base-is ∙ p) p in
+        let s : sound P w ≡ true = b .is-sound (n .0) (n .1) in
+        let r : room ≤ length buffer = accepted-room in
+        let t : take (compareNumbers P base page buffer .length) (compareBuffer P base page buffer) ≡ w =
+        ap (λ (x : List ℕ). take (compareNumbers P base page buffer .length) x) (compare-written P base page buffer k)
+        ∙ part-splice buffer 0 w (compareNumbers P base page buffer .length) (sym compare-length) (omega (arith, compare-length)) in
+        let f : pagesFit P base lent ≡ true = fits-like lent l p in
+        let a : firstOf (applyRows P base w lent) ≡ 0 = apply-number P base w lent ∙ rw (f, s) in
+        let d = apply-done P base w lent a in (
+          ap (λ (x : List ℕ). applyNumbers P base x lent) t
+              ∙ d .0
+              ∙ (λ i. record { number = 0; entries = (b .entries ∙ sym (ap (λ (x : ComparedNumbers). x .entries) numbers)) i; last = (b .last ∙ sym (ap (λ (x : ComparedNumbers). x .last) numbers)) i }),
+          ap (λ (x : List ℕ). applyPage P base x lent) t ∙ d .1 ∙ b .page,
+        )
+      where
+        fits-like : (lent : List ℕ) → length lent ≡ P → length page ≡ P → pagesFit P base lent ≡ true
+        fits-like lent l p =
+            ap (λ (k : ℕ). (eqb (length base) 0 || eqb (length base) P) && eqb k P) (l ∙ sym p) ∙ accepted-fits
