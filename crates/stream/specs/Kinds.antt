@@ -10,16 +10,16 @@ use mathlib.Core.Logic.{_↔_}
 use lib.Dec.{eqb, ltb, leb}
 use lib.ListN.{length, take}
 use lib.IntN.{ℤ}
-use borrow.Author.Tests.{eq-eqb, eqb-true, eqb-false, ltb-false}
+use borrow.Author.Tests.{eq-eqb, eqb-true, ltb-false}
 use Rattle.span.specs.Bytes.{splice, part}
-use Rattle.span.specs.Laws.{part-splice, zeros-length}
+use Rattle.span.specs.Laws.{part-splice}
 use Rattle.layout.specs.Sizes.{room}
 use Rattle.layout.specs.Numbers.{le}
 use Rattle.layout.specs.Refusals.{firstOf}
 use Rattle.stream.specs.Entries.{payloadStream, sound, entries, last, start, applied}
 use Rattle.stream.specs.Differences.{Change, diffs, spelled, coded, written, lastPlace}
 use Rattle.stream.specs.Calls.{pageOf, pagesFit, kindFor, comparison, compareRows, compareNumbers, compareBuffer, ComparedNumbers, applyRows, applyNumbers, applyPage, AppliedNumbers}
-use Rattle.stream.specs.Laws.{page-length, base-length, base-none, base-some, kind-none, kind-large, kind-patch, patch-fits, compare-number, compare-done, compare-not, compare-written, apply-number, apply-done}
+use Rattle.stream.specs.Laws.{page-length, present-length, kind-none, kind-large, kind-patch, patch-fits, compare-number, compare-done, compare-not, compare-written, apply-number, apply-done}
 use Rattle.stream.specs.ReadBack.{Back, read-back}
 
 -- By the stream
@@ -147,16 +147,7 @@ module _ (P : ℕ) (base page buffer : List ℕ) where
     numbers = compare-done P base page buffer accepted
 
     pub base-is : length (pageOf P base) ≡ length page
-    base-is = go (eqb (length base) 0) refl
-      where
-        p : length page ≡ P
-        p = page-length P base page accepted-fits
-
-        go : (t : Bool) → eqb (length base) 0 ≡ t → length (pageOf P base) ≡ length page
-        go true e = ap (λ (l : List ℕ). length l) (base-none P base (eqb-true (length base) 0 e)) ∙ zeros-length P ∙ sym p
-        go false e =
-            let d : length base ≡ 0 → ⊥ = eqb-false (length base) 0 e in
-            ap (λ (l : List ℕ). length l) (base-some P base d) ∙ base-length P base page accepted-fits d ∙ sym p
+    base-is = present-length P base page accepted-fits ∙ sym (page-length P base page accepted-fits)
 
     -- the numbers are the whole stream's, for large too
     pub compare-length : compareNumbers P base page buffer .length ≡ length (written (pageOf P base) page)

@@ -7,10 +7,11 @@ use mathlib.Core.List.{List, [], _∷_, _++_}
 use lib.Dec.{eqb, leb, ltb}
 use lib.ListN.{length}
 use lib.IntN.{ℤ, pos}
-use borrow.Author.Tests.{eq-eqb, ne-eqb, eqb-true, le-leb, lt-leb}
+use borrow.Author.Tests.{eq-eqb, ne-eqb, eqb-true, eqb-false, le-leb, lt-leb}
 use native.Mathlib.Decide.{decLt}
 use lib.Seq.{take-all}
 use Rattle.span.specs.Bytes.{zeros, splice, part}
+use Rattle.span.specs.Laws.{zeros-length}
 use Rattle.layout.specs.Sizes.{room}
 use Rattle.layout.specs.Refusals.{Row, _⇐_, firstOf, orElse, ordered}
 use Rattle.stream.specs.Entries.{payloadStream, sound, entries, last, start, applied}
@@ -52,6 +53,16 @@ base-none P base h = rw (eq-eqb (length base) 0 h)
 pub base-some : (P : ℕ) (base : List ℕ) → (length base ≡ 0 → ⊥) → pageOf P base ≡ base
 unfolding pageOf
 base-some P base h = rw (ne-eqb (length base) 0 h)
+
+-- the page that a base stands for has the size
+pub present-length : (P : ℕ) (base page : List ℕ) → pagesFit P base page ≡ true → length (pageOf P base) ≡ P
+present-length P base page h = go (eqb (length base) 0) refl
+  where
+    go : (t : Bool) → eqb (length base) 0 ≡ t → length (pageOf P base) ≡ P
+    go true e = ap (λ (l : List ℕ). length l) (base-none P base (eqb-true (length base) 0 e)) ∙ zeros-length P
+    go false e =
+        let d : length base ≡ 0 → ⊥ = eqb-false (length base) 0 e in
+        ap (λ (l : List ℕ). length l) (base-some P base d) ∙ base-length P base page h d
 
 -- Apply
 
