@@ -160,35 +160,6 @@ part-splice-after xs at ys i n h k m =
     let l′ : j < n = omega arith in
     part-at i n (splice xs at ys) j l′ ∙ splice-after xs at ys (omega arith) (i + j) (omega arith) ∙ sym (part-at i n xs j l′))
 
--- laid again at the same place, the first is gone
-pub splice-again : (xs : List ℕ) (at : ℕ) (ys zs : List ℕ) → length ys ≡ length zs → at + length zs ≤ length xs → splice (splice xs at ys) at zs ≡ splice xs at zs
-splice-again xs at ys zs e h =
-    let f : length (splice xs at ys) ≡ length xs = splice-length xs at ys (omega arith) in
-    let g : length (splice (splice xs at ys) at zs) ≡ length (splice xs at ys) = splice-length (splice xs at ys) at zs (omega arith) in
-    let g′ : length (splice xs at zs) ≡ length xs = splice-length xs at zs h in
-    ext (splice (splice xs at ys) at zs) (splice xs at zs) (omega arith)
-    (λ i l.
-    elim (decLt i at) [
-      | yes k ↦
-          splice-before (splice xs at ys) at zs (omega arith) i k
-          ∙ splice-before xs at ys (omega arith) i k
-          ∙ sym (splice-before xs at zs (omega arith) i k)
-      | no k ↦
-          elim (decLt i (at + length zs)) [
-            | yes m ↦
-                let j : ℕ = i - at in
-                let q : at + j ≡ i = omega arith in
-                ap (λ (p : ℕ). getD (splice (splice xs at ys) at zs) p 0) (sym q)
-                ∙ splice-in (splice xs at ys) at zs (omega arith) j (omega arith)
-                ∙ sym (splice-in xs at zs (omega arith) j (omega arith))
-                ∙ ap (λ (p : ℕ). getD (splice xs at zs) p 0) q
-            | no m ↦
-                splice-after (splice xs at ys) at zs (omega arith) i (omega arith)
-                ∙ splice-after xs at ys (omega arith) i (omega arith)
-                ∙ sym (splice-after xs at zs (omega arith) i (omega arith))
-          ]
-    ])
-
 -- two lists that agree outside a part and in it are one: how a splice is recognized
 pub splice-is : (xs : List ℕ) (at : ℕ) (ys zs : List ℕ) → at + length ys ≤ length xs → length zs ≡ length xs
     → ((i : ℕ) → i < at → getD zs i 0 ≡ getD xs i 0)
@@ -213,6 +184,16 @@ splice-is xs at ys zs h e before inside after =
             | no m ↦ after i (omega arith) (omega arith) ∙ sym (splice-after xs at ys (omega arith) i (omega arith))
           ]
     ])
+
+-- laid again at the same place, the first is gone
+pub splice-again : (xs : List ℕ) (at : ℕ) (ys zs : List ℕ) → length ys ≡ length zs → at + length zs ≤ length xs → splice (splice xs at ys) at zs ≡ splice xs at zs
+splice-again xs at ys zs e h =
+    let f : length (splice xs at ys) ≡ length xs = splice-length xs at ys (omega arith) in
+    let g : length (splice (splice xs at ys) at zs) ≡ length (splice xs at ys) = splice-length (splice xs at ys) at zs (omega arith) in
+    splice-is xs at zs (splice (splice xs at ys) at zs) h (omega arith)
+    (λ i k. splice-before (splice xs at ys) at zs (omega arith) i k ∙ splice-before xs at ys (omega arith) i k)
+    (λ j k. splice-in (splice xs at ys) at zs (omega arith) j k)
+    (λ i k l. splice-after (splice xs at ys) at zs (omega arith) i k ∙ splice-after xs at ys (omega arith) i (omega arith))
 
 -- two splices apart from each other may be made in either order
 pub splice-comm : (xs : List ℕ) (a : ℕ) (ys : List ℕ) (b : ℕ) (zs : List ℕ) → a + length ys ≤ b → b + length zs ≤ length xs → splice (splice xs a ys) b zs ≡ splice (splice xs b zs) a ys

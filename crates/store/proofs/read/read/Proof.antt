@@ -19,6 +19,17 @@ use borrow.Author.Needs.{needs}
 use Rattle.store.proofs.read.read.Statement.{statement}
 use Rattle.store.proofs.read.read.Tie as tie
 
+-- where the shared check found nothing wrong, the frame is sound
+framed : (c : tie.After-enum-told)
+    → (firstOf (frameRows pageSize (pageRows pageSize (c .before .before .before .before .before .before .before .before .before .args .base .now) (c .before .before .before .before .before .before .before .before .before .args .page .now)) [] (c .before .before .before .before .before .before .before .before .before .args .patch .now) (c .before .before .before .before .before .before .before .before .before .args .full .now)) ≡ 0)
+    × Sound pageSize (c .before .before .before .before .before .before .before .before .before .args .patch .now) (c .before .before .before .before .before .before .before .before .before .args .full .now) (c .before .before .before .before .before .before .before .before .before .args .base .now) (c .before .before .before .before .before .before .before .before .before .args .page .now)
+framed c =
+    let a = c .before .before .before .before .before .before .before .before .before .args in
+    let f = c .before .before .frame-fault in
+    let p = c .before .before .before .pages-fit in
+    let none = frame-told pageSize (a .patch .now) (a .full .now) (a .base .now) (a .page .now) (p .result) 0 (p .ensures) (sym (ap faultNumber (c .enum-told .given .1)) ∙ f .ensures) in
+    (none, sound-frame pageSize (a .patch .now) (a .full .now) (a .base .now) (a .page .now) none)
+
 pages-fit-requires : tie.Need-pages-fit-requires
 pages-fit-requires c κs = search needs
 
@@ -40,21 +51,15 @@ same-length c = search needs
 returns : tie.Need-returns
 returns c =
     let a = c .before .before .before .before .before .before .before .before .before .before .before .args in
-    let f = c .before .before .before .before .frame-fault in
-    let none : firstOf (frameRows pageSize (pageRows pageSize (a .base .now) (a .page .now)) [] (a .patch .now) (a .full .now)) ≡ 0 =
-    frame-told pageSize (a .patch .now) (a .full .now) (a .base .now) (a .page .now) (c .before .before .before .before .before .pages-fit .result) 0 (c .before .before .before .before .before .pages-fit .ensures) (sym (ap faultNumber (c .before .before .enum-told .given .1)) ∙ f .ensures) in
-    let ok : Sound pageSize (a .patch .now) (a .full .now) (a .base .now) (a .page .now) = sound-frame pageSize (a .patch .now) (a .full .now) (a .base .now) (a .page .now) none in
-    let e : readOutcome pageSize (a .patch .now) (a .full .now) (a .block) (a .base .now) (a .page .now) ≡ record { number = 5; kind = 0; page = a .page .now } = read-block pageSize (a .patch .now) (a .full .now) (a .block) (a .base .now) (a .page .now) none (omega (arith, c .before .blocks2 .ensures, c .if1 .taken)) in
+    let told = framed (c .before .before) in
+    let e : readOutcome pageSize (a .patch .now) (a .full .now) (a .block) (a .base .now) (a .page .now) ≡ record { number = 5; kind = 0; page = a .page .now } = read-block pageSize (a .patch .now) (a .full .now) (a .block) (a .base .now) (a .page .now) (told .0) (omega (arith, c .before .blocks2 .ensures, c .if1 .taken)) in
     record { numbers = rw e; bytes = rw e }
 
 cast-read-block : tie.Need-cast-read-block
 cast-read-block c =
     let a = c .before .before .before .before .before .before .before .before .before .before .before .before .args in
-    let f = c .before .before .before .before .before .frame-fault in
-    let none : firstOf (frameRows pageSize (pageRows pageSize (a .base .now) (a .page .now)) [] (a .patch .now) (a .full .now)) ≡ 0 =
-    frame-told pageSize (a .patch .now) (a .full .now) (a .base .now) (a .page .now) (c .before .before .before .before .before .before .pages-fit .result) 0 (c .before .before .before .before .before .before .pages-fit .ensures) (sym (ap faultNumber (c .before .before .before .enum-told .given .1)) ∙ f .ensures) in
-    let ok : Sound pageSize (a .patch .now) (a .full .now) (a .base .now) (a .page .now) = sound-frame pageSize (a .patch .now) (a .full .now) (a .base .now) (a .page .now) none in
-    let most : blocksIn (length (a .patch .now)) ≤ blocksAtMost pageSize = patch-fits-is pageSize (length (a .patch .now)) (ok .patch-fit) .1 in
+    let told = framed (c .before .before .before) in
+    let most : blocksIn (length (a .patch .now)) ≤ blocksAtMost pageSize = patch-fits-is pageSize (length (a .patch .now)) (told .1 .patch-fit) .1 in
     omega (arith, c .before .before .blocks2 .ensures, c .before .if1 .left)
 
 slice-aggregate-read-block : tie.Need-slice-aggregate-read-block
@@ -63,11 +68,8 @@ slice-aggregate-read-block c = search needs
 read-block-requires : tie.Need-read-block-requires
 read-block-requires c κs =
     let a = c .before .before .before .before .before .before .before .before .before .before .before .before .before .before .args in
-    let f = c .before .before .before .before .before .before .before .frame-fault in
-    let none : firstOf (frameRows pageSize (pageRows pageSize (a .base .now) (a .page .now)) [] (a .patch .now) (a .full .now)) ≡ 0 =
-    frame-told pageSize (a .patch .now) (a .full .now) (a .base .now) (a .page .now) (c .before .before .before .before .before .before .before .before .pages-fit .result) 0 (c .before .before .before .before .before .before .before .before .pages-fit .ensures) (sym (ap faultNumber (c .before .before .before .before .before .enum-told .given .1)) ∙ f .ensures) in
-    let ok : Sound pageSize (a .patch .now) (a .full .now) (a .base .now) (a .page .now) = sound-frame pageSize (a .patch .now) (a .full .now) (a .base .now) (a .page .now) none in
-    ((refl, ok .page-size), places pageSize (blocksIn (length (a .patch .now))) (a .full .now) (lit< tt) (ok .full-fit))
+    let told = framed (c .before .before .before .before .before) in
+    ((refl, told .1 .page-size), places pageSize (blocksIn (length (a .patch .now))) (a .full .now) (lit< tt) (told .1 .full-fit))
 
 same-length-2 : tie.Need-same-length-2
 same-length-2 c = search needs
@@ -76,33 +78,24 @@ returns-2 : tie.Need-returns-2
 unfolding zeros
 returns-2 c =
     let a = c .before .before .before .before .before .before .before .before .before .before .before .before .before .before .before .before .before .args in
-    let f = c .before .before .before .before .before .before .before .before .before .before .frame-fault in
-    let none : firstOf (frameRows pageSize (pageRows pageSize (a .base .now) (a .page .now)) [] (a .patch .now) (a .full .now)) ≡ 0 =
-    frame-told pageSize (a .patch .now) (a .full .now) (a .base .now) (a .page .now) (c .before .before .before .before .before .before .before .before .before .before .before .pages-fit .result) 0 (c .before .before .before .before .before .before .before .before .before .before .before .pages-fit .ensures) (sym (ap faultNumber (c .before .before .before .before .before .before .before .before .enum-told .given .1)) ∙ f .ensures) in
-    let ok : Sound pageSize (a .patch .now) (a .full .now) (a .base .now) (a .page .now) = sound-frame pageSize (a .patch .now) (a .full .now) (a .base .now) (a .page .now) none in
+    let told = framed (c .before .before .before .before .before .before .before .before) in
     let e : readOutcome pageSize (a .patch .now) (a .full .now) (a .block) (a .base .now) (a .page .now) ≡ slotOutcome pageSize (a .patch .now) (a .full .now) (a .block) (zeros pageSize) (a .page .now) =
-    read-slot pageSize (a .patch .now) (a .full .now) (a .block) (a .base .now) (a .page .now) none (omega (arith, c .before .before .before .before .before .before .before .blocks2 .ensures, c .before .before .before .before .before .before .if1 .left))
+    read-slot pageSize (a .patch .now) (a .full .now) (a .block) (a .base .now) (a .page .now) (told .0) (omega (arith, c .before .before .before .before .before .before .before .blocks2 .ensures, c .before .before .before .before .before .before .if1 .left))
     ∙ same-base pageSize (a .patch .now) (a .full .now) (a .block) (a .base .now) (zeros pageSize) (a .page .now) (base-none pageSize (a .base .now) (c .before .before .before .before .before .if2 .taken) ∙ sym (zeros-base pageSize)) in
     record { numbers = rw e (c .before .before .read-block .ensures .numbers); bytes = rw e (c .before .before .read-block .ensures .bytes) }
 
 cast-read-block-2 : tie.Need-cast-read-block-2
 cast-read-block-2 c =
     let a = c .before .before .before .before .before .before .before .before .before .before .before .before .args in
-    let f = c .before .before .before .before .before .frame-fault in
-    let none : firstOf (frameRows pageSize (pageRows pageSize (a .base .now) (a .page .now)) [] (a .patch .now) (a .full .now)) ≡ 0 =
-    frame-told pageSize (a .patch .now) (a .full .now) (a .base .now) (a .page .now) (c .before .before .before .before .before .before .pages-fit .result) 0 (c .before .before .before .before .before .before .pages-fit .ensures) (sym (ap faultNumber (c .before .before .before .enum-told .given .1)) ∙ f .ensures) in
-    let ok : Sound pageSize (a .patch .now) (a .full .now) (a .base .now) (a .page .now) = sound-frame pageSize (a .patch .now) (a .full .now) (a .base .now) (a .page .now) none in
-    let most : blocksIn (length (a .patch .now)) ≤ blocksAtMost pageSize = patch-fits-is pageSize (length (a .patch .now)) (ok .patch-fit) .1 in
+    let told = framed (c .before .before .before) in
+    let most : blocksIn (length (a .patch .now)) ≤ blocksAtMost pageSize = patch-fits-is pageSize (length (a .patch .now)) (told .1 .patch-fit) .1 in
     omega (arith, c .before .before .blocks2 .ensures, c .before .if1 .left)
 
 read-block-requires-2 : tie.Need-read-block-requires-2
 read-block-requires-2 c κs =
     let a = c .before .before .before .before .before .before .before .before .before .before .before .before .before .args in
-    let f = c .before .before .before .before .before .before .frame-fault in
-    let none : firstOf (frameRows pageSize (pageRows pageSize (a .base .now) (a .page .now)) [] (a .patch .now) (a .full .now)) ≡ 0 =
-    frame-told pageSize (a .patch .now) (a .full .now) (a .base .now) (a .page .now) (c .before .before .before .before .before .before .before .pages-fit .result) 0 (c .before .before .before .before .before .before .before .pages-fit .ensures) (sym (ap faultNumber (c .before .before .before .before .enum-told .given .1)) ∙ f .ensures) in
-    let ok : Sound pageSize (a .patch .now) (a .full .now) (a .base .now) (a .page .now) = sound-frame pageSize (a .patch .now) (a .full .now) (a .base .now) (a .page .now) none in
-    ((ok .base-size (c .before .if2 .left), ok .page-size), places pageSize (blocksIn (length (a .patch .now))) (a .full .now) (lit< tt) (ok .full-fit))
+    let told = framed (c .before .before .before .before) in
+    ((told .1 .base-size (c .before .if2 .left), told .1 .page-size), places pageSize (blocksIn (length (a .patch .now))) (a .full .now) (lit< tt) (told .1 .full-fit))
 
 same-length-3 : tie.Need-same-length-3
 same-length-3 c = search needs
@@ -121,11 +114,8 @@ same-length-4 c = search needs
 returns-4 : tie.Need-returns-4
 returns-4 c =
     let a = c .before .before .before .before .before .before .before .before .before .before .before .before .before .before .before .before .args in
-    let f = c .before .before .before .before .before .before .before .before .before .frame-fault in
-    let none : firstOf (frameRows pageSize (pageRows pageSize (a .base .now) (a .page .now)) [] (a .patch .now) (a .full .now)) ≡ 0 =
-    frame-told pageSize (a .patch .now) (a .full .now) (a .base .now) (a .page .now) (c .before .before .before .before .before .before .before .before .before .before .pages-fit .result) 0 (c .before .before .before .before .before .before .before .before .before .before .pages-fit .ensures) (sym (ap faultNumber (c .before .before .before .before .before .before .before .enum-told .given .1)) ∙ f .ensures) in
-    let ok : Sound pageSize (a .patch .now) (a .full .now) (a .base .now) (a .page .now) = sound-frame pageSize (a .patch .now) (a .full .now) (a .base .now) (a .page .now) none in
-    let e : readOutcome pageSize (a .patch .now) (a .full .now) (a .block) (a .base .now) (a .page .now) ≡ slotOutcome pageSize (a .patch .now) (a .full .now) (a .block) (a .base .now) (a .page .now) = read-slot pageSize (a .patch .now) (a .full .now) (a .block) (a .base .now) (a .page .now) none (omega (arith, c .before .before .before .before .before .before .blocks2 .ensures, c .before .before .before .before .before .if1 .left)) in
+    let told = framed (c .before .before .before .before .before .before .before) in
+    let e : readOutcome pageSize (a .patch .now) (a .full .now) (a .block) (a .base .now) (a .page .now) ≡ slotOutcome pageSize (a .patch .now) (a .full .now) (a .block) (a .base .now) (a .page .now) = read-slot pageSize (a .patch .now) (a .full .now) (a .block) (a .base .now) (a .page .now) (told .0) (omega (arith, c .before .before .before .before .before .before .blocks2 .ensures, c .before .before .before .before .before .if1 .left)) in
     record { numbers = rw e (c .before .before .read-block2 .ensures .numbers); bytes = rw e (c .before .before .read-block2 .ensures .bytes) }
 
 pub read-spec : {M : Type 1} → statement M
