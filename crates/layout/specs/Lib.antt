@@ -4,3 +4,4 @@ pub mod Refusals
 pub mod Headers
 pub mod Slots
 pub mod Areas
+pub mod Meaning

@@ -125,3 +125,13 @@ pub decided-refused : {A : Type 0} (d : A) (r : ℕ → A) (n k : ℕ) → n ≡
 unfolding decided
 decided-refused d r n zero e h = absurd (h refl)
 decided-refused d r n (suc k) e h = ap (λ (m : ℕ). decided m d r) e
+
+-- 0 says that no row held
+pub or-none : (a b : ℕ) → orElse a b ≡ 0 → (a ≡ 0) × (b ≡ 0)
+unfolding orElse
+or-none zero b e = (refl, e)
+or-none (suc a) b e = absurd (omega arith)
+
+pub row-off : (n : ℕ) (t : Bool) → cond t (suc n) 0 ≡ 0 → t ≡ false
+row-off n true e = absurd (omega arith)
+row-off n false e = refl
