@@ -1,0 +1,119 @@
+# shellcheck shell=sh disable=SC2034 # sourced; its variables are used by others
+# Sourced by run and make-pages, after tests/common.sh: a PostgreSQL server of our own, on a private
+# socket in a temporary folder, gone again however the script ends.
+#
+#   start_workplace     makes $WORK, a temporary folder, and sees to its removal
+#   new_folder DATA     initdb with data checksums
+#   start DATA, stop    a server on that folder; stop is a clean one
+#   ask SQL...          runs SQL, answers without decoration
+
+WORK=
+SERVER_DATA=
+SERVER_USER=
+
+# Servers do not run as root: there, everything is done by the user postgres, or else nobody.
+choose_user() {
+    [ "$(id -u)" = 0 ] || return 0
+    for user in postgres nobody; do
+        if id -u "$user" >/dev/null 2>&1; then
+            SERVER_USER=$user
+            break
+        fi
+    done
+    if [ -z "$SERVER_USER" ] || ! { have runuser || have setpriv; }; then
+        echo "run this as another user than root: a PostgreSQL server refuses to run as root," >&2
+        echo "and there is no user postgres or nobody, or no runuser or setpriv" >&2
+        exit 2
+    fi
+}
+
+# Runs a command as the server's user, with no settings of somebody else's server.
+as_user() {
+    if [ -z "$SERVER_USER" ]; then
+        env -u PGDATA -u PGHOST -u PGPORT -u PGUSER -u PGDATABASE -u PGOPTIONS LC_ALL=C "$@"
+    elif have runuser; then
+        runuser -u "$SERVER_USER" -- env -i PATH="$PATH" HOME="$WORK" LC_ALL=C "$@"
+    else
+        setpriv --reuid="$SERVER_USER" --regid="$(id -g "$SERVER_USER")" --clear-groups -- \
+            env -i PATH="$PATH" HOME="$WORK" LC_ALL=C "$@"
+    fi
+}
+
+clean_up() {
+    status=$?
+    trap - EXIT
+    if [ -n "$SERVER_DATA" ]; then
+        as_user "$PG/pg_ctl" -D "$SERVER_DATA" -m immediate -w stop >/dev/null 2>&1
+    fi
+    if [ -n "$WORK" ]; then
+        cd / && rm -rf "$WORK"
+    fi
+    exit "$status"
+}
+
+start_workplace() {
+    choose_user
+    trap clean_up EXIT
+    trap 'exit 130' INT
+    trap 'exit 143' TERM HUP
+    WORK=$(mktemp -d "${TMPDIR:-/tmp}/thx.XXXXXX") || exit 2
+    if [ -n "$SERVER_USER" ]; then
+        chown "$SERVER_USER:$(id -g "$SERVER_USER")" "$WORK"
+    fi
+    # The user may not be allowed to stand where the script was started.
+    cd "$WORK" || exit 2
+}
+
+# A step that must succeed; what it printed is shown if it does not.
+must() {
+    if ! as_user "$@" >"$WORK/log" 2>&1; then
+        cat "$WORK/log" >&2
+        echo "failed: $*" >&2
+        exit 1
+    fi
+}
+
+new_folder() {
+    must "$PG/initdb" -D "$1" -U courier --data-checksums --no-sync --no-locale -E UTF8 \
+        --auth=trust --wal-segsize=1
+    as_user tee -a "$1/postgresql.conf" >/dev/null <<CONF
+listen_addresses = ''
+unix_socket_directories = '$WORK'
+unix_socket_permissions = 0700
+autovacuum = off
+max_wal_senders = 0
+wal_level = minimal
+shared_buffers = 64MB
+fsync = off
+jit = off
+timezone = 'UTC'
+CONF
+}
+
+start() {
+    SERVER_DATA=$1
+    must "$PG/pg_ctl" -D "$1" -l "$WORK/server.log" -w -t 120 start
+}
+
+stop() {
+    must "$PG/pg_ctl" -D "$SERVER_DATA" -m fast -w -t 120 stop
+    SERVER_DATA=
+}
+
+# ask DATABASE SQL
+ask() {
+    as_user "$PG/psql" -X -q -A -t -v ON_ERROR_STOP=1 -h "$WORK" -U courier -d "$1" -c "$2"
+}
+
+# The path, name and owner (user or system) of every relation with a file, by tabs.
+names_sql="
+select pg_relation_filepath(c.oid) || E'\t' ||
+       case when owner.oid is null then c.relname
+            else owner.relname || ' (long values' ||
+                 case when c.relkind = 'i' then ', index)' else ')' end end || E'\t' ||
+       case when coalesce(owner.oid, c.oid) < 16384 then 'system' else 'user' end
+from pg_class c
+left join pg_index i on i.indexrelid = c.oid
+left join pg_class owner on owner.reltoastrelid in (c.oid, i.indrelid)
+where pg_relation_filepath(c.oid) is not null
+order by 1"

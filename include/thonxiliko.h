@@ -1,0 +1,291 @@
+/*
+ * thonxiliko.h: changed 8 KiB pages kept beside an unchanging base.
+ *
+ * WHAT IT IS
+ *
+ * A data file of PostgreSQL is a row of pages ("blocks") of 8,192 bytes; a segment of it has at
+ * most 131,072 of them. Somebody keeps a copy that is never written to: the base. This library
+ * keeps what has changed since then in two buffers beside it:
+ *
+ *   the patch area   one slot of 512 bytes for each block: nothing, or the few bytes that differ;
+ *   the full area    whole pages, for blocks that differ in more than a slot can hold.
+ *
+ * A page is written with thx_write and read back with thx_read, always together with its page in
+ * the base. Both areas and all pages are the caller's memory. The library opens no file, keeps
+ * nothing between two calls and takes no lock; calls on different buffers may run at the same time.
+ *
+ *
+ * SIZES (bytes)
+ *
+ *   page                 8,192
+ *   base page            8,192, or 0: a base of length 0 stands for a page of 8,192 zeros. Use it
+ *                        for blocks past the end of the base file.
+ *   patch area           512 + 512 * n      for n blocks, n from 0 to 131,072. It is never absent.
+ *   full area            0 (absent), or
+ *                        4,096 + 8,192 * m  with room for the pages of blocks 0 to m - 1, m from 0
+ *                        to n. An absent full area counts as m = 0.
+ *   slot                 512
+ *   payload of a slot    1 to 504
+ *   block map            n / 4, rounded up
+ *
+ * The slot of block b starts at byte 512 + 512 * b of the patch area, its page at byte
+ * 4,096 + 8,192 * b of the full area. All numbers in the areas are little endian.
+ *
+ *
+ * WHAT THE AREAS HOLD
+ *
+ *   bytes     patch header (512 bytes)   full header (4,096 bytes)
+ *   0..7      "PBKPATCH"                 "PBKFULL" and a zero byte
+ *   8..9      version 2                  version 1
+ *   10..11    flags 0                    flags 0
+ *   12..15    page size 8192             page size 8192
+ *   16..19    slot size 512              zero
+ *   rest      zero                       zero
+ *
+ * A slot: kind (1 byte), flags (1), payload length (2), four zero bytes, 504 bytes of room.
+ * Three slots are sound:
+ *
+ *   kind 0  EMPTY      the page equals its base. All 512 bytes are zero.
+ *   kind 1  PATCH      flags 1, payload length 1 to 504, zero after the payload.
+ *   kind 2  FULL_REF   the page stands in the full area. Every other byte is zero.
+ *
+ * A payload is a row of entries, each a jump and a value byte. A jump of 0 to 254 is one byte; the
+ * byte 255 is followed by a jump of 16 bits. A position starts at -1, grows by jump + 1 with each
+ * entry, must stay at or below 8,191, and the value replaces the base's byte there. A payload is
+ * sound if it has 1 to 504 bytes and is used up by whole entries that stay in the page. The stream
+ * that the library itself makes has one entry for each byte that differs, in rising order, and no
+ * other; jumps of 255 and more take the long form. An entry takes 2 or 4 bytes, so a page with up
+ * to 221 differences always fits a slot and one with more than 252 never does.
+ *
+ *
+ * ANSWERS
+ *
+ * Every function but thx_show answers with a struct whose first member `number` is 0 if the call
+ * was done, else the refusal:
+ *
+ *    0  THX_DONE              done
+ *    1  THX_BAD_PAGE_LENGTH   a base is not 0 or 8,192 bytes, or another page is not 8,192 bytes
+ *    2  THX_BAD_AREA_LENGTH   the length of an area or slot is none of those above, m is over n, or
+ *                             n is over 131,072
+ *    3  THX_BAD_HEADER        magic, flags, sizes or zero bytes of a header are wrong
+ *    4  THX_BAD_VERSION       the version in a header is wrong
+ *    5  THX_BAD_BLOCK         the block is not below n
+ *    6  THX_BAD_SLOT          the slot is not sound
+ *    7  THX_BAD_PAYLOAD       the payload is not sound
+ *    8  THX_NO_FULL_PAGE      a full page is needed for a block that is not below m
+ *    9  THX_SHORT_BUFFER      the payload buffer or the map buffer is too short
+ *   10  THX_STRAY_PAGE        thx_build: the block's place in the full area is not zero although
+ *                             its slot is not FULL_REF
+ *   11  THX_BAD_PAIR          a pair of the map is 3, or a pair past n is not 0
+ *
+ * Order. Where several refusals apply, the first one in this order is given:
+ *   1, 2, 9, headers, 5, 6, 8, 7, 10, 11.
+ * "Headers" is six steps: patch magic (3), patch version (4), the rest of the patch header (3),
+ * then the same three for the full header. A full area of length 0 has no header to check.
+ *
+ * On every refusal all buffers keep every byte they had, and every other member of the answer is 0
+ * (`last` too), except that thx_build gives the block with 6, 7, 8 and 10. A refusal is given
+ * whenever its condition holds and no earlier one does, and at no other time.
+ *
+ *
+ * BUFFERS
+ *
+ * A buffer is a pointer and its length in bytes. Any length is allowed; a wrong one is refused by
+ * its number. Where the length is 0 the pointer is not used and may be anything, NULL too. Else it
+ * points to that many bytes, which may lie at any address: nothing needs to be aligned.
+ *
+ * Overlap. A buffer that a call writes (one without const) must not overlap any other buffer of
+ * that call. Two buffers that a call only reads may be the same or overlap.
+ *
+ * Numbers may be anything up to 2^64 - 1: a block or an n that is too large is refused.
+ */
+#ifndef THONXILIKO_H
+#define THONXILIKO_H
+
+#include <stddef.h>
+#include <stdint.h>
+
+#ifdef __cplusplus
+extern "C" {
+#endif
+
+/* Sizes in bytes. */
+#define THX_PAGE_SIZE 8192
+#define THX_SLOT_SIZE 512
+#define THX_PAYLOAD_SIZE 504
+#define THX_PATCH_HEADER_SIZE 512
+#define THX_FULL_HEADER_SIZE 4096
+
+/* The most blocks that one patch area has slots for. */
+#define THX_MAX_BLOCKS 131072
+
+/* The numbers given back, as described above. */
+#define THX_DONE 0
+#define THX_BAD_PAGE_LENGTH 1
+#define THX_BAD_AREA_LENGTH 2
+#define THX_BAD_HEADER 3
+#define THX_BAD_VERSION 4
+#define THX_BAD_BLOCK 5
+#define THX_BAD_SLOT 6
+#define THX_BAD_PAYLOAD 7
+#define THX_NO_FULL_PAGE 8
+#define THX_SHORT_BUFFER 9
+#define THX_STRAY_PAGE 10
+#define THX_BAD_PAIR 11
+
+/* Kinds of a slot, in the answers of thx_judge, thx_read and thx_write. */
+#define THX_KIND_EMPTY 0
+#define THX_KIND_PATCH 1
+#define THX_KIND_FULL 2
+
+/* Kinds of a difference, in the answer of thx_compare. */
+#define THX_SAME 0
+#define THX_PATCH 1
+#define THX_LARGE 2
+
+/* Pairs of a block map. They are not numbered as the kinds are. */
+#define THX_PAIR_EMPTY 0
+#define THX_PAIR_FULL 1
+#define THX_PAIR_PATCH 2
+
+typedef struct { uint32_t number; } thx_done;
+typedef struct { uint32_t number, kind, length, entries; int32_t last; } thx_compared;
+typedef struct { uint32_t number, entries; int32_t last; } thx_applied;
+typedef struct { uint32_t number, kind, length; } thx_judged;
+typedef struct { uint64_t at, len; } thx_part; /* patch[at .. at + len]; both 0 for an empty part */
+typedef struct { uint32_t number, kind; } thx_reading;
+typedef struct { uint32_t number, kind, length; } thx_written;
+typedef struct { uint32_t number; uint64_t block; } thx_built;
+typedef struct { uint32_t number, pair; } thx_pair;
+typedef struct { uint32_t number; uint64_t patch, full; } thx_tallied;
+
+/*
+ * Format: make both areas new and empty.
+ *
+ * Refuses, in this order: 2 if a length is wrong. Nothing else is checked; old contents do not
+ * matter.
+ * Writes: every byte of both areas, the headers and then zeros. Pass full_len 0 for a store without
+ * a full area.
+ */
+thx_done thx_format(uint8_t *patch, size_t patch_len, uint8_t *full, size_t full_len);
+
+/*
+ * Compare: the stream of the bytes in which `page` differs from `base`.
+ *
+ * Refuses, in this order: 1 if base_len is not 0 or 8,192 or page_len is not 8,192; 9 if
+ * payload_len is below 504, whatever the stream's length.
+ * Writes: for THX_PATCH the first `length` bytes of `payload`; later bytes stay. For THX_SAME and
+ * THX_LARGE nothing.
+ * Answers: kind    THX_SAME if there is no difference, THX_PATCH if the stream takes at most 504
+ *                  bytes, else THX_LARGE;
+ *          length  of the whole stream in bytes, for THX_LARGE too (506 to 16,384);
+ *          entries the number of entries in the stream, that is of bytes that differ;
+ *          last    the last position that differs, -1 if there is none.
+ */
+thx_compared thx_compare(const uint8_t *base, size_t base_len, const uint8_t *page, size_t page_len,
+                         uint8_t *payload, size_t payload_len);
+
+/*
+ * Apply: fill `page` with the base and then the payload's entries.
+ *
+ * Refuses, in this order: 1 if base_len is not 0 or 8,192 or page_len is not 8,192; 7 if the
+ * payload is not sound. An empty payload is not sound, nor is one of more than 504 bytes.
+ * Writes: all 8,192 bytes of `page`.
+ * Answers: entries the number of entries applied; last the position of the last one.
+ */
+thx_applied thx_apply(const uint8_t *base, size_t base_len, const uint8_t *payload,
+                      size_t payload_len, uint8_t *page, size_t page_len);
+
+/*
+ * Judge: whether one slot is sound. The payload's entries are not looked at.
+ *
+ * Refuses, in this order: 2 if slot_len is not 512; 6 if the slot is not sound.
+ * Writes: nothing.
+ * Answers: kind, and the payload length for THX_KIND_PATCH (0 for the others).
+ */
+thx_judged thx_judge(const uint8_t *slot, size_t slot_len);
+
+/*
+ * Show: where a block's payload lies in the patch area.
+ *
+ * Refuses by an empty part (at 0, len 0) if patch_len is wrong, the patch header is wrong, the
+ * block is not below n, or its slot is not a sound PATCH slot. The entries are not looked at.
+ * Writes: nothing.
+ * Answers: the payload is patch[at] to patch[at + len - 1].
+ */
+thx_part thx_show(const uint8_t *patch, size_t patch_len, uint64_t block);
+
+/*
+ * Read: fill `page` with a block: its base, its patched base, or its page in the full area.
+ *
+ * `base` is the block's page in the base, the same that it was written with.
+ * Refuses, in this order: 1 if base_len is not 0 or 8,192 or page_len is not 8,192; 2 if the length
+ * of an area is wrong; 3 or 4 for the headers; 5 if the block is not below n; 6 if its slot is not
+ * sound; 8 if the slot is FULL_REF and the block is not below m; 7 if its payload is not sound.
+ * Other blocks are not looked at.
+ * Writes: all 8,192 bytes of `page`.
+ * Answers: the kind of the block's slot.
+ */
+thx_reading thx_read(const uint8_t *patch, size_t patch_len, const uint8_t *full, size_t full_len,
+                     uint64_t block, const uint8_t *base, size_t base_len, uint8_t *page,
+                     size_t page_len);
+
+/*
+ * Write: keep `page` as the block's page.
+ *
+ * `base` is the block's page in the base. The page is compared with it and not with what was
+ * written before; the old slot is not looked at.
+ * Refuses, in this order: 1 if base_len is not 0 or 8,192 or page_len is not 8,192; 2 if the length
+ * of an area is wrong; 3 or 4 for the headers; 5 if the block is not below n; 8 if the page needs
+ * the full area and the block is not below m.
+ * Writes: the block's slot; and, if the block is below m, its place in the full area: the page for
+ * FULL_REF, zeros otherwise. Nothing else.
+ * Answers: kind    stored: EMPTY if the page equals its base, PATCH if the stream takes at most 504
+ *                  bytes, else FULL_REF;
+ *          length  of the stream as in thx_compare, for FULL_REF too.
+ */
+thx_written thx_write(uint8_t *patch, size_t patch_len, uint8_t *full, size_t full_len,
+                      uint64_t block, const uint8_t *base, size_t base_len, const uint8_t *page,
+                      size_t page_len);
+
+/*
+ * Build: check every block and make the block map.
+ *
+ * The map has two bits for each block: block b in bits 2 * (b mod 4) and up of byte b / 4.
+ * Refuses, in this order: 2 if the length of an area is wrong; 9 if map_len is below n / 4, rounded
+ * up; 3 or 4 for the headers; then block by block in rising order, stopping at the first fault, and
+ * for one block 6 if its slot is not sound, 8 if it is FULL_REF and not below m, 7 if its payload
+ * is not sound, 10 if it is not FULL_REF and its place in the full area is not all zero.
+ * Writes: the first n / 4 bytes of the map, rounded up. Unused pairs of the last byte are 0; later
+ * bytes stay.
+ * Answers: block: the block at fault with 6, 7, 8 and 10, else 0.
+ */
+thx_built thx_build(const uint8_t *patch, size_t patch_len, const uint8_t *full, size_t full_len,
+                    uint8_t *map, size_t map_len);
+
+/*
+ * Look up: one pair of a map of n blocks.
+ *
+ * Refuses, in this order: 2 if n is over 131,072; 9 if map_len is below n / 4, rounded up; 5 if the
+ * block is not below n; 11 if the block's own pair is 3. Other pairs are not looked at.
+ * Writes: nothing.
+ * Answers: pair, one of THX_PAIR_EMPTY, THX_PAIR_FULL and THX_PAIR_PATCH.
+ */
+thx_pair thx_look_up(const uint8_t *map, size_t map_len, uint64_t n, uint64_t block);
+
+/*
+ * Tally: count the PATCH and the full pairs of a map of n blocks.
+ *
+ * Refuses, in this order: 2 if n is over 131,072; 9 if map_len is below n / 4, rounded up; 11 if
+ * one of the n pairs is 3 or an unused pair of the last byte is not 0. Bytes after that are not
+ * looked at.
+ * Writes: nothing.
+ * Answers: patch, the number of PATCH pairs; full, the number of full pairs.
+ */
+thx_tallied thx_tally(const uint8_t *map, size_t map_len, uint64_t n);
+
+#ifdef __cplusplus
+}
+#endif
+
+#endif

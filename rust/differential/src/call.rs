@@ -1,0 +1,179 @@
+//! A call with its inputs, and what comes of it.
+
+use std::fmt;
+
+pub const PAGE: usize = 8192;
+pub const SLOT: usize = 512;
+pub const PAYLOAD: usize = 504;
+pub const PATCH_HEADER: usize = 512;
+pub const FULL_HEADER: usize = 4096;
+pub const MAX_BLOCKS: usize = 131_072;
+
+#[derive(Clone, Copy, Debug, PartialEq, Eq)]
+pub enum Call {
+    Format,
+    Compare,
+    Apply,
+    Judge,
+    Show,
+    Read,
+    Write,
+    Build,
+    LookUp,
+    Tally,
+}
+
+impl Call {
+    pub const ALL: [Call; 10] = [
+        Call::Format,
+        Call::Compare,
+        Call::Apply,
+        Call::Judge,
+        Call::Show,
+        Call::Read,
+        Call::Write,
+        Call::Build,
+        Call::LookUp,
+        Call::Tally,
+    ];
+
+    pub fn name(self) -> &'static str {
+        match self {
+            Call::Format => "format",
+            Call::Compare => "compare",
+            Call::Apply => "apply",
+            Call::Judge => "judge",
+            Call::Show => "show",
+            Call::Read => "read",
+            Call::Write => "write",
+            Call::Build => "build",
+            Call::LookUp => "look_up",
+            Call::Tally => "tally",
+        }
+    }
+
+    /// The call's buffers in the order of the C interface.
+    pub fn buffers(self) -> &'static [&'static str] {
+        match self {
+            Call::Format => &["patch", "full"],
+            Call::Compare => &["base", "page", "payload"],
+            Call::Apply => &["base", "payload", "page"],
+            Call::Judge => &["slot"],
+            Call::Show => &["patch"],
+            Call::Read => &["patch", "full", "base", "page"],
+            Call::Write => &["patch", "full", "base", "page"],
+            Call::Build => &["patch", "full", "map"],
+            Call::LookUp => &["map"],
+            Call::Tally => &["map"],
+        }
+    }
+
+    /// The numbers that the call can give, 0 included. Show gives none.
+    pub fn numbers(self) -> &'static [usize] {
+        match self {
+            Call::Format => &[0, 2],
+            Call::Compare => &[0, 1, 9],
+            Call::Apply => &[0, 1, 7],
+            Call::Judge => &[0, 2, 6],
+            Call::Show => &[],
+            Call::Read => &[0, 1, 2, 3, 4, 5, 6, 7, 8],
+            Call::Write => &[0, 1, 2, 3, 4, 5, 8],
+            Call::Build => &[0, 2, 3, 4, 6, 7, 8, 9, 10],
+            Call::LookUp => &[0, 2, 5, 9, 11],
+            Call::Tally => &[0, 2, 9, 11],
+        }
+    }
+}
+
+/// The members of an answer in the order of the C interface, 0 for members that the call's answer
+/// does not have. Wide enough for every member, signed or not.
+#[derive(Clone, Copy, Debug, PartialEq, Eq)]
+pub struct Answer(pub [i128; 5]);
+
+impl Answer {
+    pub fn of(members: &[i128]) -> Answer {
+        let mut answer = [0; 5];
+        answer[..members.len()].copy_from_slice(members);
+        Answer(answer)
+    }
+
+    /// The refusal or 0; not for Show, whose answer has no number.
+    pub fn number(&self) -> i128 {
+        self.0[0]
+    }
+}
+
+/// One call with everything it is lent and told. `n` and `block` are unused where the call has none.
+#[derive(Clone, Debug)]
+pub struct Input {
+    pub call: Call,
+    pub buffers: Vec<Vec<u8>>,
+    pub n: u64,
+    pub block: u64,
+}
+
+impl Input {
+    pub fn new(call: Call, buffers: Vec<Vec<u8>>) -> Input {
+        assert_eq!(buffers.len(), call.buffers().len(), "buffers of {}", call.name());
+        Input { call, buffers, n: 0, block: 0 }
+    }
+
+    pub fn at_block(self, block: u64) -> Input {
+        Input { block, ..self }
+    }
+
+    pub fn told(self, n: u64) -> Input {
+        Input { n, ..self }
+    }
+}
+
+impl fmt::Display for Input {
+    fn fmt(&self, f: &mut fmt::Formatter<'_>) -> fmt::Result {
+        write!(f, "{}(", self.call.name())?;
+        for (name, bytes) in self.call.buffers().iter().zip(&self.buffers) {
+            write!(f, "{name}: {} bytes #{:016x}, ", bytes.len(), fingerprint(bytes))?;
+        }
+        write!(f, "n: {}, block: {})", self.n, self.block)
+    }
+}
+
+/// Tells buffers apart in messages (FNV-1a).
+fn fingerprint(bytes: &[u8]) -> u64 {
+    bytes.iter().fold(0xCBF2_9CE4_8422_2325, |hash, byte| {
+        (hash ^ u64::from(*byte)).wrapping_mul(0x0000_0100_0000_01B3)
+    })
+}
+
+/// The answer of a call and every lent buffer after it.
+#[derive(Clone, Debug, PartialEq, Eq)]
+pub struct Outcome {
+    pub answer: Answer,
+    pub buffers: Vec<Vec<u8>>,
+}
+
+impl Outcome {
+    /// What differs from the outcome that was expected, if anything does.
+    pub fn difference(&self, expected: &Outcome, call: Call) -> Option<String> {
+        if self.answer != expected.answer {
+            return Some(format!("answer {:?}, expected {:?}", self.answer.0, expected.answer.0));
+        }
+        for (index, name) in call.buffers().iter().enumerate() {
+            let (got, want) = (&self.buffers[index], &expected.buffers[index]);
+            if let Some(found) = first_difference(got, want) {
+                return Some(format!("buffer {name}: {found}"));
+            }
+        }
+        None
+    }
+}
+
+pub fn first_difference(got: &[u8], want: &[u8]) -> Option<String> {
+    if got == want {
+        return None;
+    }
+    if got.len() != want.len() {
+        return Some(format!("{} bytes, expected {}", got.len(), want.len()));
+    }
+    let at = got.iter().zip(want).position(|(a, b)| a != b)?;
+    Some(format!("byte {at} is {:02X}, expected {:02X}", got[at], want[at]))
+}

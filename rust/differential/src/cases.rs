@@ -1,0 +1,754 @@
+//! Inputs with their outcomes written by hand from the rules: P1 to P12, both sides of each edge, the
+//! order of refusals, and the shortcuts that give a wrong page.
+
+use crate::call::{Answer, Call, Input, Outcome, FULL_HEADER, PAGE, PATCH_HEADER, PAYLOAD, SLOT};
+
+pub struct Case {
+    pub name: String,
+    pub input: Input,
+    pub expected: Outcome,
+}
+
+/// Bytes that a call puts into one of its buffers; all other bytes stay.
+struct Put {
+    buffer: usize,
+    at: usize,
+    bytes: Vec<u8>,
+}
+
+fn put(buffer: usize, at: usize, bytes: &[u8]) -> Put {
+    Put { buffer, at, bytes: bytes.to_vec() }
+}
+
+fn case(name: &str, input: Input, answer: &[i128], puts: &[Put]) -> Case {
+    let mut buffers = input.buffers.clone();
+    for put in puts {
+        buffers[put.buffer][put.at..put.at + put.bytes.len()].copy_from_slice(&put.bytes);
+    }
+    let expected = Outcome { answer: Answer::of(answer), buffers };
+    Case { name: name.to_string(), input, expected }
+}
+
+fn zeros() -> Vec<u8> {
+    vec![0; PAGE]
+}
+
+/// A page of zeros but for these bytes.
+fn page(changes: &[(usize, u8)]) -> Vec<u8> {
+    let mut page = zeros();
+    for (at, value) in changes {
+        page[*at] = *value;
+    }
+    page
+}
+
+/// Ones in a run and at one more position.
+fn ones(run: std::ops::RangeInclusive<usize>, more: Option<usize>) -> Vec<u8> {
+    let mut page = zeros();
+    page[run].fill(1);
+    if let Some(at) = more {
+        page[at] = 1;
+    }
+    page
+}
+
+const FILLER: u8 = 0xEE;
+
+fn filler(length: usize) -> Vec<u8> {
+    vec![FILLER; length]
+}
+
+// Areas, written out byte by byte.
+
+fn patch_area(n: usize) -> Vec<u8> {
+    let mut area = vec![0; PATCH_HEADER + SLOT * n];
+    area[..8].copy_from_slice(b"PBKPATCH");
+    area[8] = 2;
+    area[13] = 0x20; // 8192 = 0x2000
+    area[17] = 0x02; // 512 = 0x0200
+    area
+}
+
+fn full_area(m: usize) -> Vec<u8> {
+    let mut area = vec![0; FULL_HEADER + PAGE * m];
+    area[..7].copy_from_slice(b"PBKFULL");
+    area[8] = 1;
+    area[13] = 0x20;
+    area
+}
+
+fn slot(bytes: &[u8]) -> Vec<u8> {
+    let mut slot = vec![0; SLOT];
+    slot[..bytes.len()].copy_from_slice(bytes);
+    slot
+}
+
+fn patch_slot(payload: &[u8]) -> Vec<u8> {
+    let mut bytes = vec![1, 1, payload.len() as u8, (payload.len() >> 8) as u8, 0, 0, 0, 0];
+    bytes.extend_from_slice(payload);
+    slot(&bytes)
+}
+
+fn with(mut area: Vec<u8>, at: usize, bytes: &[u8]) -> Vec<u8> {
+    area[at..at + bytes.len()].copy_from_slice(bytes);
+    area
+}
+
+fn compare(base: Vec<u8>, page: Vec<u8>, payload: Vec<u8>) -> Input {
+    Input::new(Call::Compare, vec![base, page, payload])
+}
+
+fn apply(base: Vec<u8>, payload: &[u8], page: Vec<u8>) -> Input {
+    Input::new(Call::Apply, vec![base, payload.to_vec(), page])
+}
+
+fn judge(slot: Vec<u8>) -> Input {
+    Input::new(Call::Judge, vec![slot])
+}
+
+fn show(patch: Vec<u8>, block: u64) -> Input {
+    Input::new(Call::Show, vec![patch]).at_block(block)
+}
+
+fn read(patch: Vec<u8>, full: Vec<u8>, block: u64, base: Vec<u8>) -> Input {
+    Input::new(Call::Read, vec![patch, full, base, filler(PAGE)]).at_block(block)
+}
+
+fn write(patch: Vec<u8>, full: Vec<u8>, block: u64, base: Vec<u8>, page: Vec<u8>) -> Input {
+    Input::new(Call::Write, vec![patch, full, base, page]).at_block(block)
+}
+
+fn build(patch: Vec<u8>, full: Vec<u8>, map: Vec<u8>) -> Input {
+    Input::new(Call::Build, vec![patch, full, map])
+}
+
+fn look_up(map: &[u8], n: u64, block: u64) -> Input {
+    Input::new(Call::LookUp, vec![map.to_vec()]).told(n).at_block(block)
+}
+
+fn tally(map: &[u8], n: u64) -> Input {
+    Input::new(Call::Tally, vec![map.to_vec()]).told(n)
+}
+
+fn format(patch: Vec<u8>, full: Vec<u8>) -> Input {
+    Input::new(Call::Format, vec![patch, full])
+}
+
+/// P1 to P6: the changes over zeros, the stream, its entries and last position.
+struct Example {
+    name: &'static str,
+    changes: &'static [(usize, u8)],
+    payload: &'static [u8],
+    entries: i128,
+    last: i128,
+}
+
+const EXAMPLES: [Example; 6] = [
+    Example { name: "P1", changes: &[(0, 7)], payload: &[0x00, 0x07], entries: 1, last: 0 },
+    Example { name: "P2", changes: &[(254, 1)], payload: &[0xFE, 0x01], entries: 1, last: 254 },
+    Example {
+        name: "P3",
+        changes: &[(255, 1)],
+        payload: &[0xFF, 0xFF, 0x00, 0x01],
+        entries: 1,
+        last: 255,
+    },
+    Example {
+        name: "P4",
+        changes: &[(8191, 1)],
+        payload: &[0xFF, 0xFF, 0x1F, 0x01],
+        entries: 1,
+        last: 8191,
+    },
+    Example {
+        name: "P5",
+        changes: &[(0, 1), (255, 1)],
+        payload: &[0x00, 0x01, 0xFE, 0x01],
+        entries: 2,
+        last: 255,
+    },
+    Example {
+        name: "P6",
+        changes: &[(0, 1), (256, 1)],
+        payload: &[0x00, 0x01, 0xFF, 0xFF, 0x00, 0x01],
+        entries: 2,
+        last: 256,
+    },
+];
+
+/// P1 to P6 in every call that they say something about, with both forms of a base of zeros.
+fn examples(cases: &mut Vec<Case>) {
+    for example in &EXAMPLES {
+        let length = example.payload.len() as i128;
+        for base in [Vec::new(), zeros()] {
+            let modified = page(example.changes);
+            cases.push(case(
+                &format!("{} compared, base of {}", example.name, base.len()),
+                compare(base.clone(), modified.clone(), filler(510)),
+                &[0, 1, length, example.entries, example.last],
+                &[put(2, 0, example.payload)],
+            ));
+            cases.push(case(
+                &format!("{} applied, base of {}", example.name, base.len()),
+                apply(base.clone(), example.payload, filler(PAGE)),
+                &[0, example.entries, example.last],
+                &[put(2, 0, &modified)],
+            ));
+            cases.push(case(
+                &format!("{} written, base of {}", example.name, base.len()),
+                write(patch_area(2), full_area(2), 1, base.clone(), modified.clone()),
+                &[0, 1, length],
+                &[put(0, 1024, &patch_slot(example.payload))],
+            ));
+            cases.push(case(
+                &format!("{} read, base of {}", example.name, base.len()),
+                read(
+                    with(patch_area(2), 1024, &patch_slot(example.payload)),
+                    full_area(2),
+                    1,
+                    base,
+                ),
+                &[0, 1],
+                &[put(3, 0, &modified)],
+            ));
+        }
+        cases.push(case(
+            &format!("{} judged", example.name),
+            judge(patch_slot(example.payload)),
+            &[0, 1, length],
+            &[],
+        ));
+        cases.push(case(
+            &format!("{} shown", example.name),
+            show(with(patch_area(2), 1024, &patch_slot(example.payload)), 1),
+            &[1032, length],
+            &[],
+        ));
+    }
+}
+
+/// P7 to P12.
+fn more_examples(cases: &mut Vec<Case>) {
+    let unsound: [(&str, &[u8]); 4] = [
+        ("P7", &[0xFF, 0x00, 0x20, 0x01]),
+        ("P8", &[0xFF, 0xFF, 0x1F, 0x01, 0x00, 0x02]),
+        ("P9", &[0x00]),
+        ("P10", &[]),
+    ];
+    for (name, payload) in unsound {
+        cases.push(case(name, apply(Vec::new(), payload, filler(PAGE)), &[7], &[]));
+        if !payload.is_empty() {
+            let area = with(patch_area(1), 512, &patch_slot(payload));
+            let input = read(area.clone(), Vec::new(), 0, Vec::new());
+            cases.push(case(&format!("{name} read"), input, &[7], &[]));
+            let input = build(area, Vec::new(), filler(1));
+            cases.push(case(&format!("{name} built"), input, &[7, 0], &[]));
+        }
+    }
+    let equal = vec![0x33; PAGE];
+    cases.push(case("P11", compare(Vec::new(), zeros(), filler(504)), &[0, 0, 0, 0, -1], &[]));
+    cases.push(case(
+        "P11 over a base of 33s",
+        compare(equal.clone(), equal, filler(504)),
+        &[0, 0, 0, 0, -1],
+        &[],
+    ));
+    cases.push(case(
+        "P12",
+        apply(Vec::new(), &[0xFF, 0x00, 0x00, 0x05], filler(PAGE)),
+        &[0, 1, 0],
+        &[put(2, 0, &page(&[(0, 5)]))],
+    ));
+}
+
+/// Where a stream stops fitting into a slot.
+fn stream_edges(cases: &mut Vec<Case>) {
+    // Jump 0 and value 1, over and over.
+    let run = |entries: usize| [0x00, 0x01].repeat(entries);
+    let far = |entries: usize| {
+        let mut stream = run(entries);
+        stream.extend_from_slice(&[0xFF, 0xFF, 0x00, 0x01]);
+        stream
+    };
+    let edges = [
+        ("bytes 0 to 251", ones(0..=251, None), [0, 1, 504, 252, 251], run(252)),
+        ("bytes 0 to 252", ones(0..=252, None), [0, 2, 506, 253, 252], vec![]),
+        ("bytes 0 to 249 and 505", ones(0..=249, Some(505)), [0, 1, 504, 251, 505], far(250)),
+        ("bytes 0 to 250 and 506", ones(0..=250, Some(506)), [0, 2, 506, 252, 506], vec![]),
+        ("every byte", vec![1; PAGE], [0, 2, 16_384, 8_192, 8_191], vec![]),
+        ("bytes 0 to 250 and 505", ones(0..=250, Some(505)), [0, 1, 504, 252, 505], {
+            let mut stream = run(251);
+            stream.extend_from_slice(&[0xFE, 0x01]);
+            stream
+        }),
+    ];
+    for (name, modified, answer, stream) in edges {
+        let input = compare(Vec::new(), modified.clone(), filler(600));
+        cases.push(case(&format!("{name}: compared"), input, &answer, &[put(2, 0, &stream)]));
+
+        let (kind, length) = (answer[1], answer[2]);
+        let input = write(patch_area(1), full_area(1), 0, Vec::new(), modified.clone());
+        let puts = if kind == 1 {
+            vec![put(0, 512, &patch_slot(&stream))]
+        } else {
+            vec![put(0, 512, &[2]), put(1, 4096, &modified)]
+        };
+        cases.push(case(&format!("{name}: written"), input, &[0, kind, length], &puts));
+
+        for (form, full) in [("absent", Vec::new()), ("without pages", full_area(0))] {
+            let input = write(patch_area(1), full, 0, Vec::new(), modified.clone());
+            let name = format!("{name}: written, full area {form}");
+            if kind == 1 {
+                let puts = [put(0, 512, &patch_slot(&stream))];
+                cases.push(case(&name, input, &[0, 1, length], &puts));
+            } else {
+                cases.push(case(&name, input, &[8], &[]));
+            }
+        }
+    }
+}
+
+/// The most differences that always fit, and one more.
+fn spread_edges(cases: &mut Vec<Case>) {
+    // 31 entries with the long code at positions 255, 511, ..., 7935, then a run.
+    let spread = |run: usize| {
+        let mut page = zeros();
+        (1..=31).for_each(|entry| page[256 * entry - 1] = 1);
+        page[7936..7936 + run].fill(1);
+        page
+    };
+    let mut stream = [0xFF, 0xFF, 0x00, 0x01].repeat(31);
+    stream.extend([0x00, 0x01].repeat(190));
+    cases.push(case(
+        "221 differences, 31 of them far apart",
+        compare(Vec::new(), spread(190), filler(504)),
+        &[0, 1, 504, 221, 8125],
+        &[put(2, 0, &stream)],
+    ));
+    cases.push(case(
+        "222 differences, 31 of them far apart",
+        compare(Vec::new(), spread(191), filler(504)),
+        &[0, 2, 506, 222, 8126],
+        &[],
+    ));
+}
+
+fn no_blocks(cases: &mut Vec<Case>) {
+    for full in [Vec::new(), full_area(0)] {
+        let with_full = full.len();
+        let input = build(patch_area(0), full.clone(), Vec::new());
+        cases.push(case(&format!("n = 0: built, full area of {with_full}"), input, &[0], &[]));
+        let input = build(patch_area(0), full.clone(), filler(2));
+        cases.push(case("n = 0: built into a longer map", input, &[0], &[]));
+        for block in [0, 1, u64::MAX] {
+            let input = read(patch_area(0), full.clone(), block, Vec::new());
+            cases.push(case(&format!("n = 0: block {block} read"), input, &[5], &[]));
+        }
+        let input = write(patch_area(0), full, 0, Vec::new(), zeros());
+        cases.push(case("n = 0: block 0 written", input, &[5], &[]));
+    }
+    let input = build(patch_area(0), full_area(1), Vec::new());
+    cases.push(case("n = 0 with one page", input, &[2], &[]));
+}
+
+fn slots(cases: &mut Vec<Case>) {
+    let full_payload = patch_slot(&[0x00; PAYLOAD]);
+    let length = |low: u8, high: u8| with(full_payload.clone(), 2, &[low, high]);
+    let sound: [(&str, Vec<u8>, [i128; 3]); 5] = [
+        ("an EMPTY slot", slot(&[]), [0, 0, 0]),
+        ("a FULL_REF slot", slot(&[2]), [0, 2, 0]),
+        ("a payload of 504 bytes", length(0xF8, 0x01), [0, 1, 504]),
+        ("a payload of 1 byte", slot(&[1, 1, 1, 0, 0, 0, 0, 0, 9]), [0, 1, 1]),
+        ("zeros in a payload", slot(&[1, 1, 6, 0]), [0, 1, 6]),
+    ];
+    for (name, bytes, answer) in sound {
+        cases.push(case(name, judge(bytes), &answer, &[]));
+    }
+    let unsound: [(&str, Vec<u8>); 14] = [
+        ("a payload of 505 bytes", length(0xF9, 0x01)),
+        ("a payload of 0 bytes", slot(&[1, 1, 0, 0])),
+        ("a payload of 65,535 bytes", length(0xFF, 0xFF)),
+        ("EMPTY with flags", slot(&[0, 1])),
+        ("EMPTY with its last byte set", with(slot(&[]), 511, &[1])),
+        ("FULL_REF with flags", slot(&[2, 1])),
+        ("FULL_REF with a length", slot(&[2, 0, 1])),
+        ("FULL_REF with its last byte set", with(slot(&[2]), 511, &[1])),
+        ("kind 3", slot(&[3])),
+        ("kind 255", slot(&[255])),
+        ("PATCH with flags 0", slot(&[1, 0, 1, 0, 0, 0, 0, 0, 9])),
+        ("PATCH with flags 3", slot(&[1, 3, 1, 0, 0, 0, 0, 0, 9])),
+        ("PATCH with flags 129", slot(&[1, 129, 1, 0, 0, 0, 0, 0, 9])),
+        ("PATCH with a byte after its payload", slot(&[1, 1, 1, 0, 0, 0, 0, 0, 9, 9])),
+    ];
+    for (name, bytes) in unsound {
+        cases.push(case(name, judge(bytes), &[6], &[]));
+    }
+    for at in 4..8 {
+        let bytes = with(patch_slot(&[0, 7]), at, &[1]);
+        cases.push(case(&format!("PATCH with byte {at} set"), judge(bytes), &[6], &[]));
+    }
+    let bytes = with(patch_slot(&[0, 7]), 511, &[1]);
+    cases.push(case("PATCH with its last byte set", judge(bytes), &[6], &[]));
+    for length in [0, 1, 511, 513, 1024] {
+        let input = judge(vec![3; length]);
+        cases.push(case(&format!("a slot of {length} bytes"), input, &[2], &[]));
+    }
+}
+
+/// The six steps of the headers, and which of two faults wins.
+fn headers(cases: &mut Vec<Case>) {
+    let bad_patch = |at: usize| with(patch_area(1), at, &[0x55]);
+    let bad_full = |at: usize| with(full_area(1), at, &[0x55]);
+    let mut both = |name: &str, patch: Vec<u8>, full: Vec<u8>, number: i128| {
+        let input = read(patch.clone(), full.clone(), 0, Vec::new());
+        cases.push(case(&format!("{name}: read"), input, &[number], &[]));
+        let input = write(patch.clone(), full.clone(), 0, Vec::new(), page(&[(1, 1)]));
+        cases.push(case(&format!("{name}: written"), input, &[number], &[]));
+        let input = build(patch, full, filler(1));
+        cases.push(case(&format!("{name}: built"), input, &[number], &[]));
+    };
+    for at in [0, 7, 10, 11, 12, 13, 15, 16, 17, 19, 20, 511] {
+        both(&format!("patch header byte {at}"), bad_patch(at), full_area(1), 3);
+    }
+    for at in [8, 9] {
+        both(&format!("patch header byte {at}"), bad_patch(at), full_area(1), 4);
+    }
+    for at in [0, 6, 7, 10, 11, 12, 13, 15, 16, 19, 20, 4095] {
+        both(&format!("full header byte {at}"), patch_area(1), bad_full(at), 3);
+    }
+    for at in [8, 9] {
+        both(&format!("full header byte {at}"), patch_area(1), bad_full(at), 4);
+    }
+    both("patch version before full magic", bad_patch(8), bad_full(0), 4);
+    both("patch flags before full version", bad_patch(10), bad_full(8), 3);
+    both("patch magic before patch version", with(bad_patch(8), 0, &[0]), full_area(1), 3);
+    both("patch version before patch flags", with(bad_patch(8), 10, &[1]), full_area(1), 4);
+    both("full magic before full version", patch_area(1), with(bad_full(8), 7, &[1]), 3);
+    both("full version before full rest", patch_area(1), with(bad_full(8), 4095, &[1]), 4);
+    both("version 1 of the patch area", with(patch_area(1), 8, &[1]), full_area(1), 4);
+    both("version 258", with(patch_area(1), 8, &[2, 1]), full_area(1), 4);
+    both("a header of a full area without pages", patch_area(1), with(full_area(0), 20, &[1]), 3);
+}
+
+fn show_cases(cases: &mut Vec<Case>) {
+    let shown = with(patch_area(3), 512 + 512 * 2, &patch_slot(&[9, 9, 9]));
+    cases.push(case("an unsound payload is shown", show(shown.clone(), 2), &[1544, 3], &[]));
+    cases.push(case("an EMPTY slot is not shown", show(shown.clone(), 1), &[0, 0], &[]));
+    cases.push(case("no block 3", show(shown.clone(), 3), &[0, 0], &[]));
+    cases.push(case("block 2^55 + 2", show(shown.clone(), (1 << 55) + 2), &[0, 0], &[]));
+    let bad = with(shown.clone(), 8, &[3]);
+    cases.push(case("a wrong version is not shown", show(bad, 2), &[0, 0], &[]));
+    let bad = with(shown.clone(), 511, &[3]);
+    cases.push(case("a wrong header is not shown", show(bad, 2), &[0, 0], &[]));
+    let bad = with(shown.clone(), 1536 + 511, &[3]);
+    cases.push(case("an unsound slot is not shown", show(bad, 2), &[0, 0], &[]));
+    let bad = with(shown.clone(), 1536, &slot(&[2]));
+    cases.push(case("a FULL_REF slot is not shown", show(bad, 2), &[0, 0], &[]));
+    let mut long = shown;
+    long.push(0);
+    cases.push(case("an area one byte too long", show(long, 2), &[0, 0], &[]));
+}
+
+/// Lengths of pages and areas, and that they come before everything else.
+fn lengths(cases: &mut Vec<Case>) {
+    for length in [1, 8191, 8193] {
+        let odd = vec![1; length];
+        let name = |what: &str| format!("{what} of {length} bytes");
+        cases.push(case(
+            &name("compared base"),
+            compare(odd.clone(), zeros(), filler(504)),
+            &[1],
+            &[],
+        ));
+        cases.push(case(&name("compared page"), compare(zeros(), odd.clone(), vec![]), &[1], &[]));
+        cases.push(case(&name("applied base"), apply(odd.clone(), &[0], filler(PAGE)), &[1], &[]));
+        cases.push(case(&name("applied page"), apply(zeros(), &[0, 1], odd.clone()), &[1], &[]));
+        // A wrong page wins over wrong areas.
+        let input = read(vec![], vec![1], 9, odd.clone());
+        cases.push(case(&name("read base"), input, &[1], &[]));
+        let input = write(vec![], vec![1], 9, odd.clone(), zeros());
+        cases.push(case(&name("written base"), input, &[1], &[]));
+        let input = write(patch_area(1), vec![], 0, vec![], odd);
+        cases.push(case(&name("written page"), input, &[1], &[]));
+    }
+    cases.push(case("compared page of 0 bytes", compare(zeros(), vec![], filler(504)), &[1], &[]));
+    let input = Input::new(Call::Read, vec![patch_area(1), vec![], vec![], vec![]]);
+    cases.push(case("read page of 0 bytes", input, &[1], &[]));
+
+    for payload in [0, 1, 503] {
+        let buffer = filler(payload);
+        let name = format!("payload buffer of {payload} bytes");
+        cases.push(case(&name, compare(vec![], zeros(), buffer.clone()), &[9], &[]));
+        cases.push(case(&name, compare(vec![], page(&[(0, 7)]), buffer.clone()), &[9], &[]));
+        cases.push(case(&name, compare(vec![], vec![1; PAGE], buffer), &[9], &[]));
+    }
+
+    // Sound entries, but 506 bytes; and 503, which cannot be whole entries of two.
+    cases.push(case("506 bytes applied", apply(vec![], &[0; 506], filler(PAGE)), &[7], &[]));
+    cases.push(case("505 bytes applied", apply(vec![], &[0; 505], filler(PAGE)), &[7], &[]));
+    cases.push(case("503 bytes applied", apply(vec![], &[0; 503], filler(PAGE)), &[7], &[]));
+    cases.push(case(
+        "504 bytes applied",
+        apply(vec![], &[0; 504], filler(PAGE)),
+        &[0, 252, 251],
+        &[put(2, 0, &zeros())],
+    ));
+
+    for patch in [0, 1, 511, 513, 1023, 1025] {
+        let areas = [("absent", vec![]), ("present", full_area(0))];
+        for (form, full) in areas {
+            let name = format!("patch area of {patch} bytes, full area {form}");
+            let area = vec![0x44; patch];
+            cases.push(case(&name, format(area.clone(), full.clone()), &[2], &[]));
+            cases.push(case(&name, build(area.clone(), full.clone(), vec![]), &[2], &[]));
+            cases.push(case(&name, read(area.clone(), full.clone(), 0, vec![]), &[2], &[]));
+            cases.push(case(&name, write(area, full, 0, vec![], zeros()), &[2], &[]));
+        }
+    }
+    for full in [1, 4095, 4097, 8192, 12_287, 12_289, 20_480] {
+        let name = format!("one block and a full area of {full} bytes");
+        let area = vec![0x44; full];
+        // The patch header is wrong too; lengths come first.
+        let patch = vec![0; 1024];
+        cases.push(case(&name, format(patch.clone(), area.clone()), &[2], &[]));
+        cases.push(case(&name, build(patch.clone(), area.clone(), vec![]), &[2], &[]));
+        cases.push(case(&name, read(patch.clone(), area.clone(), 0, vec![]), &[2], &[]));
+        cases.push(case(&name, write(patch, area, 0, vec![], zeros()), &[2], &[]));
+    }
+
+    let formatted = |n, m| [put(0, 0, &patch_area(n)), put(1, 0, &full_area(m))];
+    cases.push(case(
+        "two blocks, one page",
+        format(filler(1536), filler(12_288)),
+        &[0],
+        &formatted(2, 1),
+    ));
+    cases.push(case(
+        "no block, no page, both headers",
+        format(filler(512), filler(4096)),
+        &[0],
+        &formatted(0, 0),
+    ));
+    cases.push(case(
+        "two blocks, full area absent",
+        format(filler(1536), vec![]),
+        &[0],
+        &[put(0, 0, &patch_area(2))],
+    ));
+}
+
+/// Reading and writing, and the shortcuts that give a wrong page.
+fn reading_and_writing(cases: &mut Vec<Case>) {
+    let base = vec![0x42; PAGE];
+    let stored = vec![0x99; PAGE];
+    let full_ref = || with(patch_area(2), 1024, &slot(&[2]));
+    let full = || with(full_area(2), 12_288, &stored);
+
+    let input = read(patch_area(2), full(), 1, base.clone());
+    cases.push(case(
+        "EMPTY reads as its base, stray page or not",
+        input,
+        &[0, 0],
+        &[put(3, 0, &base)],
+    ));
+    let input = read(patch_area(2), vec![], 1, vec![]);
+    cases.push(case("EMPTY over no base reads as zeros", input, &[0, 0], &[put(3, 0, &zeros())]));
+    let input = read(full_ref(), full(), 1, base.clone());
+    cases.push(case("FULL_REF reads as its page", input, &[0, 2], &[put(3, 0, &stored)]));
+    for missing in [vec![], full_area(0), full_area(1)] {
+        let name = format!("FULL_REF with a full area of {}", missing.len());
+        cases.push(case(&name, read(full_ref(), missing.clone(), 1, vec![]), &[8], &[]));
+        cases.push(case(&name, build(full_ref(), missing, filler(1)), &[8, 1], &[]));
+    }
+    let broken_neighbour = with(full_ref(), 512, &slot(&[7, 7]));
+    let input = read(broken_neighbour.clone(), full(), 1, vec![]);
+    cases.push(case("a broken neighbour does not matter", input, &[0, 2], &[put(3, 0, &stored)]));
+    let input = read(broken_neighbour.clone(), full(), 0, vec![]);
+    cases.push(case("a broken slot does", input, &[6], &[]));
+    let input = read(full_ref(), full(), 2, vec![]);
+    cases.push(case("block n", input, &[5], &[]));
+    for block in [1 << 55, 1 << 51, u64::MAX, u64::MAX - 511] {
+        let input = read(full_ref(), full(), block, vec![]);
+        cases.push(case(&format!("block {block} read"), input, &[5], &[]));
+        let input = write(full_ref(), full(), block, vec![], vec![1; PAGE]);
+        cases.push(case(&format!("block {block} written"), input, &[5], &[]));
+    }
+
+    // The second small change keeps the first: both are compared with the base.
+    let first = with(patch_area(1), 512, &patch_slot(&[0, 7]));
+    cases.push(case(
+        "a second small change",
+        write(first, vec![], 0, vec![], page(&[(0, 7), (1, 8)])),
+        &[0, 1, 4],
+        &[put(0, 512, &patch_slot(&[0, 7, 0, 8]))],
+    ));
+    // Stray bytes in the place go although the old slot was not FULL_REF.
+    cases.push(case(
+        "a patch clears a stray page",
+        write(patch_area(2), full(), 1, vec![], page(&[(0, 7)])),
+        &[0, 1, 2],
+        &[put(0, 1024, &patch_slot(&[0, 7])), put(1, 12_288, &zeros())],
+    ));
+    cases.push(case(
+        "the base's page clears a stray page",
+        write(patch_area(2), full(), 1, base.clone(), base.clone()),
+        &[0, 0, 0],
+        &[put(1, 12_288, &zeros())],
+    ));
+    // A shorter payload leaves no tail of a longer one.
+    cases.push(case(
+        "a short patch over a long one",
+        write(
+            with(patch_area(1), 512, &patch_slot(&[1; PAYLOAD])),
+            vec![],
+            0,
+            vec![],
+            page(&[(0, 7)]),
+        ),
+        &[0, 1, 2],
+        &[put(0, 512, &patch_slot(&[0, 7]))],
+    ));
+    // A broken last entry leaves the page alone.
+    let input = apply(base.clone(), &[0, 1, 0, 2, 0], filler(PAGE));
+    cases.push(case("a broken last entry", input, &[7], &[]));
+
+    cases.push(case(
+        "an unsound old slot is written over",
+        write(broken_neighbour, full(), 0, vec![], vec![6; PAGE]),
+        &[0, 2, 16_384],
+        &[put(0, 512, &slot(&[2])), put(1, 4096, &[6; PAGE])],
+    ));
+    cases.push(case(
+        "a full page again",
+        write(full_ref(), full(), 1, vec![], vec![6; PAGE]),
+        &[0, 2, 16_384],
+        &[put(1, 12_288, &[6; PAGE])],
+    ));
+    cases.push(case(
+        "back to the base",
+        write(full_ref(), full(), 1, base.clone(), base.clone()),
+        &[0, 0, 0],
+        &[put(0, 1024, &slot(&[])), put(1, 12_288, &zeros())],
+    ));
+    cases.push(case(
+        "a patch on a block without a place touches the slot alone",
+        write(full_ref(), full_area(1), 1, vec![], page(&[(0, 7)])),
+        &[0, 1, 2],
+        &[put(0, 1024, &patch_slot(&[0, 7]))],
+    ));
+}
+
+/// Block maps: what Build makes and refuses, Look up and Tally.
+fn maps(cases: &mut Vec<Case>) {
+    let patch = with(patch_area(5), 1024, &patch_slot(&[0, 7]));
+    let patch = with(patch, 512 + 512 * 4, &slot(&[2]));
+    let full = with(full_area(5), 4096 + 8192 * 4, &[1; 100]);
+    cases.push(case(
+        "five blocks",
+        build(patch.clone(), full.clone(), filler(4)),
+        &[0, 0],
+        &[put(2, 0, &[0b0000_1000, 0b01])],
+    ));
+    cases.push(case("a map too short", build(patch.clone(), full.clone(), filler(1)), &[9], &[]));
+    let input = build(with(patch.clone(), 0, &[0]), full.clone(), filler(1));
+    cases.push(case("a map too short before a wrong header", input, &[9], &[]));
+    for at in [0, 1, 4095, 8190, 8191] {
+        let stray = with(full.clone(), 4096 + 8192 * 2 + at, &[1]);
+        let input = build(patch.clone(), stray, filler(2));
+        cases.push(case(&format!("a stray byte {at}"), input, &[10, 2], &[]));
+    }
+    let stray = with(full.clone(), 4096 + 8192, &[1]);
+    let input = build(patch.clone(), stray, filler(2));
+    cases.push(case("a stray byte under a patch", input, &[10, 1], &[]));
+
+    // The first block at fault decides, then 6, 8, 7, 10 within it.
+    let bad_slot_1 = with(patch_area(2), 1024, &slot(&[3]));
+    let stray_0 = with(full_area(2), 4096, &[1]);
+    let stray_1 = with(full_area(2), 12_288, &[1]);
+    let input = build(bad_slot_1.clone(), stray_0, filler(1));
+    cases.push(case("10 at block 0 before 6 at block 1", input, &[10, 0], &[]));
+    let input = build(bad_slot_1, stray_1.clone(), filler(1));
+    cases.push(case("6 before 10 at one block", input, &[6, 1], &[]));
+    let bad_payload_1 = with(patch_area(2), 1024, &patch_slot(&[0]));
+    let input = build(bad_payload_1.clone(), stray_1, filler(1));
+    cases.push(case("7 before 10 at one block", input, &[7, 1], &[]));
+    let missing_0 = with(bad_payload_1, 512, &slot(&[2]));
+    let input = build(missing_0, vec![], filler(1));
+    cases.push(case("8 at block 0 before 7 at block 1", input, &[8, 0], &[]));
+
+    let map = [0b1110_0100]; // pairs 0, 1, 2, 3
+    for (block, answer) in [(0, [0, 0]), (1, [0, 1]), (2, [0, 2]), (3, [11, 0]), (4, [5, 0])] {
+        cases.push(case(&format!("pair {block}"), look_up(&map, 4, block), &answer, &[]));
+    }
+    cases.push(case("an unused pair of 3", look_up(&map, 3, 2), &[0, 2], &[]));
+    cases.push(case("block n is 5, not 11", look_up(&map, 3, 3), &[5], &[]));
+    cases.push(case("an empty map and block n", look_up(&[], 5, 5), &[9], &[]));
+    cases.push(case("a map too short for n", look_up(&[0], 5, 0), &[9], &[]));
+    cases.push(case("n over 131,072, empty map", look_up(&[], 131_073, 0), &[2], &[]));
+    cases.push(case("n of 2^64 - 1", look_up(&[], u64::MAX, 0), &[2], &[]));
+    cases.push(case("n = 0", look_up(&[], 0, 0), &[5], &[]));
+    cases.push(case("n = 131,072", look_up(&[0x55; 32_768], 131_072, 131_071), &[0, 1], &[]));
+
+    // The table's entries: PATCH pairs plus 8 times full pairs.
+    let entries: [(u8, i128); 5] = [(0x00, 0), (0x09, 9), (0xAA, 4), (0x55, 32), (0x03, 255)];
+    for (byte, entry) in entries {
+        let answer = if entry == 255 { [11, 0, 0] } else { [0, entry % 8, entry / 8] };
+        cases.push(case(&format!("tally of {byte:02X}"), tally(&[byte], 4), &answer, &[]));
+    }
+    cases.push(case("tally of nothing", tally(&[], 0), &[0, 0, 0], &[]));
+    cases.push(case("tally of nothing in a longer map", tally(&[0xFF], 0), &[0, 0, 0], &[]));
+    cases.push(case("later bytes", tally(&[0x09, 0xFF], 4), &[0, 1, 1], &[]));
+    for (pair, byte) in [(1, 0x10), (2, 0x20), (3, 0x30)] {
+        let name = format!("an unused pair of {pair}");
+        cases.push(case(&name, tally(&[byte | 0x09], 2), &[11], &[]));
+    }
+    cases.push(case("3 as the last pair", tally(&[0xAA, 0x03], 5), &[11], &[]));
+    cases.push(case("one byte too short", tally(&[0xFF], 5), &[9], &[]));
+    cases.push(case("tally of 131,073", tally(&[], 131_073), &[2], &[]));
+    let input = tally(&[0xAA; 32_768], 131_072);
+    cases.push(case("tally of 131,072 patches", input, &[0, 131_072, 0], &[]));
+    let input = tally(&[0x55; 32_768], 131_072);
+    cases.push(case("tally of 131,072 full pages", input, &[0, 0, 131_072], &[]));
+}
+
+/// Several faults at once: the order line of the rules.
+fn orders(cases: &mut Vec<Case>) {
+    let broken = with(patch_area(1), 512, &slot(&[9]));
+    let bad_header = with(broken.clone(), 0, &[0]);
+    let short = filler(PAGE - 1);
+    let input = Input::new(Call::Read, vec![vec![], vec![1], vec![1], short]).at_block(9);
+    cases.push(case("read: 1 before 2", input, &[1], &[]));
+    cases.push(case("read: 2 before 3", read(bad_header.clone(), vec![1], 9, vec![]), &[2], &[]));
+    cases.push(case("read: 3 before 5", read(bad_header.clone(), vec![], 9, vec![]), &[3], &[]));
+    cases.push(case("read: 5 before 6", read(broken.clone(), vec![], 1, vec![]), &[5], &[]));
+    cases.push(case("read: 6", read(broken.clone(), vec![], 0, vec![]), &[6], &[]));
+    let large = vec![1; PAGE];
+    let input = write(bad_header.clone(), vec![], 9, vec![], large.clone());
+    cases.push(case("write: 3 before 5 and 8", input, &[3], &[]));
+    let input = write(broken.clone(), vec![], 1, vec![], large.clone());
+    cases.push(case("write: 5 before 8", input, &[5], &[]));
+    let input = write(broken, vec![], 0, vec![], large);
+    cases.push(case("write: 8, and never 6", input, &[8], &[]));
+    let input = build(bad_header, vec![1], vec![]);
+    cases.push(case("build: 2 before 9", input, &[2], &[]));
+    cases.push(case("compare: 1 before 9", compare(vec![1], zeros(), vec![]), &[1], &[]));
+    cases.push(case("apply: 1 before 7", apply(vec![1], &[], filler(PAGE)), &[1], &[]));
+}
+
+/// All cases.
+pub fn all() -> Vec<Case> {
+    let mut cases = Vec::new();
+    examples(&mut cases);
+    more_examples(&mut cases);
+    stream_edges(&mut cases);
+    spread_edges(&mut cases);
+    no_blocks(&mut cases);
+    slots(&mut cases);
+    headers(&mut cases);
+    show_cases(&mut cases);
+    lengths(&mut cases);
+    reading_and_writing(&mut cases);
+    maps(&mut cases);
+    orders(&mut cases);
+    cases
+}

@@ -1,0 +1,256 @@
+//! Gives one input to all sides and compares what comes back.
+
+use std::fmt;
+
+use crate::arena::{Flush, Room};
+use crate::call::{Answer, Call, Input, Outcome};
+use crate::sides::{self, Lent};
+
+/// More than any buffer of a generated input.
+const ROOM_SIZE: usize = 1 << 20;
+const MOST_BUFFERS: usize = 4;
+
+/// One side as a function from inputs to outcomes.
+pub type Side = fn(&Input) -> Outcome;
+
+/// Two sides disagree about an input.
+#[derive(Debug)]
+pub struct Mismatch {
+    pub side: &'static str,
+    pub input: String,
+    pub found: String,
+}
+
+impl fmt::Display for Mismatch {
+    fn fmt(&self, f: &mut fmt::Formatter<'_>) -> fmt::Result {
+        write!(f, "{}: {}\n  input: {}", self.side, self.found, self.input)
+    }
+}
+
+/// How often each call was compared, and with which number.
+#[derive(Clone, Debug, Default)]
+pub struct Counts {
+    /// For Show: 0 counts the parts handed out, 1 the empty ones.
+    by_number: [[u64; 12]; 10],
+}
+
+impl Counts {
+    pub fn add(&mut self, call: Call, answer: &Answer) {
+        let number = match call {
+            Call::Show => i128::from(answer.0[1] == 0),
+            _ => answer.number(),
+        };
+        // A number that is not in the table has been reported as a mismatch before.
+        if let Some(count) = self.by_number[call as usize].get_mut(number as usize) {
+            *count += 1;
+        }
+    }
+
+    pub fn of(&self, call: Call, number: usize) -> u64 {
+        self.by_number[call as usize][number]
+    }
+
+    pub fn total(&self) -> u64 {
+        self.by_number.iter().flatten().sum()
+    }
+
+    /// Calls with a number that they can give but that was never seen.
+    pub fn unseen(&self) -> Vec<(Call, usize)> {
+        let mut unseen = Vec::new();
+        for call in Call::ALL {
+            let numbers = if call == Call::Show { &[0, 1][..] } else { call.numbers() };
+            for number in numbers {
+                if self.of(call, *number) == 0 {
+                    unseen.push((call, *number));
+                }
+            }
+        }
+        unseen
+    }
+}
+
+impl fmt::Display for Counts {
+    fn fmt(&self, f: &mut fmt::Formatter<'_>) -> fmt::Result {
+        write!(f, "{:<8} {:>9} |", "call", "compared")?;
+        for number in 0..12 {
+            write!(f, " {number:>7}")?;
+        }
+        writeln!(f, "   (times each number was given; . = the call has no such number)")?;
+        for call in Call::ALL {
+            let row = self.by_number[call as usize];
+            write!(f, "{:<8} {:>9} |", call.name(), row.iter().sum::<u64>())?;
+            if call == Call::Show {
+                writeln!(f, " {} parts handed out, {} empty", row[0], row[1])?;
+                continue;
+            }
+            for (number, count) in row.iter().enumerate() {
+                if call.numbers().contains(&number) {
+                    write!(f, " {count:>7}")?;
+                } else {
+                    write!(f, " {:>7}", ".")?;
+                }
+            }
+            writeln!(f)?;
+        }
+        Ok(())
+    }
+}
+
+/// The independent implementation on copies of the input's buffers.
+pub fn independent_outcome(input: &Input) -> Outcome {
+    outcome_on_copies(input, sides::independent)
+}
+
+/// The safe wrapper on copies of the input's buffers.
+pub fn wrapper_outcome(input: &Input) -> Outcome {
+    outcome_on_copies(input, sides::wrapper)
+}
+
+fn outcome_on_copies(
+    input: &Input,
+    side: fn(Call, &mut [&mut [u8]], u64, u64) -> Answer,
+) -> Outcome {
+    let mut buffers = input.buffers.clone();
+    let mut slices: Vec<&mut [u8]> = buffers.iter_mut().map(Vec::as_mut_slice).collect();
+    let answer = side(input.call, &mut slices, input.n, input.block);
+    Outcome { answer, buffers }
+}
+
+/// How a turn lends its buffers: at which end they touch forbidden memory, and what stands for the
+/// address of a buffer without bytes.
+#[derive(Clone, Copy)]
+struct Manner {
+    flush: Flush,
+    null: bool,
+}
+
+impl Manner {
+    fn of_turn(turn: u64) -> Manner {
+        Manner {
+            flush: if turn % 2 == 0 { Flush::Back } else { Flush::Front },
+            null: turn / 2 % 2 == 0,
+        }
+    }
+}
+
+pub struct Harness {
+    rooms: Vec<Room>,
+    turn: u64,
+    /// What every outcome is held to; the independent implementation, except in tests of the
+    /// harness itself.
+    pub expected: Side,
+    /// A program in the place of the library and its wrapper, in tests of the harness itself.
+    pub in_place_of_library: Option<Side>,
+    /// Print each input before it is given to the library, to see the last one before a crash.
+    pub trace: bool,
+    pub counts: Counts,
+}
+
+impl Default for Harness {
+    fn default() -> Harness {
+        Harness::new()
+    }
+}
+
+impl Harness {
+    pub fn new() -> Harness {
+        Harness {
+            rooms: (0..MOST_BUFFERS).map(|_| Room::new(ROOM_SIZE)).collect(),
+            turn: 0,
+            expected: independent_outcome,
+            in_place_of_library: None,
+            trace: false,
+            counts: Counts::default(),
+        }
+    }
+
+    /// How buffers are lent depends on the turn; a replayed case starts from the same one.
+    pub fn start_case(&mut self, case: u64) {
+        self.turn = case;
+    }
+
+    /// Gives the input to all sides. Their common outcome, or the first disagreement.
+    pub fn check(&mut self, input: &Input) -> Result<Outcome, Mismatch> {
+        if self.trace {
+            println!("{input}");
+        }
+        let expected = (self.expected)(input);
+        if let Some(program) = self.in_place_of_library {
+            hold(input, "program in its place", Ok(program(input)), &expected)?;
+        } else {
+            hold(input, "C interface", self.library_outcome(input), &expected)?;
+            hold(input, "Rust wrapper", Ok(wrapper_outcome(input)), &expected)?;
+        }
+        if let Some(found) = forbidden_by_refusal(input, &expected) {
+            return Err(Mismatch { side: "rule of refusals", input: input.to_string(), found });
+        }
+        self.counts.add(input.call, &expected.answer);
+        self.turn += 1;
+        Ok(expected)
+    }
+
+    /// The library over the C interface, on guarded copies of the input's buffers.
+    pub fn library_outcome(&mut self, input: &Input) -> Result<Outcome, String> {
+        let manner = Manner::of_turn(self.turn);
+        let lent: Vec<Lent> = self
+            .rooms
+            .iter_mut()
+            .zip(&input.buffers)
+            .map(|(room, bytes)| {
+                let start = room.put(bytes, manner.flush);
+                let absent = bytes.is_empty() && manner.null;
+                Lent {
+                    start: if absent { std::ptr::null_mut() } else { start },
+                    length: bytes.len(),
+                }
+            })
+            .collect();
+        // SAFETY: every buffer has a room of its own, and `put` gave the start of its bytes.
+        let answer = unsafe { sides::library(input.call, &lent, input.n, input.block) };
+        let mut buffers = Vec::new();
+        for (index, bytes) in input.buffers.iter().enumerate() {
+            let (after, unharmed) = self.rooms[index].take(bytes.len(), manner.flush);
+            if !unharmed {
+                let name = input.call.buffers()[index];
+                return Err(format!("bytes beside buffer {name} were changed"));
+            }
+            buffers.push(after);
+        }
+        Ok(Outcome { answer, buffers })
+    }
+}
+
+/// What all refusals have in common, whatever the sides agree about: no byte is changed, and the
+/// other members are 0 but for Build's block with 6, 7, 8 and 10.
+fn forbidden_by_refusal(input: &Input, outcome: &Outcome) -> Option<String> {
+    let number = outcome.answer.number();
+    if input.call == Call::Show || number == 0 {
+        return None;
+    }
+    if outcome.buffers != input.buffers {
+        return Some(format!("bytes were changed although {number} was given"));
+    }
+    let names_block = input.call == Call::Build && [6, 7, 8, 10].contains(&number);
+    let members = &outcome.answer.0[if names_block { 2 } else { 1 }..];
+    if members.iter().any(|member| *member != 0) {
+        return Some(format!("answer {:?} of a refusal", outcome.answer.0));
+    }
+    None
+}
+
+/// An outcome, or the harm that was found outside the buffers, against the expected outcome.
+fn hold(
+    input: &Input,
+    side: &'static str,
+    outcome: Result<Outcome, String>,
+    expected: &Outcome,
+) -> Result<(), Mismatch> {
+    let found = match outcome {
+        Ok(outcome) => outcome.difference(expected, input.call),
+        Err(harm) => Some(harm),
+    };
+    match found {
+        None => Ok(()),
+        Some(found) => Err(Mismatch { side, input: input.to_string(), found }),
+    }
+}

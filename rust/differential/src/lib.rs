@@ -1,0 +1,18 @@
+//! Compares the library with an independent implementation, call by call and byte by byte.
+//!
+//! Every input is given to three sides: the C interface of the archive, the safe wrapper over it,
+//! and the independent implementation. The answer and every byte of every lent buffer must be the
+//! same afterwards.
+
+pub mod arena;
+pub mod call;
+pub mod cases;
+pub mod crash;
+pub mod generate;
+pub mod harness;
+pub mod huge;
+pub mod orders;
+pub mod rng;
+pub mod runs;
+pub mod sides;
+pub mod sweep;

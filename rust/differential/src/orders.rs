@@ -1,0 +1,249 @@
+//! Every set of faults at once: the refusal must be that of the first fault in the order of the rules.
+//!
+//! For each call the faults stand in that order in a list, and each can be made without touching
+//! what the others look at. All sets of them are tried. So the order is held to the list itself, and
+//! not only to the independent implementation.
+
+use crate::call::{Call, Input, FULL_HEADER, PAGE, PATCH_HEADER, PAYLOAD, SLOT};
+use crate::generate::Areas;
+use crate::harness::{Harness, Mismatch};
+
+/// One fault: the number and block that it is refused with, and how to make it.
+struct Fault {
+    number: i128,
+    block: i128,
+    make: fn(&mut Input),
+}
+
+fn fault(number: i128, make: fn(&mut Input)) -> Fault {
+    Fault { number, block: 0, make }
+}
+
+/// A fault of one block, which Build names.
+fn fault_at(number: i128, block: i128, make: fn(&mut Input)) -> Fault {
+    Fault { number, block, make }
+}
+
+// Where the buffers of Read, Write and Build stand.
+const PATCH: usize = 0;
+const FULL: usize = 1;
+const BASE: usize = 2;
+const LENT_PAGE: usize = 3;
+const MAP: usize = 2;
+
+const SLOT_0: usize = PATCH_HEADER;
+const SLOT_1: usize = PATCH_HEADER + SLOT;
+const PLACE_0: usize = FULL_HEADER;
+const PLACE_1: usize = FULL_HEADER + PAGE;
+
+/// The six steps of the headers.
+fn header_faults() -> Vec<Fault> {
+    vec![
+        fault(3, |input| input.buffers[PATCH][0] ^= 1),
+        fault(4, |input| input.buffers[PATCH][8] ^= 1),
+        fault(3, |input| input.buffers[PATCH][11] ^= 1),
+        fault(3, |input| input.buffers[FULL][7] ^= 1),
+        fault(4, |input| input.buffers[FULL][9] ^= 1),
+        fault(3, |input| input.buffers[FULL][4095] ^= 1),
+    ]
+}
+
+/// What Read and Write check alike: pages, lengths, headers, block.
+fn common_faults() -> Vec<Fault> {
+    let mut faults = vec![
+        fault(1, |input| input.buffers[BASE].push(0)),
+        fault(1, |input| input.buffers[LENT_PAGE].truncate(PAGE - 1)),
+        fault(2, |input| input.buffers[PATCH].push(0)),
+        fault(2, |input| input.buffers[FULL].push(0)),
+    ];
+    faults.extend(header_faults());
+    faults.push(fault(5, |input| input.block = 2));
+    faults
+}
+
+fn unsound_slot_1(input: &mut Input) {
+    input.buffers[PATCH][SLOT_1 + 4] = 1;
+}
+
+/// The short code of a PATCH slot's only entry becomes the first byte of a long one.
+fn unsound_payload_1(input: &mut Input) {
+    input.buffers[PATCH][SLOT_1 + 8] = 0xFF;
+}
+
+/// Two blocks with one changed byte each.
+fn patched(m: Option<usize>) -> Areas {
+    let mut areas = Areas::fresh(2, m);
+    let mut page = vec![0; PAGE];
+    page[0] = 7;
+    for block in 0..2 {
+        let written = independent::write(&mut areas.patch, &mut areas.full, block, &[], &page);
+        assert_eq!(written.number, 0);
+    }
+    areas
+}
+
+fn read_patch(harness: &mut Harness) -> Result<(), Mismatch> {
+    let Areas { patch, full } = patched(Some(2));
+    let input = Input::new(Call::Read, vec![patch, full, vec![0; PAGE], vec![0xEE; PAGE]]);
+    let mut faults = common_faults();
+    faults.push(fault(6, unsound_slot_1));
+    faults.push(fault(7, unsound_payload_1));
+    all_sets(harness, &input.at_block(1), &faults)
+}
+
+fn read_full(harness: &mut Harness) -> Result<(), Mismatch> {
+    let Areas { patch, full } = Areas::fresh(2, Some(1));
+    let input = Input::new(Call::Read, vec![patch, full, vec![0; PAGE], vec![0xEE; PAGE]]);
+    let mut faults = common_faults();
+    faults.push(fault(6, unsound_slot_1));
+    faults.push(fault(8, |input| input.buffers[PATCH][SLOT_1] = 2));
+    all_sets(harness, &input.at_block(1), &faults)
+}
+
+fn write(harness: &mut Harness) -> Result<(), Mismatch> {
+    let Areas { patch, full } = patched(Some(1));
+    let input = Input::new(Call::Write, vec![patch, full, vec![0; PAGE], vec![0; PAGE]]);
+    let mut faults = common_faults();
+    faults.push(fault(8, |input| input.buffers[LENT_PAGE].iter_mut().for_each(|b| *b = 5)));
+    all_sets(harness, &input.at_block(1), &faults)
+}
+
+fn build_patches(harness: &mut Harness) -> Result<(), Mismatch> {
+    let Areas { patch, full } = patched(Some(2));
+    let input = Input::new(Call::Build, vec![patch, full, vec![0xEE; 1]]);
+    let mut faults = vec![
+        fault(2, |input| input.buffers[PATCH].push(0)),
+        fault(9, |input| input.buffers[MAP].clear()),
+    ];
+    faults.extend(header_faults());
+    faults.extend([
+        fault_at(6, 0, |input| input.buffers[PATCH][SLOT_0 + 511] = 1),
+        fault_at(7, 0, |input| input.buffers[PATCH][SLOT_0 + 8] = 0xFF),
+        fault_at(10, 0, |input| input.buffers[FULL][PLACE_0 + 8191] = 1),
+        fault_at(6, 1, unsound_slot_1),
+        fault_at(7, 1, unsound_payload_1),
+        fault_at(10, 1, |input| input.buffers[FULL][PLACE_1] = 1),
+    ]);
+    all_sets(harness, &input, &faults)
+}
+
+fn build_full(harness: &mut Harness) -> Result<(), Mismatch> {
+    let Areas { patch, full } = Areas::fresh(2, Some(0));
+    let input = Input::new(Call::Build, vec![patch, full, vec![0xEE; 1]]);
+    let mut faults = vec![
+        fault(2, |input| input.buffers[FULL].push(0)),
+        fault(9, |input| input.buffers[MAP].clear()),
+    ];
+    faults.extend(header_faults());
+    faults.extend([
+        fault_at(6, 0, |input| input.buffers[PATCH][SLOT_0 + 5] = 1),
+        fault_at(8, 0, |input| input.buffers[PATCH][SLOT_0] = 2),
+        fault_at(6, 1, unsound_slot_1),
+        fault_at(8, 1, |input| input.buffers[PATCH][SLOT_1] = 2),
+    ]);
+    all_sets(harness, &input, &faults)
+}
+
+fn without_areas(harness: &mut Harness) -> Result<(), Mismatch> {
+    let page = || vec![0; PAGE];
+    let compare = Input::new(Call::Compare, vec![page(), page(), vec![0xEE; PAYLOAD]]);
+    all_sets(
+        harness,
+        &compare,
+        &[
+            fault(1, |input| input.buffers[0].push(0)),
+            fault(1, |input| input.buffers[1].clear()),
+            fault(9, |input| input.buffers[2].truncate(PAYLOAD - 1)),
+        ],
+    )?;
+    let apply = Input::new(Call::Apply, vec![page(), vec![0, 7], vec![0xEE; PAGE]]);
+    all_sets(
+        harness,
+        &apply,
+        &[
+            fault(1, |input| input.buffers[0].push(0)),
+            fault(1, |input| input.buffers[2].clear()),
+            fault(7, |input| input.buffers[1].push(0)),
+        ],
+    )?;
+    let judge = Input::new(Call::Judge, vec![vec![0; SLOT]]);
+    all_sets(
+        harness,
+        &judge,
+        &[fault(2, |input| input.buffers[0].push(0)), fault(6, |input| input.buffers[0][9] = 1)],
+    )?;
+    let Areas { patch, full } = Areas::fresh(1, Some(1));
+    all_sets(
+        harness,
+        &Input::new(Call::Format, vec![patch, full]),
+        &[
+            fault(2, |input| input.buffers[PATCH].push(0)),
+            fault(2, |input| input.buffers[FULL].push(0)),
+        ],
+    )
+}
+
+fn maps(harness: &mut Harness) -> Result<(), Mismatch> {
+    // Five blocks: the second byte has one pair in use and three unused ones.
+    let map = vec![0b1001_0001, 0b0000_0001];
+    let look_up = Input::new(Call::LookUp, vec![map.clone()]).told(5).at_block(4);
+    all_sets(
+        harness,
+        &look_up,
+        &[
+            fault(2, |input| input.n = 131_073),
+            fault(9, |input| input.buffers[0].truncate(1)),
+            fault(5, |input| input.block = u64::MAX),
+            fault(11, |input| input.buffers[0].iter_mut().for_each(|byte| *byte |= 3)),
+        ],
+    )?;
+    let tally = Input::new(Call::Tally, vec![map]).told(5);
+    all_sets(
+        harness,
+        &tally,
+        &[
+            fault(2, |input| input.n = u64::MAX),
+            fault(9, |input| input.buffers[0].truncate(1)),
+            fault(11, |input| input.buffers[0][0] |= 0b1100_0000),
+            fault(11, |input| {
+                if let Some(last) = input.buffers[0].get_mut(1) {
+                    *last |= 0b0100_0000;
+                }
+            }),
+        ],
+    )
+}
+
+/// Tries every set of the faults; the first of them must decide.
+fn all_sets(harness: &mut Harness, start: &Input, faults: &[Fault]) -> Result<(), Mismatch> {
+    for set in 0..1u32 << faults.len() {
+        let chosen = || faults.iter().enumerate().filter(|(at, _)| set >> at & 1 == 1);
+        let mut input = start.clone();
+        chosen().for_each(|(_, fault)| (fault.make)(&mut input));
+        let expected = chosen().next().map_or((0, 0), |(_, fault)| (fault.number, fault.block));
+        let answer = harness.check(&input)?.answer;
+        let block = if input.call == Call::Build { answer.0[1] } else { 0 };
+        if (answer.number(), block) != expected {
+            let numbers: Vec<i128> = chosen().map(|(_, fault)| fault.number).collect();
+            return Err(Mismatch {
+                side: "order of refusals",
+                input: format!("{input} with faults {numbers:?}"),
+                found: format!(
+                    "number {} and block {block}, by the order {expected:?}",
+                    answer.0[0]
+                ),
+            });
+        }
+    }
+    Ok(())
+}
+
+pub fn check(harness: &mut Harness) -> Result<(), Mismatch> {
+    read_patch(harness)?;
+    read_full(harness)?;
+    write(harness)?;
+    build_patches(harness)?;
+    build_full(harness)?;
+    without_areas(harness)?;
+    maps(harness)
+}

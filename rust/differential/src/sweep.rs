@@ -1,0 +1,124 @@
+//! Every length from 0 to 1,024 for each buffer of each call, and numbers near 2^64.
+
+use crate::call::{Call, Input, PAGE, PAYLOAD};
+use crate::generate::{Areas, STRANGE_NUMBERS};
+use crate::harness::{Harness, Mismatch};
+use crate::rng::Rng;
+
+const LONGEST: usize = 1024;
+
+/// A store of two blocks, a patch in block 0 and a full page in block 1.
+fn store() -> Areas {
+    let mut areas = Areas::fresh(2, Some(2));
+    let mut page = vec![0; PAGE];
+    page[4000] = 1;
+    independent::write(&mut areas.patch, &mut areas.full, 0, &[], &page);
+    independent::write(&mut areas.patch, &mut areas.full, 1, &[], &[7; PAGE]);
+    areas
+}
+
+/// An input that the call accepts.
+fn accepted(call: Call) -> Input {
+    let Areas { patch, full } = store();
+    let base = vec![3; PAGE];
+    let mut page = base.clone();
+    page[100] = 4;
+    match call {
+        Call::Format => Input::new(call, vec![patch, full]),
+        Call::Compare => Input::new(call, vec![base, page, vec![0xEE; PAYLOAD]]),
+        Call::Apply => Input::new(call, vec![base, vec![100, 4], vec![0xEE; PAGE]]),
+        Call::Judge => Input::new(call, vec![patch[512..1024].to_vec()]),
+        Call::Show => Input::new(call, vec![patch]),
+        Call::Read => Input::new(call, vec![patch, full, base, vec![0xEE; PAGE]]),
+        Call::Write => Input::new(call, vec![patch, full, base, page]),
+        Call::Build => Input::new(call, vec![patch, full, vec![0xEE; 1]]),
+        Call::LookUp => Input::new(call, vec![vec![0b0110]]).told(2).at_block(1),
+        Call::Tally => Input::new(call, vec![vec![0b0110]]).told(2),
+    }
+}
+
+/// Cuts a buffer of an accepted input, or makes it longer with the filler.
+fn with_length(call: Call, buffer: usize, length: usize, filler: u8) -> Input {
+    let mut input = accepted(call);
+    input.buffers[buffer].resize(length, filler);
+    input
+}
+
+/// One call of each kind is accepted, so that each refusal in the sweeps is due to what they change.
+pub fn starting_points(harness: &mut Harness) -> Result<(), Mismatch> {
+    for call in Call::ALL {
+        let input = accepted(call);
+        let outcome = harness.check(&input)?;
+        let accepted = match call {
+            Call::Show => outcome.answer.0[1] > 0,
+            _ => outcome.answer.number() == 0,
+        };
+        assert!(accepted, "the sweep starts from an accepted {}", call.name());
+    }
+    Ok(())
+}
+
+/// Every buffer of every call with each length from 0 to 1,024, contents grown by zeros and by noise.
+pub fn lengths(harness: &mut Harness, fillers: &[u8]) -> Result<(), Mismatch> {
+    for call in Call::ALL {
+        for buffer in 0..call.buffers().len() {
+            for length in 0..=LONGEST {
+                for filler in fillers {
+                    harness.check(&with_length(call, buffer, length, *filler))?;
+                }
+            }
+        }
+    }
+    Ok(())
+}
+
+/// All buffers at once with lengths from 0 to 1,024, drawn at random.
+pub fn many_lengths(harness: &mut Harness, rng: &mut Rng, rounds: usize) -> Result<(), Mismatch> {
+    for _ in 0..rounds {
+        for call in Call::ALL {
+            let mut input = accepted(call);
+            for bytes in &mut input.buffers {
+                if rng.chance(60) {
+                    bytes.resize(rng.between(0, LONGEST), 0);
+                }
+            }
+            harness.check(&input)?;
+        }
+    }
+    Ok(())
+}
+
+/// Every call without a byte, and NULL or a forbidden address for each buffer.
+pub fn nothing_at_all(harness: &mut Harness) -> Result<(), Mismatch> {
+    for call in Call::ALL {
+        let empty = vec![Vec::new(); call.buffers().len()];
+        for number in STRANGE_NUMBERS.iter().copied().chain(0..4) {
+            // Four turns: both ends, NULL and not.
+            for _ in 0..4 {
+                harness.check(&Input::new(call, empty.clone()).told(number).at_block(number))?;
+            }
+        }
+    }
+    Ok(())
+}
+
+/// Blocks and n near 2^64 and wherever a product could wrap, alone and together.
+pub fn numbers(harness: &mut Harness) -> Result<(), Mismatch> {
+    let interesting: Vec<u64> = STRANGE_NUMBERS.iter().copied().chain(0..6).collect();
+    for call in [Call::Show, Call::Read, Call::Write] {
+        for block in &interesting {
+            harness.check(&accepted(call).at_block(*block))?;
+        }
+    }
+    for n in &interesting {
+        for length in [0, 1, 2, 32_767, 32_768] {
+            let map = vec![0b1001; length];
+            harness.check(&Input::new(Call::Tally, vec![map.clone()]).told(*n))?;
+            for block in &interesting {
+                let input = Input::new(Call::LookUp, vec![map.clone()]).told(*n).at_block(*block);
+                harness.check(&input)?;
+            }
+        }
+    }
+    Ok(())
+}

@@ -1,0 +1,349 @@
+//! The comparison can fail: wrong programs on one side of it are found by the same random inputs
+//! that the library passes, and the demand on runs notices programs that both sides agree about.
+
+use differential::call::{Answer, Call, Input, Outcome, FULL_HEADER, PAGE, PATCH_HEADER, SLOT};
+use differential::generate;
+use differential::harness::{independent_outcome, Harness, Mismatch, Side};
+use differential::orders;
+use differential::rng::Rng;
+use differential::runs::{self, Pairs};
+
+const SEED: u64 = 1;
+const MOST_CASES: u64 = 60_000;
+
+/// The first mismatch that random inputs find between the library and a program.
+fn first_mismatch(expected: Side) -> Option<Mismatch> {
+    let mut harness = Harness::new();
+    harness.expected = expected;
+    (0..MOST_CASES).find_map(|case| {
+        let mut rng = Rng::for_case(SEED, "random", case);
+        harness.start_case(case);
+        harness.check(&generate::any_input(&mut rng)).err()
+    })
+}
+
+fn must_find(name: &str, wrong: Side) {
+    assert!(first_mismatch(wrong).is_some(), "{name} was not noticed");
+}
+
+// Programs that differ from the independent implementation in one thing.
+
+fn altered(input: &Input, call: Call, alter: impl FnOnce(&mut Outcome)) -> Outcome {
+    let mut outcome = independent_outcome(input);
+    if input.call == call {
+        alter(&mut outcome);
+    }
+    outcome
+}
+
+fn another_number(input: &Input) -> Outcome {
+    altered(input, Call::Judge, |outcome| {
+        if outcome.answer.number() == 6 {
+            outcome.answer.0[0] = 7;
+        }
+    })
+}
+
+fn a_changed_byte(input: &Input) -> Outcome {
+    altered(input, Call::Read, |outcome| {
+        if let Some(last) = outcome.buffers[3].last_mut() {
+            *last ^= 1;
+        }
+    })
+}
+
+fn a_changed_byte_in_a_buffer_only_read(input: &Input) -> Outcome {
+    altered(input, Call::Build, |outcome| {
+        if let Some(last) = outcome.buffers[0].last_mut() {
+            *last ^= 1;
+        }
+    })
+}
+
+fn refused_compare_says_no_last(input: &Input) -> Outcome {
+    altered(input, Call::Compare, |outcome| {
+        if outcome.answer.number() != 0 {
+            outcome.answer.0[4] = -1;
+        }
+    })
+}
+
+fn invented_entries(input: &Input) -> Outcome {
+    altered(input, Call::Compare, |outcome| {
+        if outcome.answer.0[1] == 1 {
+            outcome.answer.0[3] = outcome.answer.0[2] / 2;
+        }
+    })
+}
+
+fn no_length_for_a_full_page(input: &Input) -> Outcome {
+    altered(input, Call::Write, |outcome| {
+        if outcome.answer.0[1] == 2 {
+            outcome.answer.0[2] = 0;
+        }
+    })
+}
+
+fn build_keeps_its_block_to_itself(input: &Input) -> Outcome {
+    altered(input, Call::Build, |outcome| outcome.answer.0[1] = 0)
+}
+
+fn flags_as_one_bit(input: &Input) -> Outcome {
+    let mut lenient = input.clone();
+    if input.call == Call::Judge && input.buffers[0].len() == SLOT && input.buffers[0][0] == 1 {
+        lenient.buffers[0][1] &= 1;
+    }
+    let answer = independent_outcome(&lenient).answer;
+    Outcome { answer, buffers: input.buffers.clone() }
+}
+
+fn only_judge(input: &Input, wrong: Side) -> Outcome {
+    if input.call == Call::Judge {
+        wrong(input)
+    } else {
+        independent_outcome(input)
+    }
+}
+
+fn lenient_judge(input: &Input) -> Outcome {
+    only_judge(input, flags_as_one_bit)
+}
+
+fn blocks_that_wrap(input: &Input) -> Outcome {
+    let mut wrapped = input.clone();
+    wrapped.block = input.block.wrapping_mul(512) / 512;
+    independent_outcome(&wrapped)
+}
+
+fn unused_pairs_ignored(input: &Input) -> Outcome {
+    let mut cleared = input.clone();
+    if input.call == Call::Tally && input.n % 4 != 0 {
+        if let Some(byte) = cleared.buffers[0].get_mut((input.n / 4) as usize) {
+            *byte &= (1 << (2 * (input.n % 4))) - 1;
+        }
+    }
+    let answer = independent_outcome(&cleared).answer;
+    match input.call {
+        Call::Tally => Outcome { answer, buffers: input.buffers.clone() },
+        _ => independent_outcome(input),
+    }
+}
+
+// The shortcuts that give a wrong page.
+
+fn accepted_write(input: &Input) -> Option<Outcome> {
+    let outcome = independent_outcome(input);
+    (input.call == Call::Write && outcome.answer.number() == 0).then_some(outcome)
+}
+
+fn slot_range(block: u64) -> std::ops::Range<usize> {
+    let start = PATCH_HEADER + SLOT * block as usize;
+    start..start + SLOT
+}
+
+fn compares_with_the_current_page(input: &Input) -> Outcome {
+    if accepted_write(input).is_none() {
+        return independent_outcome(input);
+    }
+    let mut current = vec![0; PAGE];
+    let [patch, full, base] = [&input.buffers[0], &input.buffers[1], &input.buffers[2]];
+    let mut changed = input.clone();
+    if independent::read(patch, full, input.block, base, &mut current).number == 0 {
+        changed.buffers[2] = current;
+    }
+    let mut outcome = independent_outcome(&changed);
+    outcome.buffers[2] = input.buffers[2].clone();
+    outcome
+}
+
+fn clears_only_after_full_ref(input: &Input) -> Outcome {
+    let mut outcome = match accepted_write(input) {
+        None => return independent_outcome(input),
+        Some(outcome) => outcome,
+    };
+    let was_full = input.buffers[0][slot_range(input.block)][0] == 2;
+    if outcome.answer.0[1] != 2 && !was_full {
+        outcome.buffers[1] = input.buffers[1].clone();
+    }
+    outcome
+}
+
+fn leaves_the_tail(input: &Input) -> Outcome {
+    let mut outcome = match accepted_write(input) {
+        None => return independent_outcome(input),
+        Some(outcome) => outcome,
+    };
+    if outcome.answer.0[1] == 1 {
+        let range = slot_range(input.block);
+        let tail = range.start + 8 + outcome.answer.0[2] as usize..range.end;
+        outcome.buffers[0][tail.clone()].copy_from_slice(&input.buffers[0][tail]);
+    }
+    outcome
+}
+
+fn stores_block_0_only(input: &Input) -> Outcome {
+    match accepted_write(input) {
+        Some(outcome) if input.block > 0 => {
+            Outcome { answer: outcome.answer, buffers: input.buffers.clone() }
+        }
+        _ => independent_outcome(input),
+    }
+}
+
+fn stores_nothing(input: &Input) -> Outcome {
+    match accepted_write(input) {
+        Some(outcome) => Outcome { answer: outcome.answer, buffers: input.buffers.clone() },
+        _ => independent_outcome(input),
+    }
+}
+
+fn always_reads_the_base(input: &Input) -> Outcome {
+    altered(input, Call::Read, |outcome| {
+        if outcome.answer.number() == 0 {
+            outcome.buffers[3] = generate::page_of_base(&input.buffers[2]);
+        }
+    })
+}
+
+/// Applies entry by entry without a check before; `first` is where the position starts.
+fn apply_as_it_comes(input: &Input, first: i32) -> Outcome {
+    let mut outcome = independent_outcome(input);
+    if input.call != Call::Apply || outcome.answer.number() == 1 {
+        return outcome;
+    }
+    let mut page = generate::page_of_base(&input.buffers[0]);
+    let mut position = first;
+    let mut bytes = input.buffers[1].iter().copied();
+    while let (Some(jump), Some(value)) = (bytes.next(), bytes.next()) {
+        if jump == 255 {
+            break;
+        }
+        position += i32::from(jump) + 1;
+        match page.get_mut(position as usize) {
+            Some(byte) => *byte = value,
+            None => break,
+        }
+    }
+    outcome.buffers[2] = page;
+    outcome
+}
+
+fn position_from_0(input: &Input) -> Outcome {
+    match independent_outcome(input) {
+        outcome if outcome.answer.number() == 0 => apply_as_it_comes(input, 0),
+        outcome => outcome,
+    }
+}
+
+fn applies_while_checking(input: &Input) -> Outcome {
+    match independent_outcome(input) {
+        outcome if outcome.answer.number() == 7 => apply_as_it_comes(input, -1),
+        outcome => outcome,
+    }
+}
+
+fn looks_for_stray_pages_first(input: &Input) -> Outcome {
+    altered(input, Call::Build, |outcome| {
+        let full = &input.buffers[1];
+        if outcome.answer.number() == 6 && full.len() > FULL_HEADER {
+            let places = full[FULL_HEADER..].chunks(PAGE);
+            let slots = input.buffers[0][PATCH_HEADER..].chunks(SLOT);
+            let stray = places
+                .zip(slots)
+                .position(|(place, slot)| slot[0] != 2 && place.iter().any(|byte| *byte != 0));
+            if let Some(block) = stray {
+                outcome.answer = Answer::of(&[10, block as i128]);
+            }
+        }
+    })
+}
+
+#[test]
+fn the_right_program_passes() {
+    assert!(first_mismatch(independent_outcome).is_none());
+}
+
+#[test]
+fn small_mistakes_are_found() {
+    must_find("another number", another_number);
+    must_find("a changed byte", a_changed_byte);
+    must_find("a changed byte in a buffer only read", a_changed_byte_in_a_buffer_only_read);
+    must_find("-1 in a refused Compare", refused_compare_says_no_last);
+    must_find("invented entries", invented_entries);
+    must_find("no length for a full page", no_length_for_a_full_page);
+    must_find("Build without its block", build_keeps_its_block_to_itself);
+    must_find("flags as one bit", lenient_judge);
+    must_find("blocks that wrap", blocks_that_wrap);
+    must_find("unused pairs ignored", unused_pairs_ignored);
+    must_find("stray pages first", looks_for_stray_pages_first);
+}
+
+#[test]
+fn shortcuts_are_found() {
+    must_find("comparing with the current page", compares_with_the_current_page);
+    must_find("clearing only after FULL_REF", clears_only_after_full_ref);
+    must_find("leaving the tail", leaves_the_tail);
+    must_find("a position from 0", position_from_0);
+    must_find("applying while checking", applies_while_checking);
+    must_find("storing block 0 only", stores_block_0_only);
+    must_find("storing nothing", stores_nothing);
+    must_find("always reading the base", always_reads_the_base);
+}
+
+/// Runs whose both sides are the same wrong program: only the demand itself can notice.
+fn run_notices(wrong: Side) -> bool {
+    let mut harness = Harness::new();
+    harness.expected = wrong;
+    harness.in_place_of_library = Some(wrong);
+    (0..200).any(|case| {
+        let mut rng = Rng::for_case(SEED, "runs", case);
+        match runs::run(&mut harness, &mut rng, 40, &mut Pairs::default()) {
+            Ok(()) => false,
+            Err(mismatch) => {
+                assert_eq!(mismatch.side, "demand on runs");
+                true
+            }
+        }
+    })
+}
+
+/// A program on both sides that changes a byte and refuses: only the rule of refusals can notice.
+#[test]
+fn a_refusal_that_changes_a_byte_is_noticed() {
+    let mut harness = Harness::new();
+    harness.expected = applies_while_checking;
+    harness.in_place_of_library = Some(applies_while_checking);
+    let payload = vec![0, 1, 0];
+    let input = Input::new(Call::Apply, vec![Vec::new(), payload, vec![0xEE; PAGE]]);
+    let mismatch = harness.check(&input).expect_err("noticed");
+    assert_eq!(mismatch.side, "rule of refusals");
+}
+
+/// Another order of refusals on both sides: only the list of faults can notice.
+#[test]
+fn another_order_of_refusals_is_noticed() {
+    fn version_first(input: &Input) -> Outcome {
+        let mut outcome = independent_outcome(input);
+        let patch = &input.buffers[0];
+        if input.call == Call::Read && outcome.answer.number() == 3 && patch[8] != 2 {
+            outcome.answer.0[0] = 4;
+        }
+        outcome
+    }
+    let mut harness = Harness::new();
+    assert!(orders::check(&mut harness).is_ok());
+    harness.expected = version_first;
+    harness.in_place_of_library = Some(version_first);
+    let mismatch = orders::check(&mut harness).expect_err("noticed");
+    assert_eq!(mismatch.side, "order of refusals");
+}
+
+#[test]
+fn the_demand_on_runs_notices_wrong_programs() {
+    assert!(!run_notices(independent_outcome));
+    assert!(run_notices(compares_with_the_current_page));
+    assert!(run_notices(leaves_the_tail));
+    assert!(run_notices(stores_block_0_only));
+    assert!(run_notices(stores_nothing));
+    assert!(run_notices(always_reads_the_base));
+}

@@ -1,0 +1,576 @@
+//! The page store's rules once more, in plain Rust, to compare the library with.
+//!
+//! Written from the rules alone: clear over fast, one byte at a time. The calls have the arguments
+//! and the answers of the C interface (`include/thonxiliko.h`), with slices for pointers and lengths.
+#![forbid(unsafe_code)]
+
+const PAGE: usize = 8192;
+const SLOT: usize = 512;
+const PAYLOAD_MAX: usize = 504;
+const PATCH_HEADER: usize = 512;
+const FULL_HEADER: usize = 4096;
+const BLOCKS_MAX: u64 = 131_072;
+
+// Numbers given back.
+const DONE: u32 = 0;
+const BAD_PAGE_LENGTH: u32 = 1;
+const BAD_AREA_LENGTH: u32 = 2;
+const BAD_HEADER: u32 = 3;
+const BAD_VERSION: u32 = 4;
+const BAD_BLOCK: u32 = 5;
+const BAD_SLOT: u32 = 6;
+const BAD_PAYLOAD: u32 = 7;
+const NO_FULL_PAGE: u32 = 8;
+const SHORT_BUFFER: u32 = 9;
+const STRAY_PAGE: u32 = 10;
+const BAD_PAIR: u32 = 11;
+
+// Kinds.
+const EMPTY: u32 = 0;
+const PATCH: u32 = 1;
+const FULL_REF: u32 = 2;
+
+#[derive(Clone, Copy, Debug, Default, PartialEq, Eq)]
+pub struct Done {
+    pub number: u32,
+}
+
+#[derive(Clone, Copy, Debug, Default, PartialEq, Eq)]
+pub struct Compared {
+    pub number: u32,
+    pub kind: u32,
+    pub length: u32,
+    pub entries: u32,
+    pub last: i32,
+}
+
+#[derive(Clone, Copy, Debug, Default, PartialEq, Eq)]
+pub struct Applied {
+    pub number: u32,
+    pub entries: u32,
+    pub last: i32,
+}
+
+#[derive(Clone, Copy, Debug, Default, PartialEq, Eq)]
+pub struct Judged {
+    pub number: u32,
+    pub kind: u32,
+    pub length: u32,
+}
+
+#[derive(Clone, Copy, Debug, Default, PartialEq, Eq)]
+pub struct Part {
+    pub at: u64,
+    pub len: u64,
+}
+
+#[derive(Clone, Copy, Debug, Default, PartialEq, Eq)]
+pub struct Reading {
+    pub number: u32,
+    pub kind: u32,
+}
+
+#[derive(Clone, Copy, Debug, Default, PartialEq, Eq)]
+pub struct Written {
+    pub number: u32,
+    pub kind: u32,
+    pub length: u32,
+}
+
+#[derive(Clone, Copy, Debug, Default, PartialEq, Eq)]
+pub struct Built {
+    pub number: u32,
+    pub block: u64,
+}
+
+#[derive(Clone, Copy, Debug, Default, PartialEq, Eq)]
+pub struct Pair {
+    pub number: u32,
+    pub pair: u32,
+}
+
+#[derive(Clone, Copy, Debug, Default, PartialEq, Eq)]
+pub struct Tallied {
+    pub number: u32,
+    pub patch: u64,
+    pub full: u64,
+}
+
+// ---------------------------------------------------------------------------------------------
+// Lengths
+// ---------------------------------------------------------------------------------------------
+
+/// The number n of blocks of a patch area, if its length is one that a patch area can have.
+fn blocks_of(patch: &[u8]) -> Option<u64> {
+    let slots = patch.len().checked_sub(PATCH_HEADER)?;
+    let n = (slots / SLOT) as u64;
+    (slots % SLOT == 0 && n <= BLOCKS_MAX).then_some(n)
+}
+
+/// The number m of pages of a full area, if its length is one that a full area can have.
+fn pages_of(full: &[u8]) -> Option<u64> {
+    if full.is_empty() {
+        return Some(0);
+    }
+    let pages = full.len().checked_sub(FULL_HEADER)?;
+    (pages % PAGE == 0).then_some((pages / PAGE) as u64)
+}
+
+/// n and m, if both lengths are right and m is not over n.
+fn sizes_of(patch: &[u8], full: &[u8]) -> Option<(u64, u64)> {
+    let n = blocks_of(patch)?;
+    let m = pages_of(full)?;
+    (m <= n).then_some((n, m))
+}
+
+fn is_base_length(length: usize) -> bool {
+    length == 0 || length == PAGE
+}
+
+/// The page that a base stands for.
+fn base_page(base: &[u8]) -> Vec<u8> {
+    if base.is_empty() {
+        vec![0; PAGE]
+    } else {
+        base.to_vec()
+    }
+}
+
+fn map_length(n: u64) -> u64 {
+    (n + 3) / 4
+}
+
+// ---------------------------------------------------------------------------------------------
+// Headers
+// ---------------------------------------------------------------------------------------------
+
+fn number16(bytes: &[u8], at: usize) -> u32 {
+    u32::from(bytes[at]) + 256 * u32::from(bytes[at + 1])
+}
+
+fn number32(bytes: &[u8], at: usize) -> u32 {
+    number16(bytes, at) + 65536 * number16(bytes, at + 2)
+}
+
+fn all_zero(bytes: &[u8]) -> bool {
+    bytes.iter().all(|byte| *byte == 0)
+}
+
+fn judge_patch_header(patch: &[u8]) -> u32 {
+    if &patch[0..8] != b"PBKPATCH" {
+        return BAD_HEADER;
+    }
+    if number16(patch, 8) != 2 {
+        return BAD_VERSION;
+    }
+    let rest_right = number16(patch, 10) == 0
+        && number32(patch, 12) == 8192
+        && number32(patch, 16) == 512
+        && all_zero(&patch[20..PATCH_HEADER]);
+    if rest_right {
+        DONE
+    } else {
+        BAD_HEADER
+    }
+}
+
+fn judge_full_header(full: &[u8]) -> u32 {
+    if full.is_empty() {
+        return DONE;
+    }
+    if &full[0..8] != b"PBKFULL\0" {
+        return BAD_HEADER;
+    }
+    if number16(full, 8) != 1 {
+        return BAD_VERSION;
+    }
+    let rest_right =
+        number16(full, 10) == 0 && number32(full, 12) == 8192 && all_zero(&full[16..FULL_HEADER]);
+    if rest_right {
+        DONE
+    } else {
+        BAD_HEADER
+    }
+}
+
+fn judge_headers(patch: &[u8], full: &[u8]) -> u32 {
+    match judge_patch_header(patch) {
+        DONE => judge_full_header(full),
+        refusal => refusal,
+    }
+}
+
+// ---------------------------------------------------------------------------------------------
+// Slots, places, streams
+// ---------------------------------------------------------------------------------------------
+
+fn slot_start(block: u64) -> usize {
+    PATCH_HEADER + SLOT * block as usize
+}
+
+fn place_start(block: u64) -> usize {
+    FULL_HEADER + PAGE * block as usize
+}
+
+fn slot_of(patch: &[u8], block: u64) -> &[u8] {
+    &patch[slot_start(block)..slot_start(block) + SLOT]
+}
+
+/// Kind and payload length of a slot, if it is sound.
+fn sound_slot(slot: &[u8]) -> Option<(u32, usize)> {
+    match slot[0] {
+        0 if all_zero(slot) => Some((EMPTY, 0)),
+        1 => {
+            let length = number16(slot, 2) as usize;
+            let sound = slot[1] == 1
+                && (1..=PAYLOAD_MAX).contains(&length)
+                && all_zero(&slot[4..8])
+                && all_zero(&slot[8 + length..]);
+            sound.then_some((PATCH, length))
+        }
+        2 if all_zero(&slot[1..]) => Some((FULL_REF, 0)),
+        _ => None,
+    }
+}
+
+/// One entry of a stream, with its position in the page.
+struct Entry {
+    position: i32,
+    value: u8,
+}
+
+/// The entries of a payload, if it is sound.
+fn entries_of(payload: &[u8]) -> Option<Vec<Entry>> {
+    if payload.is_empty() || payload.len() > PAYLOAD_MAX {
+        return None;
+    }
+    let mut entries = Vec::new();
+    let mut position: i32 = -1;
+    let mut bytes = payload.iter().copied();
+    while let Some(first) = bytes.next() {
+        let jump = if first == 255 {
+            let low = bytes.next()?;
+            let high = bytes.next()?;
+            i32::from(low) + 256 * i32::from(high)
+        } else {
+            i32::from(first)
+        };
+        let value = bytes.next()?;
+        position += jump + 1;
+        if position > 8191 {
+            return None;
+        }
+        entries.push(Entry { position, value });
+    }
+    Some(entries)
+}
+
+fn put_entries(page: &mut [u8], entries: &[Entry]) {
+    for entry in entries {
+        page[entry.position as usize] = entry.value;
+    }
+}
+
+/// The writer's stream of a page over its base.
+struct Stream {
+    bytes: Vec<u8>,
+    entries: u32,
+    last: i32,
+}
+
+impl Stream {
+    fn of(base: &[u8], page: &[u8]) -> Stream {
+        let mut stream = Stream { bytes: Vec::new(), entries: 0, last: -1 };
+        for position in 0..PAGE {
+            if page[position] != base[position] {
+                stream.push(position as i32, page[position]);
+            }
+        }
+        stream
+    }
+
+    fn push(&mut self, position: i32, value: u8) {
+        let jump = position - self.last - 1;
+        if jump < 255 {
+            self.bytes.push(jump as u8);
+        } else {
+            self.bytes.push(255);
+            self.bytes.push((jump % 256) as u8);
+            self.bytes.push((jump / 256) as u8);
+        }
+        self.bytes.push(value);
+        self.entries += 1;
+        self.last = position;
+    }
+
+    fn kind(&self) -> u32 {
+        match self.bytes.len() {
+            0 => EMPTY,
+            1..=PAYLOAD_MAX => PATCH,
+            _ => FULL_REF,
+        }
+    }
+
+    fn length(&self) -> u32 {
+        self.bytes.len() as u32
+    }
+}
+
+// ---------------------------------------------------------------------------------------------
+// The calls
+// ---------------------------------------------------------------------------------------------
+
+pub fn format(patch: &mut [u8], full: &mut [u8]) -> Done {
+    if sizes_of(patch, full).is_none() {
+        return Done { number: BAD_AREA_LENGTH };
+    }
+    for byte in patch.iter_mut() {
+        *byte = 0;
+    }
+    patch[0..8].copy_from_slice(b"PBKPATCH");
+    patch[8..10].copy_from_slice(&2u16.to_le_bytes());
+    patch[12..16].copy_from_slice(&8192u32.to_le_bytes());
+    patch[16..20].copy_from_slice(&512u32.to_le_bytes());
+    if !full.is_empty() {
+        for byte in full.iter_mut() {
+            *byte = 0;
+        }
+        full[0..8].copy_from_slice(b"PBKFULL\0");
+        full[8..10].copy_from_slice(&1u16.to_le_bytes());
+        full[12..16].copy_from_slice(&8192u32.to_le_bytes());
+    }
+    Done { number: DONE }
+}
+
+pub fn compare(base: &[u8], page: &[u8], payload: &mut [u8]) -> Compared {
+    if !is_base_length(base.len()) || page.len() != PAGE {
+        return Compared { number: BAD_PAGE_LENGTH, ..Compared::default() };
+    }
+    if payload.len() < PAYLOAD_MAX {
+        return Compared { number: SHORT_BUFFER, ..Compared::default() };
+    }
+    let stream = Stream::of(&base_page(base), page);
+    if stream.kind() == PATCH {
+        payload[..stream.bytes.len()].copy_from_slice(&stream.bytes);
+    }
+    Compared {
+        number: DONE,
+        kind: stream.kind(),
+        length: stream.length(),
+        entries: stream.entries,
+        last: stream.last,
+    }
+}
+
+pub fn apply(base: &[u8], payload: &[u8], page: &mut [u8]) -> Applied {
+    if !is_base_length(base.len()) || page.len() != PAGE {
+        return Applied { number: BAD_PAGE_LENGTH, ..Applied::default() };
+    }
+    match entries_of(payload) {
+        None => Applied { number: BAD_PAYLOAD, ..Applied::default() },
+        Some(entries) => {
+            page.copy_from_slice(&base_page(base));
+            put_entries(page, &entries);
+            Applied {
+                number: DONE,
+                entries: entries.len() as u32,
+                last: entries.last().map_or(-1, |entry| entry.position),
+            }
+        }
+    }
+}
+
+pub fn judge(slot: &[u8]) -> Judged {
+    if slot.len() != SLOT {
+        return Judged { number: BAD_AREA_LENGTH, ..Judged::default() };
+    }
+    match sound_slot(slot) {
+        None => Judged { number: BAD_SLOT, ..Judged::default() },
+        Some((kind, length)) => Judged { number: DONE, kind, length: length as u32 },
+    }
+}
+
+pub fn show(patch: &[u8], block: u64) -> Part {
+    let nothing = Part { at: 0, len: 0 };
+    let n = match blocks_of(patch) {
+        None => return nothing,
+        Some(n) => n,
+    };
+    if judge_patch_header(patch) != DONE || block >= n {
+        return nothing;
+    }
+    match sound_slot(slot_of(patch, block)) {
+        Some((PATCH, length)) => Part { at: slot_start(block) as u64 + 8, len: length as u64 },
+        _ => nothing,
+    }
+}
+
+pub fn read(patch: &[u8], full: &[u8], block: u64, base: &[u8], page: &mut [u8]) -> Reading {
+    let refused = |number| Reading { number, kind: 0 };
+    if !is_base_length(base.len()) || page.len() != PAGE {
+        return refused(BAD_PAGE_LENGTH);
+    }
+    let (n, m) = match sizes_of(patch, full) {
+        None => return refused(BAD_AREA_LENGTH),
+        Some(sizes) => sizes,
+    };
+    let headers = judge_headers(patch, full);
+    if headers != DONE {
+        return refused(headers);
+    }
+    if block >= n {
+        return refused(BAD_BLOCK);
+    }
+    let slot = slot_of(patch, block);
+    let (kind, length) = match sound_slot(slot) {
+        None => return refused(BAD_SLOT),
+        Some(found) => found,
+    };
+    if kind == FULL_REF {
+        if block >= m {
+            return refused(NO_FULL_PAGE);
+        }
+        let start = place_start(block);
+        page.copy_from_slice(&full[start..start + PAGE]);
+    } else if kind == PATCH {
+        match entries_of(&slot[8..8 + length]) {
+            None => return refused(BAD_PAYLOAD),
+            Some(entries) => {
+                page.copy_from_slice(&base_page(base));
+                put_entries(page, &entries);
+            }
+        }
+    } else {
+        page.copy_from_slice(&base_page(base));
+    }
+    Reading { number: DONE, kind }
+}
+
+pub fn write(patch: &mut [u8], full: &mut [u8], block: u64, base: &[u8], page: &[u8]) -> Written {
+    let refused = |number| Written { number, kind: 0, length: 0 };
+    if !is_base_length(base.len()) || page.len() != PAGE {
+        return refused(BAD_PAGE_LENGTH);
+    }
+    let (n, m) = match sizes_of(patch, full) {
+        None => return refused(BAD_AREA_LENGTH),
+        Some(sizes) => sizes,
+    };
+    let headers = judge_headers(patch, full);
+    if headers != DONE {
+        return refused(headers);
+    }
+    if block >= n {
+        return refused(BAD_BLOCK);
+    }
+    let stream = Stream::of(&base_page(base), page);
+    let kind = stream.kind();
+    if kind == FULL_REF && block >= m {
+        return refused(NO_FULL_PAGE);
+    }
+
+    let mut slot = [0; SLOT];
+    slot[0] = kind as u8;
+    if kind == PATCH {
+        slot[1] = 1;
+        slot[2..4].copy_from_slice(&(stream.bytes.len() as u16).to_le_bytes());
+        slot[8..8 + stream.bytes.len()].copy_from_slice(&stream.bytes);
+    }
+    let start = slot_start(block);
+    patch[start..start + SLOT].copy_from_slice(&slot);
+
+    if block < m {
+        let start = place_start(block);
+        let zeros = [0; PAGE];
+        let content = if kind == FULL_REF { page } else { &zeros[..] };
+        full[start..start + PAGE].copy_from_slice(content);
+    }
+    Written { number: DONE, kind, length: stream.length() }
+}
+
+/// The pair of one block in the map, or the number of its first fault.
+fn pair_of_block(patch: &[u8], full: &[u8], m: u64, block: u64) -> Result<u8, u32> {
+    let slot = slot_of(patch, block);
+    let (kind, length) = sound_slot(slot).ok_or(BAD_SLOT)?;
+    if kind == FULL_REF {
+        return if block < m { Ok(1) } else { Err(NO_FULL_PAGE) };
+    }
+    if kind == PATCH && entries_of(&slot[8..8 + length]).is_none() {
+        return Err(BAD_PAYLOAD);
+    }
+    if block < m && !all_zero(&full[place_start(block)..place_start(block) + PAGE]) {
+        return Err(STRAY_PAGE);
+    }
+    Ok(if kind == PATCH { 2 } else { 0 })
+}
+
+pub fn build(patch: &[u8], full: &[u8], map: &mut [u8]) -> Built {
+    let refused = |number| Built { number, block: 0 };
+    let (n, m) = match sizes_of(patch, full) {
+        None => return refused(BAD_AREA_LENGTH),
+        Some(sizes) => sizes,
+    };
+    if (map.len() as u64) < map_length(n) {
+        return refused(SHORT_BUFFER);
+    }
+    let headers = judge_headers(patch, full);
+    if headers != DONE {
+        return refused(headers);
+    }
+    let mut made = vec![0u8; map_length(n) as usize];
+    for block in 0..n {
+        match pair_of_block(patch, full, m, block) {
+            Err(number) => return Built { number, block },
+            Ok(pair) => made[(block / 4) as usize] |= pair << (2 * (block % 4)),
+        }
+    }
+    map[..made.len()].copy_from_slice(&made);
+    Built { number: DONE, block: 0 }
+}
+
+fn pair_at(map: &[u8], block: u64) -> u32 {
+    u32::from(map[(block / 4) as usize] >> (2 * (block % 4)) & 3)
+}
+
+/// What Look up and Tally check first: n, then the map's length.
+fn judge_map(map: &[u8], n: u64) -> u32 {
+    if n > BLOCKS_MAX {
+        BAD_AREA_LENGTH
+    } else if (map.len() as u64) < map_length(n) {
+        SHORT_BUFFER
+    } else {
+        DONE
+    }
+}
+
+pub fn look_up(map: &[u8], n: u64, block: u64) -> Pair {
+    let refused = |number| Pair { number, pair: 0 };
+    let judged = judge_map(map, n);
+    if judged != DONE {
+        return refused(judged);
+    }
+    if block >= n {
+        return refused(BAD_BLOCK);
+    }
+    match pair_at(map, block) {
+        3 => refused(BAD_PAIR),
+        pair => Pair { number: DONE, pair },
+    }
+}
+
+pub fn tally(map: &[u8], n: u64) -> Tallied {
+    let refused = |number| Tallied { number, patch: 0, full: 0 };
+    let judged = judge_map(map, n);
+    if judged != DONE {
+        return refused(judged);
+    }
+    let mut counted = Tallied { number: DONE, patch: 0, full: 0 };
+    for block in 0..4 * map_length(n) {
+        match pair_at(map, block) {
+            0 => {}
+            1 if block < n => counted.full += 1,
+            2 if block < n => counted.patch += 1,
+            _ => return refused(BAD_PAIR),
+        }
+    }
+    counted
+}

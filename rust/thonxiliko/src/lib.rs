@@ -1,0 +1,658 @@
+//! Changed 8 KiB pages kept beside an unchanging base: a safe interface to `libthonxiliko.a`.
+//!
+//! A data file of PostgreSQL is a row of pages (blocks) of 8,192 bytes. A copy that is never written
+//! to is the *base*. What has changed since is kept in two buffers that the caller owns:
+//!
+//! * the *patch area*, `512 + 512·n` bytes: one slot of 512 bytes for each of `n` blocks, holding
+//!   nothing or the few bytes that differ;
+//! * the *full area*, `4,096 + 8,192·m` bytes with `m` at most `n`, or 0 bytes (absent): whole pages
+//!   for blocks below `m` that differ in more than a slot can hold.
+//!
+//! Wherever a base page is asked for, an empty slice stands for a page of 8,192 zeros.
+//!
+//! Every call takes any slices and any numbers. Bad input is answered by a [`Refusal`], and a refused
+//! call changes no byte that it was lent. Where several refusals apply, the first in this order is
+//! given: 1, 2, 9, headers (patch before full; magic, version, then the rest), 5, 6, 8, 7, 10, 11.
+//!
+//! No call panics, unless the archive that was linked answers with a number that its interface does
+//! not have.
+//!
+//! ```
+//! use thonxiliko::{build, format, patch_area_len, read, tally, write, Kind, PAGE_SIZE};
+//!
+//! // A store for four blocks without a full area.
+//! let mut patch = vec![0; patch_area_len(4)];
+//! let mut full = [];
+//! format(&mut patch, &mut full)?;
+//!
+//! // Block 2 gets one changed byte.
+//! let base = vec![7; PAGE_SIZE];
+//! let mut page = base.clone();
+//! page[100] = 8;
+//! let written = write(&mut patch, &mut full, 2, &base, &page)?;
+//! assert_eq!((written.kind, written.length), (Kind::Patch, 2));
+//!
+//! // It reads back over the same base.
+//! let mut again = vec![0; PAGE_SIZE];
+//! assert_eq!(read(&patch, &full, 2, &base, &mut again)?, Kind::Patch);
+//! assert_eq!(again, page);
+//!
+//! // The map of all blocks.
+//! let mut map = [0; 1];
+//! build(&patch, &full, &mut map).map_err(|fault| fault.refusal)?;
+//! assert_eq!(map, [0b00_10_00_00]);
+//! assert_eq!(tally(&map, 4)?.patch, 1);
+//! # Ok::<(), thonxiliko::Refusal>(())
+//! ```
+#![warn(missing_docs)]
+
+use std::error::Error;
+use std::fmt;
+
+use thonxiliko_sys as sys;
+
+/// Bytes of a page.
+pub const PAGE_SIZE: usize = 8_192;
+/// Bytes of a slot.
+pub const SLOT_SIZE: usize = 512;
+/// The most bytes that a slot's payload has, and the least that [`compare`]'s buffer must have.
+pub const PAYLOAD_SIZE: usize = 504;
+/// Bytes of the patch area before its first slot.
+pub const PATCH_HEADER_SIZE: usize = 512;
+/// Bytes of the full area before its first page.
+pub const FULL_HEADER_SIZE: usize = 4_096;
+/// The most blocks that a patch area has slots for.
+pub const MAX_BLOCKS: u64 = 131_072;
+
+/// Bytes of a patch area for `blocks` blocks.
+///
+/// ```
+/// assert_eq!(thonxiliko::patch_area_len(131_072), 67_109_376);
+/// ```
+pub const fn patch_area_len(blocks: usize) -> usize {
+    PATCH_HEADER_SIZE + SLOT_SIZE * blocks
+}
+
+/// Bytes of a full area with room for the pages of blocks 0 to `pages - 1`.
+///
+/// ```
+/// assert_eq!(thonxiliko::full_area_len(1), 12_288);
+/// ```
+pub const fn full_area_len(pages: usize) -> usize {
+    FULL_HEADER_SIZE + PAGE_SIZE * pages
+}
+
+/// Bytes of the map of `blocks` blocks.
+///
+/// ```
+/// assert_eq!(thonxiliko::map_len(5), 2);
+/// ```
+pub const fn map_len(blocks: usize) -> usize {
+    blocks / 4 + (blocks % 4 != 0) as usize
+}
+
+/// What a slot holds.
+#[derive(Clone, Copy, Debug, PartialEq, Eq, Hash)]
+pub enum Kind {
+    /// The page equals its base.
+    Empty,
+    /// The slot holds the bytes that differ.
+    Patch,
+    /// The page stands in the full area.
+    Full,
+}
+
+impl Kind {
+    /// The kind's number in a slot: 0, 1 or 2.
+    pub fn number(self) -> u32 {
+        self as u32
+    }
+}
+
+/// How a page differs from its base.
+#[derive(Clone, Copy, Debug, PartialEq, Eq, Hash)]
+pub enum Difference {
+    /// Not at all.
+    Same,
+    /// By a stream that fits a slot.
+    Patch,
+    /// By more than that.
+    Large,
+}
+
+impl Difference {
+    /// The difference's number: 0, 1 or 2.
+    pub fn number(self) -> u32 {
+        self as u32
+    }
+}
+
+/// What a block map says of a block. Its numbers are not those of [`Kind`].
+#[derive(Clone, Copy, Debug, PartialEq, Eq, Hash)]
+pub enum Pair {
+    /// 0: the block's page equals its base.
+    Empty,
+    /// 1: the block's page stands in the full area.
+    Full,
+    /// 2: the block's slot holds a patch.
+    Patch,
+}
+
+impl Pair {
+    /// The pair as it stands in the map: 0, 1 or 2.
+    pub fn number(self) -> u32 {
+        self as u32
+    }
+}
+
+/// Why a call was refused.
+#[derive(Clone, Copy, Debug, PartialEq, Eq, Hash)]
+pub enum Refusal {
+    /// 1: a base is not 0 or 8,192 bytes long, or another page is not 8,192 bytes long.
+    PageLength,
+    /// 2: the length of an area or slot is wrong, or there are too many blocks.
+    AreaLength,
+    /// 3: magic, flags, sizes or zero bytes of a header are wrong.
+    Header,
+    /// 4: the version in a header is wrong.
+    Version,
+    /// 5: the store has no such block.
+    Block,
+    /// 6: the slot is not sound.
+    Slot,
+    /// 7: the payload is not sound.
+    Payload,
+    /// 8: the full area has no place for this block's page.
+    NoFullPage,
+    /// 9: the payload buffer or the map buffer is too short.
+    ShortBuffer,
+    /// 10: the block's place in the full area holds bytes although its slot does not refer to it.
+    StrayPage,
+    /// 11: a pair of the map is 3, or a pair past the last block is not 0.
+    Pair,
+}
+
+const REFUSALS: [Refusal; 11] = [
+    Refusal::PageLength,
+    Refusal::AreaLength,
+    Refusal::Header,
+    Refusal::Version,
+    Refusal::Block,
+    Refusal::Slot,
+    Refusal::Payload,
+    Refusal::NoFullPage,
+    Refusal::ShortBuffer,
+    Refusal::StrayPage,
+    Refusal::Pair,
+];
+
+impl Refusal {
+    /// The refusal's number in the table, 1 to 11.
+    ///
+    /// ```
+    /// assert_eq!(thonxiliko::Refusal::Block.number(), 5);
+    /// ```
+    pub fn number(self) -> u32 {
+        self as u32 + 1
+    }
+
+    /// The refusal with this number; none for 0 (done) and for numbers above 11.
+    ///
+    /// ```
+    /// use thonxiliko::Refusal;
+    /// assert_eq!(Refusal::from_number(11), Some(Refusal::Pair));
+    /// assert_eq!(Refusal::from_number(0), None);
+    /// ```
+    pub fn from_number(number: u32) -> Option<Refusal> {
+        let at = usize::try_from(number).ok()?.checked_sub(1)?;
+        REFUSALS.get(at).copied()
+    }
+
+    fn text(self) -> &'static str {
+        match self {
+            Refusal::PageLength => "a page has a wrong length",
+            Refusal::AreaLength => "an area or slot has a wrong length, or too many blocks",
+            Refusal::Header => "a header is wrong",
+            Refusal::Version => "the version in a header is wrong",
+            Refusal::Block => "the store has no such block",
+            Refusal::Slot => "the slot is not sound",
+            Refusal::Payload => "the payload is not sound",
+            Refusal::NoFullPage => "the full area has no place for the block",
+            Refusal::ShortBuffer => "the payload or map buffer is too short",
+            Refusal::StrayPage => "the full area holds a page that no slot refers to",
+            Refusal::Pair => "a pair of the map is wrong",
+        }
+    }
+}
+
+impl fmt::Display for Refusal {
+    fn fmt(&self, f: &mut fmt::Formatter<'_>) -> fmt::Result {
+        write!(f, "refused {}: {}", self.number(), self.text())
+    }
+}
+
+impl Error for Refusal {}
+
+/// Why [`build`] was refused, and at which block.
+#[derive(Clone, Copy, Debug, PartialEq, Eq, Hash)]
+pub struct BuildRefusal {
+    /// The refusal.
+    pub refusal: Refusal,
+    /// The first block at fault, where the fault is one of a block (6, 7, 8 and 10).
+    pub block: Option<u64>,
+}
+
+impl fmt::Display for BuildRefusal {
+    fn fmt(&self, f: &mut fmt::Formatter<'_>) -> fmt::Result {
+        match self.block {
+            Some(block) => write!(f, "{} (block {block})", self.refusal),
+            None => self.refusal.fmt(f),
+        }
+    }
+}
+
+impl Error for BuildRefusal {}
+
+/// What [`compare`] found.
+#[derive(Clone, Copy, Debug, PartialEq, Eq)]
+pub struct Compared {
+    /// How the pages differ.
+    pub difference: Difference,
+    /// Bytes of the whole stream, also where it is too long for a slot.
+    pub length: usize,
+    /// Entries of the whole stream, that is bytes that differ.
+    pub entries: usize,
+    /// The last position that differs.
+    pub last: Option<usize>,
+}
+
+/// What [`apply`] did.
+#[derive(Clone, Copy, Debug, PartialEq, Eq)]
+pub struct Applied {
+    /// The number of entries applied.
+    pub entries: usize,
+    /// The position of the last one.
+    pub last: usize,
+}
+
+/// What [`judge`] found.
+#[derive(Clone, Copy, Debug, PartialEq, Eq)]
+pub struct Judged {
+    /// The slot's kind.
+    pub kind: Kind,
+    /// Bytes of its payload; 0 unless the kind is [`Kind::Patch`].
+    pub length: usize,
+}
+
+/// What [`write()`] stored.
+#[derive(Clone, Copy, Debug, PartialEq, Eq)]
+pub struct Written {
+    /// The kind stored.
+    pub kind: Kind,
+    /// Bytes of the stream, also where it was too long and the whole page was stored.
+    pub length: usize,
+}
+
+/// What [`tally`] counted.
+#[derive(Clone, Copy, Debug, PartialEq, Eq)]
+pub struct Tally {
+    /// Blocks whose slot holds a patch.
+    pub patch: u64,
+    /// Blocks whose page stands in the full area.
+    pub full: u64,
+}
+
+/// A number that the interface never gives: the archive is not the one that this crate is for.
+#[cold]
+fn foreign(what: &str, number: u32) -> ! {
+    panic!("libthonxiliko.a answered {what} {number}, which its interface does not have");
+}
+
+fn accepted(number: u32) -> Result<(), Refusal> {
+    match Refusal::from_number(number) {
+        None if number == 0 => Ok(()),
+        None => foreign("the number", number),
+        Some(refusal) => Err(refusal),
+    }
+}
+
+fn kind(number: u32) -> Kind {
+    match number {
+        0 => Kind::Empty,
+        1 => Kind::Patch,
+        2 => Kind::Full,
+        _ => foreign("the kind", number),
+    }
+}
+
+fn difference(number: u32) -> Difference {
+    match number {
+        0 => Difference::Same,
+        1 => Difference::Patch,
+        2 => Difference::Large,
+        _ => foreign("the kind", number),
+    }
+}
+
+fn pair(number: u32) -> Pair {
+    match number {
+        0 => Pair::Empty,
+        1 => Pair::Full,
+        2 => Pair::Patch,
+        _ => foreign("the pair", number),
+    }
+}
+
+/// Positions are -1 (none) or places in a page.
+fn position(last: i32) -> Option<usize> {
+    usize::try_from(last).ok()
+}
+
+/// Makes both areas new and empty. An empty `full` is an absent full area.
+///
+/// Refuses with [`Refusal::AreaLength`] only; old contents do not matter.
+///
+/// ```
+/// let mut patch = vec![0xAA; thonxiliko::patch_area_len(2)];
+/// let mut full = vec![0xAA; thonxiliko::full_area_len(2)];
+/// thonxiliko::format(&mut patch, &mut full)?;
+/// assert_eq!(&patch[..8], b"PBKPATCH");
+/// assert!(full[4_096..].iter().all(|byte| *byte == 0));
+/// # Ok::<(), thonxiliko::Refusal>(())
+/// ```
+pub fn format(patch: &mut [u8], full: &mut [u8]) -> Result<(), Refusal> {
+    // SAFETY: each pointer and length are those of a slice borrowed for the call, and no slice
+    // borrowed mutably overlaps another. The same holds for every call below.
+    let done =
+        unsafe { sys::thx_format(patch.as_mut_ptr(), patch.len(), full.as_mut_ptr(), full.len()) };
+    accepted(done.number)
+}
+
+/// Finds the stream of bytes in which `page` differs from `base` and puts it into `payload` if it
+/// fits a slot ([`Difference::Patch`]). Otherwise, and after the stream, `payload` stays as it was.
+///
+/// Refuses, in this order: [`Refusal::PageLength`]; [`Refusal::ShortBuffer`] if `payload` has less
+/// than 504 bytes.
+///
+/// ```
+/// use thonxiliko::{compare, Difference, PAGE_SIZE, PAYLOAD_SIZE};
+///
+/// let mut page = vec![0; PAGE_SIZE];
+/// page[0] = 7;
+/// let mut payload = [0; PAYLOAD_SIZE];
+/// let compared = compare(&[], &page, &mut payload)?;
+/// assert_eq!(compared.difference, Difference::Patch);
+/// assert_eq!(payload[..compared.length], [0x00, 0x07]);
+/// assert_eq!(compared.last, Some(0));
+/// # Ok::<(), thonxiliko::Refusal>(())
+/// ```
+pub fn compare(base: &[u8], page: &[u8], payload: &mut [u8]) -> Result<Compared, Refusal> {
+    // SAFETY: as in `format`.
+    let compared = unsafe {
+        sys::thx_compare(
+            base.as_ptr(),
+            base.len(),
+            page.as_ptr(),
+            page.len(),
+            payload.as_mut_ptr(),
+            payload.len(),
+        )
+    };
+    accepted(compared.number)?;
+    Ok(Compared {
+        difference: difference(compared.kind),
+        length: compared.length as usize,
+        entries: compared.entries as usize,
+        last: position(compared.last),
+    })
+}
+
+/// Fills `page` with `base` and then the entries of `payload`.
+///
+/// Refuses, in this order: [`Refusal::PageLength`]; [`Refusal::Payload`] if the payload is empty,
+/// longer than 504 bytes, or not a row of whole entries that stay in the page.
+///
+/// ```
+/// let mut page = [0xFF; thonxiliko::PAGE_SIZE];
+/// let applied = thonxiliko::apply(&[], &[0xFE, 0x01], &mut page)?;
+/// assert_eq!((applied.entries, applied.last), (1, 254));
+/// assert_eq!((page[253], page[254], page[255]), (0, 1, 0));
+/// # Ok::<(), thonxiliko::Refusal>(())
+/// ```
+pub fn apply(base: &[u8], payload: &[u8], page: &mut [u8]) -> Result<Applied, Refusal> {
+    // SAFETY: as in `format`.
+    let applied = unsafe {
+        sys::thx_apply(
+            base.as_ptr(),
+            base.len(),
+            payload.as_ptr(),
+            payload.len(),
+            page.as_mut_ptr(),
+            page.len(),
+        )
+    };
+    accepted(applied.number)?;
+    Ok(Applied {
+        entries: applied.entries as usize,
+        last: position(applied.last).unwrap_or_else(|| foreign("the entries", applied.entries)),
+    })
+}
+
+/// Tells whether one slot is sound. The entries of its payload are not looked at.
+///
+/// Refuses, in this order: [`Refusal::AreaLength`] if `slot` is not 512 bytes long;
+/// [`Refusal::Slot`].
+///
+/// ```
+/// use thonxiliko::{judge, Kind, Refusal, SLOT_SIZE};
+///
+/// let mut slot = [0; SLOT_SIZE];
+/// assert_eq!(judge(&slot)?.kind, Kind::Empty);
+/// slot[0] = 3;
+/// assert_eq!(judge(&slot), Err(Refusal::Slot));
+/// # Ok::<(), Refusal>(())
+/// ```
+pub fn judge(slot: &[u8]) -> Result<Judged, Refusal> {
+    // SAFETY: as in `format`.
+    let judged = unsafe { sys::thx_judge(slot.as_ptr(), slot.len()) };
+    accepted(judged.number)?;
+    Ok(Judged { kind: kind(judged.kind), length: judged.length as usize })
+}
+
+/// Hands out a block's payload, a part of `patch` itself.
+///
+/// There is none if the length or the header of the patch area is wrong, if it has no such block, or
+/// if the block's slot is not a sound PATCH slot. The entries are not looked at.
+///
+/// ```
+/// let mut patch = vec![0; thonxiliko::patch_area_len(1)];
+/// thonxiliko::format(&mut patch, &mut [])?;
+/// assert_eq!(thonxiliko::show(&patch, 0), None);
+///
+/// let mut page = vec![0; thonxiliko::PAGE_SIZE];
+/// page[0] = 7;
+/// thonxiliko::write(&mut patch, &mut [], 0, &[], &page)?;
+/// assert_eq!(thonxiliko::show(&patch, 0), Some(&[0x00, 0x07][..]));
+/// # Ok::<(), thonxiliko::Refusal>(())
+/// ```
+pub fn show(patch: &[u8], block: u64) -> Option<&[u8]> {
+    // SAFETY: as in `format`.
+    let part = unsafe { sys::thx_show(patch.as_ptr(), patch.len(), block) };
+    let at = usize::try_from(part.at).ok()?;
+    let end = at.checked_add(usize::try_from(part.len).ok()?)?;
+    patch.get(at..end).filter(|payload| !payload.is_empty())
+}
+
+/// Fills `page` with a block: its base, its patched base, or its page in the full area.
+///
+/// `base` is the block's page in the base, the same that it was written with.
+///
+/// Refuses, in this order: [`Refusal::PageLength`], [`Refusal::AreaLength`], [`Refusal::Header`] and
+/// [`Refusal::Version`], [`Refusal::Block`], [`Refusal::Slot`], [`Refusal::NoFullPage`],
+/// [`Refusal::Payload`]. Other blocks are not looked at.
+///
+/// ```
+/// use thonxiliko::{format, patch_area_len, read, Kind, Refusal, PAGE_SIZE};
+///
+/// let mut patch = vec![0; patch_area_len(1)];
+/// format(&mut patch, &mut [])?;
+/// let base = vec![5; PAGE_SIZE];
+/// let mut page = vec![0; PAGE_SIZE];
+/// assert_eq!(read(&patch, &[], 0, &base, &mut page)?, Kind::Empty);
+/// assert_eq!(page, base);
+/// assert_eq!(read(&patch, &[], 1, &base, &mut page), Err(Refusal::Block));
+/// # Ok::<(), Refusal>(())
+/// ```
+pub fn read(
+    patch: &[u8],
+    full: &[u8],
+    block: u64,
+    base: &[u8],
+    page: &mut [u8],
+) -> Result<Kind, Refusal> {
+    // SAFETY: as in `format`.
+    let reading = unsafe {
+        sys::thx_read(
+            patch.as_ptr(),
+            patch.len(),
+            full.as_ptr(),
+            full.len(),
+            block,
+            base.as_ptr(),
+            base.len(),
+            page.as_mut_ptr(),
+            page.len(),
+        )
+    };
+    accepted(reading.number)?;
+    Ok(kind(reading.kind))
+}
+
+/// Keeps `page` as the block's page.
+///
+/// `base` is the block's page in the base. The page is compared with it, not with what was written
+/// before. The block's slot is set; if the block has a place in the full area, that holds the page
+/// for [`Kind::Full`] and zeros otherwise. Nothing else changes.
+///
+/// Refuses, in this order: [`Refusal::PageLength`], [`Refusal::AreaLength`], [`Refusal::Header`] and
+/// [`Refusal::Version`], [`Refusal::Block`], and [`Refusal::NoFullPage`] if the page needs the full
+/// area and that has no place for the block.
+///
+/// ```
+/// use thonxiliko::{format, full_area_len, patch_area_len, write, Kind, Refusal, PAGE_SIZE};
+///
+/// let mut patch = vec![0; patch_area_len(2)];
+/// let mut full = vec![0; full_area_len(1)];
+/// format(&mut patch, &mut full)?;
+/// let page = vec![9; PAGE_SIZE];
+/// assert_eq!(write(&mut patch, &mut full, 0, &[], &page)?.kind, Kind::Full);
+/// assert_eq!(write(&mut patch, &mut full, 1, &[], &page), Err(Refusal::NoFullPage));
+/// # Ok::<(), Refusal>(())
+/// ```
+pub fn write(
+    patch: &mut [u8],
+    full: &mut [u8],
+    block: u64,
+    base: &[u8],
+    page: &[u8],
+) -> Result<Written, Refusal> {
+    // SAFETY: as in `format`.
+    let written = unsafe {
+        sys::thx_write(
+            patch.as_mut_ptr(),
+            patch.len(),
+            full.as_mut_ptr(),
+            full.len(),
+            block,
+            base.as_ptr(),
+            base.len(),
+            page.as_ptr(),
+            page.len(),
+        )
+    };
+    accepted(written.number)?;
+    Ok(Written { kind: kind(written.kind), length: written.length as usize })
+}
+
+/// Checks every slot, every payload and every place in the full area, and makes the block map.
+///
+/// The map has two bits for each block, block `b` in bits `2·(b mod 4)` and up of byte `b / 4`.
+/// [`map_len`] bytes are written; later bytes of `map` stay.
+///
+/// Refuses, in this order: [`Refusal::AreaLength`], [`Refusal::ShortBuffer`], [`Refusal::Header`] and
+/// [`Refusal::Version`]; then at the first block at fault [`Refusal::Slot`], [`Refusal::NoFullPage`],
+/// [`Refusal::Payload`] or [`Refusal::StrayPage`].
+///
+/// ```
+/// use thonxiliko::{build, format, patch_area_len, BuildRefusal, Refusal};
+///
+/// let mut patch = vec![0; patch_area_len(5)];
+/// format(&mut patch, &mut [])?;
+/// let mut map = [0xFF; 3];
+/// assert_eq!(build(&patch, &[], &mut map), Ok(()));
+/// assert_eq!(map, [0, 0, 0xFF]);
+///
+/// patch[512 + 512 * 3] = 9; // no such kind
+/// let fault = BuildRefusal { refusal: Refusal::Slot, block: Some(3) };
+/// assert_eq!(build(&patch, &[], &mut map), Err(fault));
+/// # Ok::<(), Refusal>(())
+/// ```
+pub fn build(patch: &[u8], full: &[u8], map: &mut [u8]) -> Result<(), BuildRefusal> {
+    // SAFETY: as in `format`.
+    let built = unsafe {
+        sys::thx_build(
+            patch.as_ptr(),
+            patch.len(),
+            full.as_ptr(),
+            full.len(),
+            map.as_mut_ptr(),
+            map.len(),
+        )
+    };
+    accepted(built.number).map_err(|refusal| BuildRefusal {
+        refusal,
+        block: match refusal {
+            Refusal::Slot | Refusal::Payload | Refusal::NoFullPage | Refusal::StrayPage => {
+                Some(built.block)
+            }
+            _ => None,
+        },
+    })
+}
+
+/// Looks up one block in a map of `n` blocks.
+///
+/// Refuses, in this order: [`Refusal::AreaLength`] if `n` is over 131,072; [`Refusal::ShortBuffer`]
+/// if the map has less than [`map_len`] bytes; [`Refusal::Block`]; [`Refusal::Pair`] if the block's
+/// own pair is 3.
+///
+/// ```
+/// use thonxiliko::{look_up, Pair, Refusal};
+///
+/// assert_eq!(look_up(&[0b00_11_10_01], 4, 1), Ok(Pair::Patch));
+/// assert_eq!(look_up(&[0b00_11_10_01], 4, 2), Err(Refusal::Pair));
+/// ```
+pub fn look_up(map: &[u8], n: u64, block: u64) -> Result<Pair, Refusal> {
+    // SAFETY: as in `format`.
+    let found = unsafe { sys::thx_look_up(map.as_ptr(), map.len(), n, block) };
+    accepted(found.number)?;
+    Ok(pair(found.pair))
+}
+
+/// Counts the PATCH and the full pairs in a map of `n` blocks.
+///
+/// Refuses, in this order: [`Refusal::AreaLength`] if `n` is over 131,072; [`Refusal::ShortBuffer`]
+/// if the map has less than [`map_len`] bytes; [`Refusal::Pair`] if one of the `n` pairs is 3 or an
+/// unused pair of the last byte is not 0. Later bytes are not looked at.
+///
+/// ```
+/// let tally = thonxiliko::tally(&[0xAA, 0x01, 0xFF], 5)?;
+/// assert_eq!((tally.patch, tally.full), (4, 1));
+/// # Ok::<(), thonxiliko::Refusal>(())
+/// ```
+pub fn tally(map: &[u8], n: u64) -> Result<Tally, Refusal> {
+    // SAFETY: as in `format`.
+    let tallied = unsafe { sys::thx_tally(map.as_ptr(), map.len(), n) };
+    accepted(tallied.number)?;
+    Ok(Tally { patch: tallied.patch, full: tallied.full })
+}

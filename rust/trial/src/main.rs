@@ -1,0 +1,108 @@
+//! A trial copy of a PostgreSQL data folder.
+//!
+//! The base folder is last night's backup and is never written to. `store` keeps every changed page of
+//! the relation files of another folder beside it, `rebuild` makes that other folder again from the
+//! base and what was kept, `compare` holds two folders against each other byte by byte.
+
+mod folder;
+mod kept;
+mod names;
+mod progress;
+mod segment;
+mod table;
+
+use std::error::Error;
+use std::path::Path;
+use std::process::ExitCode;
+
+use names::Names;
+use progress::Progress;
+
+pub type Outcome<T> = Result<T, Box<dyn Error>>;
+
+const HELP: &str = "\
+usage: trial store BASE CHANGED KEPT [--names FILE] [--live]
+       trial rebuild BASE KEPT FOLDER [--live]
+       trial compare FOLDER FOLDER
+
+  store    keeps in KEPT what CHANGED has beyond BASE, reads it back and prints a table
+  rebuild  makes FOLDER from BASE and KEPT
+  compare  says whether both folders hold the same files with the same bytes
+
+  --names FILE  lines of: path of a relation's first file, its name, 'system' or 'user' (by tabs)
+  --live        a progress line that is written over, for terminals
+";
+
+struct Words {
+    plain: Vec<String>,
+    names: Option<String>,
+    live: bool,
+}
+
+fn words() -> Outcome<Words> {
+    let mut words = Words { plain: Vec::new(), names: None, live: false };
+    let mut given = std::env::args().skip(1);
+    while let Some(word) = given.next() {
+        match word.as_str() {
+            "--names" => words.names = Some(given.next().ok_or("--names wants a file")?),
+            "--live" => words.live = true,
+            _ => words.plain.push(word),
+        }
+    }
+    Ok(words)
+}
+
+fn run() -> Outcome<bool> {
+    let words = words()?;
+    let plain: Vec<&str> = words.plain.iter().map(String::as_str).collect();
+    match plain[..] {
+        ["store", base, changed, kept] => {
+            let names = match &words.names {
+                Some(file) => Names::from_file(Path::new(file))?,
+                None => Names::default(),
+            };
+            let mut progress = Progress::new(words.live);
+            let stored =
+                kept::store(base.as_ref(), changed.as_ref(), kept.as_ref(), &mut progress)?;
+            table::print(&stored, &names);
+            Ok(true)
+        }
+        ["rebuild", base, kept, folder] => {
+            let mut progress = Progress::new(words.live);
+            let rebuilt =
+                kept::rebuild(base.as_ref(), kept.as_ref(), folder.as_ref(), &mut progress)?;
+            println!(
+                "rebuilt {} segments over their base, copied {} files from the base and {} kept whole",
+                rebuilt.segments, rebuilt.from_base, rebuilt.whole
+            );
+            Ok(true)
+        }
+        ["compare", one, other] => compare(one.as_ref(), other.as_ref()),
+        ["help"] | ["--help"] => {
+            print!("{HELP}");
+            Ok(true)
+        }
+        _ => Err("see 'trial --help'".into()),
+    }
+}
+
+/// Prints every difference; true if there is none.
+fn compare(one: &Path, other: &Path) -> Outcome<bool> {
+    let differences = folder::differences(one, other)?;
+    for difference in &differences.found {
+        println!("{difference}");
+    }
+    println!("{} files compared, {} differ", differences.files, differences.found.len());
+    Ok(differences.found.is_empty() && differences.files > 0)
+}
+
+fn main() -> ExitCode {
+    match run() {
+        Ok(true) => ExitCode::SUCCESS,
+        Ok(false) => ExitCode::FAILURE,
+        Err(problem) => {
+            eprintln!("trial: {problem}");
+            ExitCode::from(2)
+        }
+    }
+}

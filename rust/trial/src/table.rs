@@ -1,0 +1,164 @@
+//! The table that is printed after storing.
+
+use std::collections::BTreeMap;
+
+use crate::kept::{Stored, StoredSegment};
+use crate::names::Names;
+use crate::segment::Counts;
+
+/// One line of the table.
+#[derive(Default)]
+struct Row {
+    name: String,
+    counts: Counts,
+    files: u64,
+    /// Blocks of the main fork, now and in the base.
+    main: (u64, u64),
+    forks: Vec<String>,
+}
+
+impl Row {
+    fn add(&mut self, segment: &StoredSegment) {
+        let counts = &segment.counts;
+        self.counts.add(counts);
+        self.files += 1;
+        match &segment.relation.fork {
+            None => {
+                self.main.0 += counts.blocks;
+                self.main.1 += counts.base_blocks;
+            }
+            Some(fork) if counts.base_blocks == 0 => self.forks.push(format!("{fork} (new)")),
+            Some(fork) => self.forks.push(fork.clone()),
+        }
+    }
+
+    fn note(&self) -> String {
+        let mut notes = Vec::new();
+        match self.main {
+            (0, 0) => {}
+            (_, 0) => notes.push("not in the base".to_string()),
+            (now, base) if now > base => notes.push(format!("grew by {}", thousands(now - base))),
+            (now, base) if now < base => notes.push(format!("shrank by {}", thousands(base - now))),
+            _ => {}
+        }
+        if !self.forks.is_empty() {
+            notes.push(format!("with {}", self.forks.join(", ")));
+        }
+        notes.join("; ")
+    }
+}
+
+fn thousands(number: u64) -> String {
+    let digits = number.to_string();
+    let mut text = String::new();
+    for (at, digit) in digits.chars().enumerate() {
+        if at > 0 && (digits.len() - at) % 3 == 0 {
+            text.push(',');
+        }
+        text.push(digit);
+    }
+    text
+}
+
+fn size(bytes: u64) -> String {
+    match bytes {
+        0..=10_239 => format!("{} B", thousands(bytes)),
+        10_240..=1_048_575 => format!("{:.0} KiB", bytes as f64 / 1024.0),
+        _ => format!("{:.1} MiB", bytes as f64 / 1_048_576.0),
+    }
+}
+
+fn share(counts: &Counts) -> String {
+    match counts.whole_pages() {
+        0 => "-".to_string(),
+        whole => format!("{:.0} %", 100.0 * counts.kept as f64 / whole as f64),
+    }
+}
+
+fn print_row(name: &str, counts: &Counts, note: &str) {
+    println!(
+        "{name:<34} {:>8} {:>8} {:>8} {:>8} {:>10} {:>12} {:>6}  {note}",
+        thousands(counts.blocks),
+        thousands(counts.empty),
+        thousands(counts.patch),
+        thousands(counts.full),
+        size(counts.kept),
+        size(counts.whole_pages()),
+        share(counts),
+    );
+}
+
+/// One row for each relation with all its forks and segments; the catalogs share one.
+fn rows(stored: &Stored, names: &Names) -> (Vec<Row>, Row) {
+    let mut by_name: BTreeMap<String, Row> = BTreeMap::new();
+    let mut catalogs = Row::default();
+    for segment in &stored.segments {
+        let name = names.of(&segment.relation.first);
+        let row = if name.system {
+            &mut catalogs
+        } else {
+            let fresh = || Row { name: name.name.clone(), ..Row::default() };
+            by_name.entry(segment.relation.first.clone()).or_insert_with(fresh)
+        };
+        row.add(segment);
+    }
+    let mut rows: Vec<Row> = by_name.into_values().collect();
+    rows.sort_by(|a, b| b.counts.blocks.cmp(&a.counts.blocks).then(a.name.cmp(&b.name)));
+    (rows, catalogs)
+}
+
+pub fn print(stored: &Stored, names: &Names) {
+    let (rows, catalogs) = rows(stored, names);
+    println!();
+    println!(
+        "{:<34} {:>8} {:>8} {:>8} {:>8} {:>10} {:>12} {:>6}",
+        "changed relation", "blocks", "EMPTY", "PATCH", "full", "kept", "whole pages", "kept/w"
+    );
+    println!("{}", "-".repeat(101));
+    let mut total = Counts::default();
+    for row in &rows {
+        print_row(&row.name, &row.counts, &row.note());
+        total.add(&row.counts);
+    }
+    if catalogs.files > 0 {
+        print_row(
+            "PostgreSQL's own catalogs",
+            &catalogs.counts,
+            &format!("{} files", catalogs.files),
+        );
+        total.add(&catalogs.counts);
+    }
+    println!("{}", "-".repeat(101));
+    print_row("all", &total, "");
+    println!();
+    println!(
+        "EMPTY: as in the base. PATCH: the bytes that differ, in a slot. full: the whole page."
+    );
+    println!(
+        "kept: what the two area files take on disk. whole pages: 8,192 bytes for each changed"
+    );
+    println!("block, the PATCH and the full ones. Every block was read back and compared.");
+    println!(
+        "Besides: {} files unchanged, {} gone since the base, {} that hold no relation's pages kept whole ({}).",
+        thousands(stored.unchanged),
+        thousands(stored.gone),
+        thousands(stored.whole_files),
+        size(stored.whole_bytes)
+    );
+}
+
+#[cfg(test)]
+mod tests {
+    use super::*;
+
+    #[test]
+    fn numbers_are_easy_to_read() {
+        assert_eq!(thousands(0), "0");
+        assert_eq!(thousands(999), "999");
+        assert_eq!(thousands(1_000), "1,000");
+        assert_eq!(thousands(1_234_567), "1,234,567");
+        assert_eq!(size(8_192), "8,192 B");
+        assert_eq!(size(20_480), "20 KiB");
+        assert_eq!(size(104_857_600), "100.0 MiB");
+    }
+}
