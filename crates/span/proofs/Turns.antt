@@ -1,5 +1,5 @@
 -- What one turn of each loop of the crate gives, over plain lists.
-use Prim.Native.Nat.{ℕ, _+_, _≤_, _<_}
+use Prim.Native.Nat.{ℕ, _+_, _-_, _≤_, _<_}
 use native.Mathlib.Nat.{zero-add}
 use native.Mathlib.Numerals.{add-one}
 use native.Mathlib.Omega.{arith}
@@ -8,11 +8,12 @@ use mathlib.Core.Path.{_≡_, refl, sym, ap, _∙_}
 use mathlib.Core.Bool.{Bool, true, false, not, _&&_, _||_, true≢false}
 use mathlib.Core.List.{List, [], _∷_, _++_}
 use lib.Dec.{eqb}
-use lib.ListN.{length, take, getD, set}
-use lib.Seq.{take-suc, length-take-le}
-use borrow.Author.Tests.{eqb-true}
+use lib.ListN.{length, take, drop, getD, set, length-drop}
+use lib.Bits.{bitOr, or-add-and, and-le-l, and-le-r}
+use lib.Seq.{take-suc, length-take-le, take-add}
+use borrow.Author.Tests.{eqb-true, eqb-false, eq-eqb, ne-eqb}
 use Rattle.span.specs.Bytes.{zeros, splice, same}
-use Rattle.span.specs.Laws.{zeros-length, zeros-more, splice-more, same-more}
+use Rattle.span.specs.Laws.{zeros-length, zeros-more, splice-more, splice-join, same-more}
 use Rattle.span.specs.Differ.{Same, nextDiff, next-skip}
 
 -- a loop that stores a list from the front has stored one byte more
@@ -29,20 +30,41 @@ copied dst₀ dst src i h k d =
     stored dst₀ dst (take i src) i (getD src i 0) (length-take-le i src (omega arith)) h d
     ∙ ap (λ (l : List ℕ). splice dst₀ 0 l) (sym (ap (λ (n : ℕ). take n src) (add-one i) ∙ take-suc src i 0 k))
 
-not-and : (a b : Bool) → not (a && b) ≡ (not a || not b)
-not-and true b = refl
-not-and false b = refl
+-- a part of the source has been moved to its place
+pub moved-on : (dst₀ dst src : List ℕ) (at n : ℕ) → at + n ≤ length dst₀ → at + n ≤ length src → dst ≡ splice dst₀ 0 (take at src)
+    → splice dst at (take n (drop at src)) ≡ splice dst₀ 0 (take (at + n) src)
+moved-on dst₀ dst src at n h k d =
+    let l : length (take at src) ≡ at = length-take-le at src (omega arith) in
+    let m : length (drop at src) ≡ length src - at = length-drop at src in
+    let q : length (take n (drop at src)) ≡ n = length-take-le n (drop at src) (omega arith) in
+    ap (λ (x : List ℕ). splice x at (take n (drop at src))) d
+    ∙ ap (λ (i : ℕ). splice (splice dst₀ 0 (take at src)) i (take n (drop at src))) (sym l)
+    ∙ splice-join dst₀ (take at src) (take n (drop at src)) (omega arith)
+    ∙ ap (λ (x : List ℕ). splice dst₀ 0 x) (sym (take-add at n src))
 
 -- a test for zeros has seen one byte more
-pub seen-zero : (s : List ℕ) (i : ℕ) (seen : Bool) → i < length s → seen ≡ not (same (take i s) (zeros i))
-    → (seen || not (eqb (getD s i 0) 0)) ≡ not (same (take (i + 1) s) (zeros (i + 1)))
+or-both : (a b : ℕ) → eqb (bitOr a b) 0 ≡ (eqb a 0 && eqb b 0)
+or-both a b = go (eqb a 0) (eqb b 0) refl refl
+  where
+    left : a ≤ bitOr a b
+    left = omega (arith, or-add-and a b, and-le-r a b)
+
+    right : b ≤ bitOr a b
+    right = omega (arith, or-add-and a b, and-le-l a b)
+
+    go : (x y : Bool) → eqb a 0 ≡ x → eqb b 0 ≡ y → eqb (bitOr a b) 0 ≡ (x && y)
+    go true true p q = eq-eqb (bitOr a b) 0 (omega (arith, or-add-and a b, eqb-true a 0 p, eqb-true b 0 q))
+    go true false p q = ne-eqb (bitOr a b) 0 (λ e. eqb-false b 0 q (omega (arith, right)))
+    go false y p q = ne-eqb (bitOr a b) 0 (λ e. eqb-false a 0 p (omega (arith, left)))
+
+pub seen-zero : (s : List ℕ) (i seen : ℕ) → i < length s → eqb seen 0 ≡ same (take i s) (zeros i) → eqb (bitOr seen (getD s i 0)) 0 ≡ same (take (i + 1) s) (zeros (i + 1))
 seen-zero s i seen h e =
     let l : length (take i s) ≡ i = length-take-le i s (omega arith) in
-    ap (λ (t : Bool). t || not (eqb (getD s i 0) 0)) e
-    ∙ sym (not-and (same (take i s) (zeros i)) (eqb (getD s i 0) 0))
-    ∙ ap not (sym (same-more (take i s) (zeros i) (getD s i 0) 0 (l ∙ sym (zeros-length i))))
-    ∙ ap (λ (l : List ℕ). not (same l (zeros i ++ (0 ∷ [])))) (sym (ap (λ (n : ℕ). take n s) (add-one i) ∙ take-suc s i 0 h))
-    ∙ ap (λ (l : List ℕ). not (same (take (i + 1) s) l)) (sym (zeros-more i))
+    or-both seen (getD s i 0)
+    ∙ ap (λ (t : Bool). t && eqb (getD s i 0) 0) e
+    ∙ sym (same-more (take i s) (zeros i) (getD s i 0) 0 (l ∙ sym (zeros-length i)))
+    ∙ ap (λ (l : List ℕ). same l (zeros i ++ (0 ∷ []))) (sym (ap (λ (n : ℕ). take n s) (add-one i) ∙ take-suc s i 0 h))
+    ∙ ap (λ (l : List ℕ). same (take (i + 1) s) l) (sym (zeros-more i))
 
 -- no byte is passed yet
 pub same-none : (a b : List ℕ) (at to : ℕ) → to ≤ at → Same a b at to

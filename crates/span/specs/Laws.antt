@@ -437,3 +437,26 @@ and-left false b h = absurd (false≢true h)
 pub and-right : (a b : Bool) → (a && b) ≡ true → b ≡ true
 and-right true b h = h
 and-right false b h = absurd (false≢true h)
+
+-- laid one after the other is laid together
+pub splice-join : (xs ys zs : List ℕ) → length ys + length zs ≤ length xs → splice (splice xs 0 ys) (length ys) zs ≡ splice xs 0 (ys ++ zs)
+splice-join xs ys zs h =
+    let s : List ℕ = splice xs 0 ys in
+    let f : length s ≡ length xs = splice-length xs 0 ys (omega arith) in
+    let g : length (splice s (length ys) zs) ≡ length s = splice-length s (length ys) zs (omega arith) in
+    let l : length (ys ++ zs) ≡ length ys + length zs = length-append ys zs in
+    splice-is xs 0 (ys ++ zs) (splice s (length ys) zs) (omega arith) (omega arith) (λ i k. absurd (omega arith))
+    (λ j k.
+    let z : 0 + j ≡ j = omega arith in
+    elim (decLt j (length ys)) [
+      | yes o ↦
+          splice-before s (length ys) zs (omega arith) (0 + j) (omega arith) ∙ splice-in xs 0 ys (omega arith) j o ∙ sym (List·getD-append ys zs 0 j o)
+      | no o ↦
+          let i : ℕ = j - length ys in
+          let q : 0 + j ≡ length ys + i = omega arith in
+          let r : j ≡ length ys + i = omega arith in
+          ap (λ (p : ℕ). getD (splice s (length ys) zs) p 0) q
+          ∙ splice-in s (length ys) zs (omega arith) i (omega arith)
+          ∙ sym (ap (λ (p : ℕ). getD (ys ++ zs) p 0) r ∙ getD-append-add ys zs i 0)
+    ])
+    (λ i k o. splice-after s (length ys) zs (omega arith) i (omega arith) ∙ splice-after xs 0 ys (omega arith) i (omega arith))

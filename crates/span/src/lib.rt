@@ -13,6 +13,9 @@ const CHUNK: usize = 64;
 
 const WORD: usize = 8;
 
+// How many bytes are moved at one go.
+const BULK: usize = 4 * 1024;
+
 // Every byte becomes zero.
 pub fn fill(dst: &mut [u8])
     ensures { λ _. ⌜ now (dst .exit) ≡ zeros (length (now (dst .entry))) ⌝ }
@@ -31,8 +34,8 @@ fn shorter(a: usize, b: usize) -> usize
     if a < b { a } else { b }
 }
 
-// The bytes of src, as many as dst has room for, from dst's start on.
-pub fn copy(dst: &mut [u8], src: &[u8])
+// The bytes of src, as many as dst has room for, from dst's start on, one by one.
+fn copy_bytes(dst: &mut [u8], src: &[u8])
     ensures { λ _. ⌜ now (dst .exit) ≡ splice (now (dst .entry)) 0 (take (length (now (dst .entry))) (now (src .entry))) ⌝ }
 {
     let end = shorter(dst.len(), src.len());
@@ -43,17 +46,42 @@ pub fn copy(dst: &mut [u8], src: &[u8])
     }
 }
 
+// The same by way of a local array. It is no copy more: the compiler joins the two into one move of the whole, since nothing can
+// overlap a local, and does not do so for two slices that might.
+fn copy_bulk(dst: &mut [u8], src: &[u8])
+    requires { ⌜ (length (now dst) ≡ 4096) × (length (now src) ≡ 4096) ⌝ }
+    ensures { λ _. ⌜ now (dst .exit) ≡ now (src .entry) ⌝ }
+{
+    let mut moved = [0u8; BULK];
+    copy_bytes(&mut moved, src);
+    copy_bytes(dst, &moved);
+}
+
+// The bytes of src, as many as dst has room for, from dst's start on.
+pub fn copy(dst: &mut [u8], src: &[u8])
+    ensures { λ _. ⌜ now (dst .exit) ≡ splice (now (dst .entry)) 0 (take (length (now (dst .entry))) (now (src .entry))) ⌝ }
+{
+    let end = shorter(dst.len(), src.len());
+    let mut at = 0;
+    while BULK <= end - at {
+        let to = at + BULK;
+        copy_bulk(&mut dst[at..to], &src[at..to]);
+        at = to;
+    }
+    copy_bytes(&mut dst[at..end], &src[at..end]);
+}
+
 // Whether every byte is zero.
 pub fn all_zero(s: &[u8]) -> bool
     ensures { λ r. ⌜ r ≡ sameBytes (now (s .entry)) (zeros (length (now (s .entry)))) ⌝ }
 {
-    let mut seen = false;
+    let mut seen: u8 = 0;
     let mut i = 0;
     while i < s.len() {
-        seen = seen | (s[i] != 0);
+        seen = seen | s[i];
         i += 1;
     }
-    !seen
+    seen == 0
 }
 
 // Whether two parts of the same place and length differ somewhere.

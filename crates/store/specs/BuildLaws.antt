@@ -1,25 +1,26 @@
 -- What the pieces of Build are to give, and the laws that join them to the definitions.
-use Prim.Native.Nat.{ℕ, zero, suc, _+_, _-_, _≤_, _<_}
+use Prim.Native.Nat.{ℕ, zero, suc, _+_, _-_, _*_, _/_, _%_, _^_, _≤_, _<_}
 use native.Mathlib.Omega.{arith}
-use native.Mathlib.Numerals.{add-one}
 use native.Mathlib.Decide.{decLt}
 use mathlib.Core.Path.{_≡_, refl, sym, ap, _∙_}
+use mathlib.Core.Logic.{inl, inr}
 use mathlib.Core.Bool.{Bool, true, false, not, _&&_, cond}
 use mathlib.Core.List.{List, [], _∷_, _++_}
 use lib.Dec.{eqb, ltb, leb}
 use lib.ListN.{length, getD, set}
 use borrow.Author.Tests.{lt-ltb, le-ltb, le-leb, lt-leb, eq-eqb, ne-eqb, eqb-true, eqb-false, not-false}
 use Rattle.span.specs.Bytes.{zeros, part, same, splice}
-use Rattle.span.specs.Laws.{part-at, splice-more}
+use Rattle.span.specs.Laws.{part-at, splice-more, splice-in, splice-after, splice-length}
 use Rattle.layout.specs.Sizes.{slotSize, slotAt}
-use Rattle.layout.specs.Refusals.{Row, _⇐_, firstOf, orElse, decided, Groups, ordered, decided-done, decided-refused}
+use Rattle.layout.specs.Refusals.{Row, _⇐_, firstOf, orElse, decided, Groups, ordered, decided-done, decided-refused, or-none, row-off}
 use Rattle.layout.specs.Headers.{headerRows}
 use Rattle.layout.specs.Areas.{blocksIn, pagesIn, patchFits, fullFits, lengthRows}
-use Rattle.layout.specs.Slots.{SlotNumbers, slotNumbers, soundSlot, unsoundSlot, payloadOf, payloadLength, isPatch, plainNumbers, slot-short, slot-patch, slot-other}
+use Rattle.layout.specs.Slots.{SlotNumbers, slotNumbers, soundSlot, unsoundSlot, emptySlot, fullSlot, payloadOf, payloadLength, isPatch, plainNumbers, slot-short, slot-patch, slot-other}
 use Rattle.stream.specs.Entries.{sound}
-use Rattle.blockmap.specs.Pairs.{mapBytes}
+use Rattle.blockmap.specs.Pairs.{mapBytes, pairAt, pairs, patchPair, fullPair, reservedPair, badPairs}
+use Rattle.blockmap.specs.Meaning.{upTo, keep, keep-same, up-to-below, blocksWith, pairs-count, BadPair, bad-iff}
 use Rattle.blockmap.specs.Pack.{pairOf, packedByte, packedFirst, packed}
-use Rattle.blockmap.specs.PackLaws.{packed-more, packed-first-length, packed-same}
+use Rattle.blockmap.specs.PackLaws.{pair-of-below, packed-length, packed-used, packed-unused, packed-more, packed-first-length, packed-same}
 use Rattle.store.specs.Frame.{slotOf, placeOf, frameRows, ordered-frame}
 use Rattle.store.specs.Read.{slotRows, fullRows, payloadRows}
 use Rattle.store.specs.Build.{placeRows, blockFault, BlockFault, firstFault, buildRows, builtMap, BuildOutcome, buildOutcome, BuildNumbers}
@@ -132,15 +133,6 @@ map-turn buffer map f n at v h e q =
 
 -- What an accepted frame and blocks without a fault say
 
-or-none : (a b : ℕ) → orElse a b ≡ 0 → (a ≡ 0) × (b ≡ 0)
-unfolding orElse
-or-none zero b e = (refl, e)
-or-none (suc a) b e = absurd (omega arith)
-
-row-off : (n : ℕ) (t : Bool) → cond t (suc n) 0 ≡ 0 → t ≡ false
-row-off n true e = absurd (omega arith)
-row-off n false e = refl
-
 module _ (P : ℕ) (patch full : List ℕ) where
   pub frame-none : (fits : Bool) → firstOf (frameRows P ((1 ⇐ false) ∷ []) ((9 ⇐ not fits) ∷ []) patch full) ≡ 0
       → ((patchFits P (length patch) && fullFits P (blocksIn (length patch)) (length full)) ≡ true) × (fits ≡ true) × (firstOf (headerRows P patch full) ≡ 0)
@@ -224,25 +216,21 @@ built-kinds P patch full e =
 
 -- The whole call
 
+pub not-fits : (k l : ℕ) → ltb l k ≡ not (leb k l)
+not-fits k l =
+    elim (decLt l k) [
+      | yes h ↦ rw (lt-ltb l k h, lt-leb k l h)
+      | no h ↦
+          let i : k ≤ l = omega arith in
+          rw (le-ltb l k i, le-leb k l i)
+    ]
+
 module _ (P : ℕ) (patch full map : List ℕ) where
   pub build-frame : (fits : Bool) → ltb (length map) (mapBytes (blocksIn (length patch))) ≡ not fits
       → firstOf (buildRows P patch full map) ≡ firstOf (frameRows P ((1 ⇐ false) ∷ []) ((9 ⇐ not fits) ∷ []) patch full)
   unfolding buildRows firstOf orElse frameRows
   build-frame fits e =
-      ordered-frame P patch full
-      (record {
-        pages = [];
-        lengths = lengthRows P (length patch) (length full);
-        buffers = (9 ⇐ ltb (length map) (mapBytes (blocksIn (length patch)))) ∷ [];
-        headers = headerRows P patch full;
-        block = [];
-        slot = [];
-        full = [];
-        payload = [];
-        place = [];
-        pair = [];
-      })
-      refl refl
+      ordered-frame P patch full _ refl refl
       ∙ orElse-zero (firstOf (frameRows P [] ((9 ⇐ ltb (length map) (mapBytes (blocksIn (length patch)))) ∷ []) patch full))
       ∙ ap (λ (t : Bool). firstOf (frameRows P [] ((9 ⇐ t) ∷ []) patch full)) e
 
@@ -264,3 +252,192 @@ module _ (P : ℕ) (patch full map : List ℕ) where
     build-done f =
         decided-done _ _ (firstOf (buildRows P patch full map)) e
         ∙ decided-done _ _ (firstFault P patch full 0 (blocksIn (length patch)) .number) f
+
+  -- accepted by its number: nothing was found
+  pub build-zero : buildOutcome P patch full map .number ≡ 0 → (firstOf (buildRows P patch full map) ≡ 0) × (firstFault P patch full 0 (blocksIn (length patch)) .number ≡ 0)
+  unfolding buildOutcome decided
+  build-zero e = go (firstOf (buildRows P patch full map)) (fault .number) e
+    where
+      fault : BlockFault
+      fault = firstFault P patch full 0 (blocksIn (length patch))
+
+      go : (x y : ℕ)
+          → decided {A = BuildOutcome} x (decided y (record { number = 0; block = 0; map = splice map 0 (builtMap patch) }) (λ n. record { number = n; block = fault .block; map = map })) (λ n. record { number = n; block = 0; map = map }) .number ≡ 0
+          → (x ≡ 0) × (y ≡ 0)
+      go zero zero q = (refl, refl)
+      go zero (suc y) q = absurd (omega arith)
+      go (suc x) y q = absurd (omega arith)
+
+  -- and refused by it: the buffer is as it was
+  pub refused-map : (buildOutcome P patch full map .number ≡ 0 → ⊥) → buildOutcome P patch full map .map ≡ map
+  unfolding buildOutcome decided
+  refused-map h = go (firstOf (buildRows P patch full map)) (fault .number) h
+    where
+      fault : BlockFault
+      fault = firstFault P patch full 0 (blocksIn (length patch))
+
+      out : ℕ → ℕ → BuildOutcome
+      out x y =
+          decided x (decided y (record { number = 0; block = 0; map = splice map 0 (builtMap patch) }) (λ n. record { number = n; block = fault .block; map = map }))
+          (λ n. record { number = n; block = 0; map = map })
+
+      go : (x y : ℕ) → (out x y .number ≡ 0 → ⊥) → out x y .map ≡ map
+      go zero zero q = absurd (q refl)
+      go zero (suc y) q = refl
+      go (suc x) y q = refl
+
+-- The first fault is the lowest block's
+
+pub record FoundIn (P : ℕ) (patch full : List ℕ) (b k : ℕ) (f : BlockFault) : Type 0 where
+  pub from : b ≤ f .block
+  pub within : f .block < b + k
+  pub fault : blockFault P patch full (f .block) ≡ f .number
+  pub lower : (i : ℕ) → b ≤ i → i < f .block → blockFault P patch full i ≡ 0
+
+module _ (P : ℕ) (patch full : List ℕ) where
+  pub fault-found : (b k : ℕ) → (firstFault P patch full b k .number ≡ 0 → ⊥) → FoundIn P patch full b k (firstFault P patch full b k)
+  unfolding firstFault decided
+  fault-found b zero h = absurd (h refl)
+  fault-found b (suc k) h = go (blockFault P patch full b) refl (fault-found (b + 1) k) h
+    where
+      rest : BlockFault
+      rest = firstFault P patch full (b + 1) k
+
+      go : (x : ℕ) → blockFault P patch full b ≡ x → ((rest .number ≡ 0 → ⊥) → FoundIn P patch full (b + 1) k rest) → (decided x rest (λ n. record { number = n; block = b }) .number ≡ 0 → ⊥)
+          → FoundIn P patch full b (suc k) (decided x rest (λ n. record { number = n; block = b }))
+      go zero e ih g =
+          let w : FoundIn P patch full (b + 1) k rest = ih g in
+          record {
+            from = omega (arith, w .from);
+            within = omega (arith, w .within);
+            fault = w .fault;
+            lower =
+                λ i l m.
+                elim (decLt b i) [
+                  | yes j ↦ w .lower i (omega arith) m
+                  | no j ↦
+                      let q : i ≡ b = omega arith in
+                      ap (λ (x : ℕ). blockFault P patch full x) q ∙ e
+                ];
+          }
+      go (suc x) e ih g = record { from = omega arith; within = omega arith; fault = e; lower = λ i l m. absurd (omega arith) }
+
+  pub found-first : (b k : ℕ) (f : BlockFault) → FoundIn P patch full b k f → (f .number ≡ 0 → ⊥) → firstFault P patch full b k ≡ f
+  unfolding firstFault
+  found-first b zero f w h = absurd (omega (arith, w .from, w .within))
+  found-first b (suc k) f w h =
+      elim (decLt b (f .block)) [
+        | yes l ↦
+            decided-done _ _ (blockFault P patch full b) (w .lower b (omega arith) l)
+            ∙ found-first (b + 1) k f
+            (record { from = omega arith; within = omega (arith, w .within); fault = w .fault; lower = λ i j m. w .lower i (omega arith) m })
+            h
+        | no l ↦
+            let q : b ≡ f .block = omega (arith, w .from) in
+            decided-refused _ _ (blockFault P patch full b) (f .number) (ap (λ (x : ℕ). blockFault P patch full x) q ∙ w .fault) h
+            ∙ ap (λ (x : ℕ). record { number = f .number; block = x }) q
+      ]
+
+  pub none-found : (b k : ℕ) → ((i : ℕ) → b ≤ i → i < b + k → blockFault P patch full i ≡ 0) → firstFault P patch full b k ≡ record { number = 0; block = 0 }
+  unfolding firstFault
+  none-found b zero h = refl
+  none-found b (suc k) h =
+      decided-done _ _ (blockFault P patch full b) (h b (omega arith) (omega arith)) ∙ none-found (b + 1) k (λ i j m. h i (omega arith) (omega arith))
+
+-- A map laid over a buffer: its pairs, and the bytes after it
+
+module _ (buffer map : List ℕ) (fits : length map ≤ length buffer) where
+  pub laid-pair : (b : ℕ) → b < 4 * length map → pairAt (splice buffer 0 map) b ≡ pairAt map b
+  unfolding pairAt
+  laid-pair b h =
+      let q : b / 4 ≡ 0 + b / 4 = omega arith in
+      ap (λ (x : ℕ). x / 4 ^ (b % 4) % 4) (ap (λ (i : ℕ). getD (splice buffer 0 map) i 0) q ∙ splice-in buffer 0 map (omega arith) (b / 4) (omega arith))
+
+  pub laid-later : (i : ℕ) → length map ≤ i → getD (splice buffer 0 map) i 0 ≡ getD buffer i 0
+  laid-later i h = splice-after buffer 0 map (omega arith) i (omega arith)
+
+  pub laid-length : length (splice buffer 0 map) ≡ length buffer
+  laid-length = splice-length buffer 0 map (omega arith)
+
+-- The built map, over a buffer that is long enough: its pairs, and what Tally counts in them
+
+-- 0, 1 or 2
+kind-most : (s : List ℕ) → slotNumbers s .kind ≤ 2
+unfolding slotNumbers
+kind-most s = go (same s emptySlot) (isPatch s) (same s fullSlot)
+  where
+    go : (a b c : Bool) → cond a (soundSlot 0 0) (cond b (soundSlot 1 (payloadLength s)) (cond c (soundSlot 2 0) unsoundSlot)) .kind ≤ 2
+    go true b c = omega arith
+    go false true c = omega arith
+    go false false true = omega arith
+    go false false false = omega arith
+
+patch-kinds : (k : ℕ) → eqb (pairOf k) patchPair ≡ eqb k 1
+unfolding pairOf
+patch-kinds zero = refl
+patch-kinds (suc zero) = refl
+patch-kinds (suc (suc k)) = sym (ne-eqb (suc (suc k)) 1 (λ q. omega arith))
+
+full-kinds : (k : ℕ) → k ≤ 2 → eqb (pairOf k) fullPair ≡ eqb k 2
+unfolding pairOf
+full-kinds zero h = refl
+full-kinds (suc zero) h = refl
+full-kinds (suc (suc k)) h = sym (eq-eqb (suc (suc k)) 2 (omega arith))
+
+pub built-length : (patch : List ℕ) → length (builtMap patch) ≡ mapBytes (blocksIn (length patch))
+unfolding builtMap
+built-length patch = packed-length (λ b. pairOf (slotNumbers (slotOf patch b) .kind)) (blocksIn (length patch))
+
+module _ (patch buffer : List ℕ) (long : mapBytes (blocksIn (length patch)) ≤ length buffer) where
+  pub built-pair : (b : ℕ) → b < blocksIn (length patch) → pairAt (splice buffer 0 (builtMap patch)) b ≡ pairOf (slotNumbers (slotOf patch b) .kind)
+  unfolding builtMap mapBytes
+  built-pair b h =
+      let l : length (builtMap patch) ≡ mapBytes (blocksIn (length patch)) = built-length patch in
+      let small : pairOf (slotNumbers (slotOf patch b) .kind) < reservedPair = pair-of-below (slotNumbers (slotOf patch b) .kind) in
+      laid-pair buffer (builtMap patch) (omega arith) b (omega arith)
+      ∙ packed-used (λ i. pairOf (slotNumbers (slotOf patch i) .kind)) (blocksIn (length patch)) b h (omega arith)
+
+  pub built-unused : (b : ℕ) → blocksIn (length patch) ≤ b → b < 4 * mapBytes (blocksIn (length patch)) → pairAt (splice buffer 0 (builtMap patch)) b ≡ 0
+  unfolding builtMap
+  built-unused b h k =
+      let l : length (builtMap patch) ≡ mapBytes (blocksIn (length patch)) = built-length patch in
+      laid-pair buffer (builtMap patch) (omega arith) b (omega arith)
+      ∙ packed-unused (λ i. pairOf (slotNumbers (slotOf patch i) .kind)) (blocksIn (length patch)) b h k
+
+  pub built-good : badPairs (splice buffer 0 (builtMap patch)) (blocksIn (length patch)) ≡ false
+  built-good = go (badPairs map n) refl
+    where
+      n : ℕ
+      n = blocksIn (length patch)
+
+      map : List ℕ
+      map = splice buffer 0 (builtMap patch)
+
+      never : (b : ℕ) → BadPair map n b → ⊥
+      never b (inl h) =
+          let small : pairOf (slotNumbers (slotOf patch b) .kind) < reservedPair = pair-of-below (slotNumbers (slotOf patch b) .kind) in
+          let e : pairAt map b ≡ pairOf (slotNumbers (slotOf patch b) .kind) = built-pair b (h .0) in
+          omega (arith, h .1)
+      never b (inr h) = h .2 (built-unused b (h .0) (h .1))
+
+      go : (t : Bool) → badPairs map n ≡ t → t ≡ false
+      go false e = refl
+      go true e = let w = bad-iff map n .0 e in absurd (never (w .0) (w .1))
+
+  built-count : (v k : ℕ) → ((i : ℕ) → i ≤ 2 → eqb (pairOf i) v ≡ eqb i k)
+      → pairs v (splice buffer 0 (builtMap patch)) (blocksIn (length patch)) ≡ length (keep (λ b. eqb (slotNumbers (slotOf patch b) .kind) k) (upTo (blocksIn (length patch))))
+  unfolding blocksWith
+  built-count v k like =
+      let n : ℕ = blocksIn (length patch) in
+      let map : List ℕ = splice buffer 0 (builtMap patch) in
+      pairs-count v map n
+      ∙ ap length
+      (keep-same (λ b. eqb (pairAt map b) v) (λ b. eqb (slotNumbers (slotOf patch b) .kind) k) (upTo n)
+      (λ b m.
+      ap (λ (p : ℕ). eqb p v) (built-pair b (up-to-below n b m)) ∙ like (slotNumbers (slotOf patch b) .kind) (kind-most (slotOf patch b))))
+
+  pub built-patches : pairs patchPair (splice buffer 0 (builtMap patch)) (blocksIn (length patch)) ≡ length (keep (λ b. eqb (slotNumbers (slotOf patch b) .kind) 1) (upTo (blocksIn (length patch))))
+  built-patches = built-count patchPair 1 (λ i _. patch-kinds i)
+
+  pub built-fulls : pairs fullPair (splice buffer 0 (builtMap patch)) (blocksIn (length patch)) ≡ length (keep (λ b. eqb (slotNumbers (slotOf patch b) .kind) 2) (upTo (blocksIn (length patch))))
+  built-fulls = built-count fullPair 2 full-kinds

@@ -6,3 +6,4 @@ pub mod Read
 pub mod Write
 pub mod Build
 pub mod BuildLaws
+pub mod BuildMeaning

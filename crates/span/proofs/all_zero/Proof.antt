@@ -1,3 +1,4 @@
+use lib.Dec.{eqb}
 use borrow.Author.Needs.{needs}
 use Rattle.span.proofs.Turns.{seen-zero}
 use lib.Seq.{take-length}
@@ -14,7 +15,7 @@ use Rattle.span.proofs.all_zero.Statement.{statement}
 use Rattle.span.proofs.all_zero.Tie as tie
 
 abbrev Inv-loop : tie.InvT-loop
-Inv-loop s seen₀ i₀ seen i = (i ≤ length s) × (seen ≡ not (same (take i s) (zeros i)))
+Inv-loop s seen₀ i₀ seen i = (i ≤ length s) × (eqb seen 0 ≡ same (take i s) (zeros i))
 
 abbrev μ-loop : tie.MeasureT-loop
 μ-loop s seen₀ i₀ seen i = length s - i
@@ -22,7 +23,7 @@ abbrev μ-loop : tie.MeasureT-loop
 loop-holds : tie.Need-loop-holds Inv-loop μ-loop
 unfolding same
 loop-holds c =
-    (search needs, ap (λ (l : List ℕ). not (same [] l)) (sym zeros-nil))
+    (search needs, ap (λ (l : List ℕ). same [] l) (sym zeros-nil))
 
 shared-slice-read-seen : tie.Need-shared-slice-read-seen Inv-loop μ-loop
 shared-slice-read-seen c = search needs
@@ -44,7 +45,7 @@ returns c =
     let s : List ℕ = c .before .before .args .s .now in
     let l = c .before .loop in
     let e : l .i ≡ length s = omega arith in
-    ap not (l .inv .1) ∙ Bool·not-not (same (take (l .i) s) (zeros (l .i))) ∙ ap (λ (k : ℕ). same (take k s) (zeros k)) e ∙ ap (λ (x : List ℕ). same x (zeros (length s))) (take-length s)
+    l .inv .1 ∙ ap (λ (k : ℕ). same (take k s) (zeros k)) e ∙ ap (λ (x : List ℕ). same x (zeros (length s))) (take-length s)
 
 pub all-zero-spec : {M : Type 1} → statement M
 all-zero-spec =

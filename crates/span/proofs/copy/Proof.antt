@@ -1,57 +1,142 @@
-use borrow.Author.Needs.{needs}
-use Rattle.span.proofs.Turns.{copied}
-use Prim.Native.Nat.{ℕ, _+_, _-_, _≤_, _<_, min}
-use native.Mathlib.Omega.{arith}
+use borrow.Rule.Slice.PartMut.{same-len-mid}
+use lib.Seq.{length-take-le}
+use lib.ListN.{length-drop}
+use Rattle.span.proofs.Turns.{moved-on}
+use Rattle.span.specs.Laws.{splice-none, take-min, put-splice, put-copied}
+use Rattle.span.specs.Bytes.{splice}
+use lib.ListN.{length, take, drop}
+use mathlib.Core.List.{List}
 use mathlib.Core.Path.{_≡_, refl, sym, ap, _∙_}
-use mathlib.Core.Bool.{Bool, true, false, not, _&&_, _||_}
-use mathlib.Core.List.{List, [], _∷_, _++_}
-use lib.ListN.{length, take, getD}
-use Rattle.span.specs.Bytes.{zeros, splice}
-use Rattle.span.specs.Laws.{splice-none, splice-more, take-min}
+use native.Mathlib.Omega.{arith}
+use Prim.Native.Nat.{ℕ, _+_, _-_, _≤_, _<_, min}
+use borrow.Author.Needs.{needs}
 use Rattle.span.proofs.copy.Statement.{statement}
 use Rattle.span.proofs.copy.Tie as tie
+use Rattle.span.proofs.copy.Reads as reads
+use Rattle.span.proofs.copy.Lts as lts
+use Rattle.span.proofs.copy_bulk.Reads as copy-bulk-reads
+use Rattle.span.proofs.copy_bytes.Reads as copy-bytes-reads
+use Rattle.span.proofs.shorter.Reads as shorter-reads
 
 abbrev Inv-loop : tie.InvT-loop
-Inv-loop dst₀ src end i₀ dst i = (i ≤ end) × (length dst ≡ length dst₀) × (dst ≡ splice dst₀ 0 (take i src))
+Inv-loop dst₀ src end at₀ dst at = (at ≤ end) × (length dst ≡ length dst₀) × (dst ≡ splice dst₀ 0 (take at src))
 
 abbrev μ-loop : tie.MeasureT-loop
-μ-loop dst₀ src end i₀ dst i = end - i
+μ-loop dst₀ src end at₀ dst at = end - at
 
+-- src/lib.rt:64:9
 shorter-requires : tie.Need-shorter-requires Inv-loop μ-loop
 shorter-requires c κs = search needs
 
+-- src/lib.rt:66:5
 loop-holds : tie.Need-loop-holds Inv-loop μ-loop
 loop-holds c =
     let d : List ℕ = c .before .before .before .args .dst .now in
     (search needs, refl, sym (splice-none d 0 (omega arith)))
 
-shared-slice-read-dst : tie.Need-shared-slice-read-dst Inv-loop μ-loop
-shared-slice-read-dst c = search needs
+-- src/lib.rt:66:19
+sub-loop : tie.Need-sub-loop Inv-loop μ-loop
+sub-loop c = search needs
 
-slice-write-dst : tie.Need-slice-write-dst Inv-loop μ-loop
-slice-write-dst c = search needs
+-- src/lib.rt:67:18
+add-to : tie.Need-add-to Inv-loop μ-loop
+add-to c = search needs
 
-add-i : tie.Need-add-i Inv-loop μ-loop
-add-i c = search needs
+-- src/lib.rt:68:19
+sub-copy-bulk : tie.Need-sub-copy-bulk Inv-loop μ-loop
+sub-copy-bulk c = search needs
 
+-- src/lib.rt:68:19
+part-copy-bulk-start : tie.Need-part-copy-bulk-start Inv-loop μ-loop
+part-copy-bulk-start c = search needs
+
+-- src/lib.rt:68:19
+part-copy-bulk-end : tie.Need-part-copy-bulk-end Inv-loop μ-loop
+part-copy-bulk-end c = search needs
+
+-- src/lib.rt:68:37
+sub-copy-bulk-2 : tie.Need-sub-copy-bulk-2 Inv-loop μ-loop
+sub-copy-bulk-2 c = search needs
+
+-- src/lib.rt:68:37
+part-copy-bulk-start-2 : tie.Need-part-copy-bulk-start-2 Inv-loop μ-loop
+part-copy-bulk-start-2 c = search needs
+
+-- src/lib.rt:68:37
+part-copy-bulk-end-2 : tie.Need-part-copy-bulk-end-2 Inv-loop μ-loop
+part-copy-bulk-end-2 c = search needs
+
+-- src/lib.rt:68:9
+copy-bulk-requires : tie.Need-copy-bulk-requires Inv-loop μ-loop
+copy-bulk-requires c κs = search needs
+
+-- src/lib.rt:66:5
 loop-less : tie.Need-loop-less Inv-loop μ-loop
 loop-less c = search needs
 
+-- src/lib.rt:66:5
 loop-again : tie.Need-loop-again Inv-loop μ-loop
 loop-again c =
-    let a = c .before .before .before .before .before .before .args in
-    let l = c .before .before .loop in
-    (search needs, search needs, copied (a .dst .now) (l .dst) (a .src .now) (l .i) (omega arith) (omega arith) (l .inv .2))
+    let a = c .before .before .before .before .before .before .before .before .before .before .args in
+    let l = c .before .before .before .before .before .before .loop in
+    let bulk = c .before .before .copy-bulk in
+    let n : ℕ = l .at + 4096 - l .at in
+    let q : l .at + n ≡ l .at + 4096 = omega arith in
+    let long : length (drop (l .at) (a .src .now)) ≡ length (a .src .now) - l .at = length-drop (l .at) (a .src .now) in
+    let m : length (bulk .last .0) ≡ n = ap (λ (x : List ℕ). length x) (bulk .ensures) ∙ length-take-le n (drop (l .at) (a .src .now)) (omega arith) in (
+      search needs,
+      same-len-mid (l .at) n (l .dst) (bulk .last .0) (bulk .kept .0) ∙ l .inv .1,
+      put-splice (l .at) n (l .dst) (bulk .last .0) m
+          ∙ ap (λ (x : List ℕ). splice (l .dst) (l .at) x) (bulk .ensures)
+          ∙ moved-on (a .dst .now) (l .dst) (a .src .now) (l .at) n (omega arith) (omega arith) (l .inv .2)
+          ∙ ap (λ (k : ℕ). splice (a .dst .now) 0 (take k (a .src .now))) q,
+    )
 
+-- src/lib.rt:71:16
+sub-copy-bytes : tie.Need-sub-copy-bytes Inv-loop μ-loop
+sub-copy-bytes c = search needs
+
+-- src/lib.rt:71:16
+part-copy-bytes-start : tie.Need-part-copy-bytes-start Inv-loop μ-loop
+part-copy-bytes-start c = search needs
+
+-- src/lib.rt:71:16
+part-copy-bytes-end : tie.Need-part-copy-bytes-end Inv-loop μ-loop
+part-copy-bytes-end c = search needs
+
+-- src/lib.rt:71:35
+sub-copy-bytes-2 : tie.Need-sub-copy-bytes-2 Inv-loop μ-loop
+sub-copy-bytes-2 c = search needs
+
+-- src/lib.rt:71:35
+part-copy-bytes-start-2 : tie.Need-part-copy-bytes-start-2 Inv-loop μ-loop
+part-copy-bytes-start-2 c = search needs
+
+-- src/lib.rt:71:35
+part-copy-bytes-end-2 : tie.Need-part-copy-bytes-end-2 Inv-loop μ-loop
+part-copy-bytes-end-2 c = search needs
+
+-- src/lib.rt:71:5
+copy-bytes-requires : tie.Need-copy-bytes-requires Inv-loop μ-loop
+copy-bytes-requires c κs = search needs
+
+-- src/lib.rt:61:1
 same-length : tie.Need-same-length Inv-loop μ-loop
 same-length c = search needs
 
+-- src/lib.rt:61:1
 returns : tie.Need-returns Inv-loop μ-loop
 returns c =
-    let a = c .before .before .before .before .before .args in
-    let l = c .before .loop in
-    let e : l .i ≡ min (length (a .dst .now)) (length (a .src .now)) = omega arith in
-    l .inv .2 ∙ ap (λ (k : ℕ). splice (a .dst .now) 0 (take k (a .src .now))) e ∙ ap (λ (x : List ℕ). splice (a .dst .now) 0 x) (take-min (length (a .dst .now)) (a .src .now))
+    let a = c .before .before .before .before .before .before .before .before .before .before .args in
+    let l = c .before .before .before .before .before .before .loop in
+    let end : ℕ = c .before .before .before .before .before .before .before .shorter .result in
+    let n : ℕ = end - l .at in
+    let q : l .at + n ≡ min (length (a .dst .now)) (length (a .src .now)) = omega arith in
+    let long : length (drop (l .at) (a .src .now)) ≡ length (a .src .now) - l .at = length-drop (l .at) (a .src .now) in
+    put-copied (l .at) n (l .dst) (c .before .before .copy-bytes .last .0) (take n (drop (l .at) (a .src .now))) (length-take-le n (drop (l .at) (a .src .now)) (omega arith)) (omega arith) (c .before .before .copy-bytes .ensures)
+    ∙ moved-on (a .dst .now) (l .dst) (a .src .now) (l .at) n (omega arith) (omega arith) (l .inv .2)
+    ∙ ap (λ (k : ℕ). splice (a .dst .now) 0 (take k (a .src .now))) q
+    ∙ ap (λ (x : List ℕ). splice (a .dst .now) 0 x) (take-min (length (a .dst .now)) (a .src .now))
 
 pub copy-spec : {M : Type 1} → statement M
 copy-spec =
@@ -61,10 +146,23 @@ copy-spec =
     μ-loop
     shorter-requires
     loop-holds
-    shared-slice-read-dst
-    slice-write-dst
-    add-i
+    sub-loop
+    add-to
+    sub-copy-bulk
+    part-copy-bulk-start
+    part-copy-bulk-end
+    sub-copy-bulk-2
+    part-copy-bulk-start-2
+    part-copy-bulk-end-2
+    copy-bulk-requires
     loop-less
     loop-again
+    sub-copy-bytes
+    part-copy-bytes-start
+    part-copy-bytes-end
+    sub-copy-bytes-2
+    part-copy-bytes-start-2
+    part-copy-bytes-end-2
+    copy-bytes-requires
     same-length
     returns)

@@ -10,7 +10,6 @@ use Prim.Native.Nat.{ℕ}
 use Rattle.layout.specs.Sizes.{pageSize}
 use lib.ListN.{length}
 use mathlib.Core.Path.{_≡_, sym, ap, _∙_}
-use mathlib.Core.Bool.{Bool, true, false, not}
 use mathlib.Core.List.{List}
 use borrow.Author.Needs.{needs}
 use Rattle.store.proofs.build.build.Statement.{statement}

@@ -2,12 +2,9 @@ use Rattle.layout.specs.Numbers.{faultNumber, refusalNumber, refusal-some}
 use Rattle.store.specs.BuildLaws.{faultNumbers, fault-next, fault-here, fault-end}
 use Rattle.store.specs.Build.{firstFault, BlockFault}
 use Rattle.layout.specs.Sizes.{pageSize}
-use lib.ListN.{length, getD}
-use Prim.Native.Nat.{ℕ, _+_, _-_, _≤_, _<_}
+use Prim.Native.Nat.{ℕ, _-_, _≤_}
 use native.Mathlib.Omega.{arith}
-use mathlib.Core.List.{List}
-use mathlib.Core.Bool.{Bool, true, false}
-use mathlib.Core.Path.{_≡_, refl, sym, ap, _∙_}
+use mathlib.Core.Path.{_≡_, sym, ap, _∙_}
 use borrow.Author.Needs.{needs}
 use Rattle.store.proofs.build.first_fault.Statement.{statement}
 use Rattle.store.proofs.build.first_fault.Tie as tie
@@ -38,7 +35,7 @@ returns c =
     let a = c .before .before .before .before .before .before .before .before .args in
     let l = c .before .before .before .before .before .loop in
     let r = c .before .refusal .given .0 .0 in
-    sym (ap faultNumbers (l .inv .1 ∙ fault-here pageSize (a .patch .now) (a .full .now) (l .block) (a .n) (refusalNumber r) (c .before .before .before .before .loop-test .taken) (sym (c .before .before .before .block-fault .ensures) ∙ ap faultNumber (c .before .refusal .given .1)) (refusal-some r)))
+    sym (ap faultNumbers (l .inv .1 ∙ fault-here pageSize (a .patch .now) (a .full .now) (l .block) (a .n) (refusalNumber r) (omega (arith, c .before .before .before .before .loop-test .taken)) (sym (c .before .before .before .block-fault .ensures) ∙ ap faultNumber (c .before .refusal .given .1)) (refusal-some r)))
 
 enum-told : tie.Need-enum-told Inv-loop μ-loop
 enum-told c = search needs
@@ -53,7 +50,7 @@ loop-again : tie.Need-loop-again Inv-loop μ-loop
 loop-again c =
     let a = c .before .before .before .before .before .before .before .args in
     let l = c .before .before .before .before .loop in
-    (omega (arith, c .before .before .before .loop-test .taken), l .inv .1 ∙ fault-next pageSize (a .patch .now) (a .full .now) (l .block) (a .n) (c .before .before .before .loop-test .taken) (sym (c .before .before .block-fault .ensures) ∙ ap faultNumber (c .enum-told .given .1)))
+    (omega (arith, c .before .before .before .loop-test .taken), l .inv .1 ∙ fault-next pageSize (a .patch .now) (a .full .now) (l .block) (a .n) (omega (arith, c .before .before .before .loop-test .taken)) (sym (c .before .before .block-fault .ensures) ∙ ap faultNumber (c .enum-told .given .1)))
 
 returns-2 : tie.Need-returns-2 Inv-loop μ-loop
 returns-2 c =

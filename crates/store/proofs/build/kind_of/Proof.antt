@@ -1,13 +1,6 @@
 use Rattle.store.specs.BuildLaws.{pair-full}
 use Rattle.blockmap.specs.Pack.{pairOf}
-use Rattle.layout.specs.Sizes.{pageSize}
-use lib.ListN.{length, getD}
-use Prim.Native.Nat.{ℕ, _+_, _-_, _≤_, _<_}
-use native.Mathlib.Omega.{arith}
-use mathlib.Core.List.{List}
-use mathlib.Core.Bool.{Bool, true, false}
-use mathlib.Core.Path.{_≡_, refl, sym, ap, _∙_}
-use borrow.Author.Needs.{needs}
+use mathlib.Core.Path.{sym, ap}
 use Rattle.store.proofs.build.kind_of.Statement.{statement}
 use Rattle.store.proofs.build.kind_of.Tie as tie
 

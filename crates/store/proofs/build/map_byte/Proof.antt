@@ -1,11 +1,4 @@
-use Rattle.blockmap.specs.Pack.{byteOf, packedByte}
-use Rattle.layout.specs.Sizes.{pageSize}
-use lib.ListN.{length, getD}
-use Prim.Native.Nat.{ℕ, _+_, _-_, _≤_, _<_}
-use native.Mathlib.Omega.{arith}
-use mathlib.Core.List.{List}
-use mathlib.Core.Bool.{Bool, true, false}
-use mathlib.Core.Path.{_≡_, refl, sym, ap, _∙_}
+use Rattle.blockmap.specs.Pack.{packedByte}
 use borrow.Author.Needs.{needs}
 use Rattle.store.proofs.build.map_byte.Statement.{statement}
 use Rattle.store.proofs.build.map_byte.Tie as tie

@@ -2,14 +2,12 @@ use Rattle.store.specs.BuildLaws.{kindPair}
 use Rattle.layout.specs.Sizes.{blocksAtMost, slotSize, slotAt}
 use Rattle.layout.specs.Areas.{blocksIn, patch-fits-is, slot-within}
 use Rattle.blockmap.specs.PackLaws.{pair-used, pair-unused}
-use Rattle.blockmap.specs.Pack.{pairOf, pairIn}
+use Rattle.blockmap.specs.Pack.{pairOf}
 use Rattle.layout.specs.Sizes.{pageSize}
 use lib.ListN.{length, getD}
-use Prim.Native.Nat.{ℕ, _+_, _-_, _≤_, _<_}
+use Prim.Native.Nat.{ℕ, _+_, _≤_}
 use native.Mathlib.Omega.{arith}
-use mathlib.Core.List.{List}
-use mathlib.Core.Bool.{Bool, true, false}
-use mathlib.Core.Path.{_≡_, refl, sym, ap, _∙_}
+use mathlib.Core.Path.{_≡_, sym, ap, _∙_}
 use borrow.Author.Needs.{needs}
 use Rattle.store.proofs.build.pair_at.Statement.{statement}
 use Rattle.store.proofs.build.pair_at.Tie as tie

@@ -1,12 +1,8 @@
 use Rattle.store.proofs.BuildTold.{place-told}
 use Rattle.store.specs.BuildLaws.{no-place, clean-place, stray-place}
 use Rattle.layout.specs.Sizes.{pageSize}
-use lib.ListN.{length, getD}
-use Prim.Native.Nat.{ℕ, _+_, _-_, _≤_, _<_}
 use native.Mathlib.Omega.{arith}
-use mathlib.Core.List.{List}
-use mathlib.Core.Bool.{Bool, true, false}
-use mathlib.Core.Path.{_≡_, refl, sym, ap, _∙_}
+use mathlib.Core.Path.{sym, _∙_}
 use borrow.Author.Needs.{needs}
 use Rattle.store.proofs.build.place_fault.Statement.{statement}
 use Rattle.store.proofs.build.place_fault.Tie as tie

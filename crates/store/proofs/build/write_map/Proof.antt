@@ -1,17 +1,14 @@
 use Rattle.layout.specs.Sizes.{blocksAtMost}
 use Rattle.layout.specs.Areas.{blocksIn, patch-fits-is}
-use lib.ListN.{set}
 use Rattle.store.specs.BuildLaws.{kindPair, map-turn}
 use Rattle.blockmap.specs.Pack.{packedFirst, packed}
 use Rattle.blockmap.specs.Pairs.{mapBytes}
 use Rattle.span.specs.Laws.{splice-none}
 use Rattle.span.specs.Bytes.{splice}
 use Rattle.layout.specs.Sizes.{pageSize}
-use lib.ListN.{length, getD}
-use Prim.Native.Nat.{ℕ, _+_, _-_, _≤_, _<_}
+use lib.ListN.{length}
+use Prim.Native.Nat.{ℕ, _-_, _≤_}
 use native.Mathlib.Omega.{arith}
-use mathlib.Core.List.{List}
-use mathlib.Core.Bool.{Bool, true, false}
 use mathlib.Core.Path.{_≡_, refl, sym, ap, _∙_}
 use borrow.Author.Needs.{needs}
 use Rattle.store.proofs.build.write_map.Statement.{statement}

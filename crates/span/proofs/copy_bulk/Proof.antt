@@ -1,0 +1,53 @@
+use Rattle.span.specs.Laws.{copied-whole}
+use lib.ListN.{length, take, drop}
+use mathlib.Core.List.{List}
+use mathlib.Core.Path.{_≡_, refl, sym, ap, _∙_}
+use native.Mathlib.Omega.{arith}
+use Prim.Native.Nat.{ℕ, _+_, _-_, _≤_, _<_, min}
+use borrow.Author.Needs.{needs}
+use Rattle.span.proofs.copy_bulk.Statement.{statement}
+use Rattle.span.proofs.copy_bulk.Tie as tie
+use Rattle.span.proofs.copy_bulk.Reads as reads
+use Rattle.span.proofs.copy_bulk.Lts as lts
+use Rattle.span.proofs.copy_bytes.Reads as copy-bytes-reads
+
+-- src/lib.rt:56:16
+slice-aggregate-copy-bytes : tie.Need-slice-aggregate-copy-bytes
+slice-aggregate-copy-bytes c = search needs
+
+-- src/lib.rt:56:5
+copy-bytes-requires : tie.Need-copy-bytes-requires
+copy-bytes-requires c κs = search needs
+
+-- src/lib.rt:57:21
+slice-aggregate-copy-bytes-2 : tie.Need-slice-aggregate-copy-bytes-2
+slice-aggregate-copy-bytes-2 c = search needs
+
+-- src/lib.rt:57:5
+copy-bytes-requires-2 : tie.Need-copy-bytes-requires-2
+copy-bytes-requires-2 c κs = search needs
+
+-- src/lib.rt:51:1
+same-length : tie.Need-same-length
+same-length c = search needs
+
+-- src/lib.rt:51:1
+returns : tie.Need-returns
+returns c =
+    let at = c .before .before .before .before .before .before .before .before .before .before in
+    let src : List ℕ = at .args .src .now in
+    let first = c .before .before .before .before .before .before .copy-bytes in
+    let moved : first .last .0 ≡ src = first .ensures ∙ copied-whole _ src (at .pre .1) in
+    let l : length (first .last .0) ≡ length (at .args .dst .now) = ap (λ (x : List ℕ). length x) moved ∙ at .pre .1 ∙ sym (at .pre .0) in
+    c .before .before .copy-bytes2 .ensures ∙ copied-whole (at .args .dst .now) (first .last .0) l ∙ moved
+
+pub copy-bulk-spec : {M : Type 1} → statement M
+copy-bulk-spec =
+    tie.close
+    (tie.spec
+    slice-aggregate-copy-bytes
+    copy-bytes-requires
+    slice-aggregate-copy-bytes-2
+    copy-bytes-requires-2
+    same-length
+    returns)

@@ -1,0 +1,337 @@
+-- What Build promises, said again without its rows and without its recursion. First the definitions, then the promises (`BlockMeans`,
+-- `BuildMeans`), then the theorems that a block and a call keep them.
+use Prim.Native.Nat.{ℕ, zero, suc, _*_, _≤_, _<_}
+use native.Mathlib.Omega.{arith}
+use native.Mathlib.Decide.{decLt}
+use mathlib.Core.Path.{_≡_, refl, sym, ap, _∙_}
+use mathlib.Core.Logic.{_↔_, _⊎_, inl, inr}
+use mathlib.Core.Bool.{Bool, true, false, not, _&&_}
+use mathlib.Core.List.{List}
+use lib.Dec.{eqb, leb}
+use lib.ListN.{length, getD}
+use borrow.Author.Tests.{le-ltb, leb-true}
+use Rattle.span.specs.Bytes.{zeros, part, same, splice}
+use Rattle.span.specs.Laws.{same-is, same-true, same-false, and-left, and-right}
+use Rattle.layout.specs.Sizes.{blocksAtMost, patchHead, fullHead, room, slotAt, pageAt}
+use Rattle.layout.specs.Numbers.{refusalNumber, refusal-one, refusal-some}
+use Rattle.layout.specs.Refusals.{firstOf, orElse}
+use Rattle.layout.specs.Headers.{patchHeader, fullHeader}
+use Rattle.layout.specs.Areas.{blocksIn, pagesIn, patchFits, fullFits, lengthRows, patch-fits-is, full-fits-is, patch-fits}
+use Rattle.layout.specs.Slots.{SlotNumbers, slotNumbers, soundSlot, emptySlot, patchSlot, fullSlot, payloadOf}
+use Rattle.layout.specs.declared.Refusal.{Refusal}
+use Rattle.stream.specs.Entries.{sound}
+use Rattle.blockmap.specs.Pairs.{mapBytes, pairAt, pairs}
+use Rattle.blockmap.specs.Pack.{pairOf}
+use Rattle.blockmap.specs.Meaning.{upTo, keep}
+use Rattle.blockmap.specs.Calls.{TalliedNumbers, tallyNumbers, Tally}
+use Rattle.blockmap.specs.CallLaws.{tally-done}
+use Rattle.store.specs.Frame.{slotOf, placeOf, frameRows}
+use Rattle.store.specs.Build.{BlockFault, blockFault, firstFault, buildRows, builtMap, BuildOutcome, buildOutcome, BuildNumbers, builtNumbers, buildNumbers, Build}
+use Rattle.store.specs.BuildLaws.{straysIn, no-place, clean-place, stray-place, block-unsound, block-full-none, block-full, block-payload, block-patch, block-empty, no-faults, frame-none, not-fits, build-frame, build-done, build-faulty, build-zero, refused-map, FoundIn, fault-found, found-first, none-found, laid-later, laid-length, built-length, built-pair, built-unused, built-good, built-patches, built-fulls}
+use Rattle.layout.specs.Meaning.{Headers, headers-sound, sound-headers, fits-full, empty-numbers, full-numbers, patch-numbers, payload-of, by-image}
+use Rattle.store.specs.declared.Built.{Built}
+use Rattle.store.specs.declared.Built.the-variants.{Done, Refused}
+
+-- What is sound
+
+-- lengths, the map's buffer, and both headers
+pub record SoundFrame (P : ℕ) (patch full map : List ℕ) : Type 0 where
+  pub patch-length : length patch ≡ slotAt (blocksIn (length patch))
+  pub most : blocksIn (length patch) ≤ blocksAtMost P
+  pub full-length : (length full ≡ 0) ⊎ ((length full ≡ pageAt P (pagesIn P (length full))) × (pagesIn P (length full) ≤ blocksIn (length patch)))
+  pub buffer : mapBytes (blocksIn (length patch)) ≤ length map
+  pub patch-header : part 0 patchHead patch ≡ patchHeader P
+  pub full-header : (length full ≡ 0) ⊎ (part 0 fullHead full ≡ fullHeader P)
+
+-- "a block whose slot is not FULL_REF has an all-zero place in the full area", if it has one
+abbrev pub CleanPlace : ℕ → List ℕ → ℕ → Type 0
+CleanPlace P full b = b < pagesIn P (length full) → placeOf P full b ≡ zeros P
+
+-- a payload that a PATCH slot can hold
+abbrev pub Fits : List ℕ → Type 0
+Fits payload = (1 ≤ length payload) × (length payload ≤ room)
+
+-- a block: its slot is one of the three images, with what each asks for
+pub data SoundBlock (P : ℕ) (patch full : List ℕ) (b : ℕ) : Type 0 where
+  empty : slotOf patch b ≡ emptySlot → CleanPlace P full b → SoundBlock P patch full b
+  patched : (payload : List ℕ) → slotOf patch b ≡ patchSlot payload → sound P payload ≡ true → CleanPlace P full b → SoundBlock P patch full b
+  whole : slotOf patch b ≡ fullSlot → b < pagesIn P (length full) → SoundBlock P patch full b
+
+-- What is promised of a block: 0 where it is sound, and else its first fault in the order 6, 8, 7, 10
+
+pub record BlockMeans (P : ℕ) (patch full : List ℕ) (b : ℕ) : Type 0 where
+  pub nothing : (blockFault P patch full b ≡ 0) ↔ SoundBlock P patch full b
+  -- 6: the slot is none of the images
+  pub slot : (slotOf patch b ≡ emptySlot → ⊥) → ((payload : List ℕ) → Fits payload → slotOf patch b ≡ patchSlot payload → ⊥) → (slotOf patch b ≡ fullSlot → ⊥) → blockFault P patch full b ≡ 6
+  -- 8: FULL_REF, and not below m
+  pub page : slotOf patch b ≡ fullSlot → pagesIn P (length full) ≤ b → blockFault P patch full b ≡ 8
+  -- 7: PATCH with an unsound payload, whatever stands in its place
+  pub payload : (payload : List ℕ) → Fits payload → slotOf patch b ≡ patchSlot payload → sound P payload ≡ false → blockFault P patch full b ≡ 7
+  -- 10: EMPTY, or PATCH with a sound payload, and stray bytes in its place
+  pub place : (slotOf patch b ≡ emptySlot) ⊎ ((payload : List ℕ) × (slotOf patch b ≡ patchSlot payload) × (sound P payload ≡ true)) → b < pagesIn P (length full) → (placeOf P full b ≡ zeros P → ⊥) → blockFault P patch full b ≡ 10
+
+-- What is promised of the call
+
+-- b is the lowest block with a fault, and k is its first
+pub record Lowest (P : ℕ) (patch full : List ℕ) (b k : ℕ) : Type 0 where
+  pub below : b < blocksIn (length patch)
+  pub fault : blockFault P patch full b ≡ k
+  pub lower : (i : ℕ) → i < b → SoundBlock P patch full i
+
+-- how many of the slots are of this kind
+unfoldable pub slotsOf : ℕ → List ℕ → ℕ
+slotsOf k patch = length (keep (λ b. eqb (slotNumbers (slotOf patch b) .kind) k) (upTo (blocksIn (length patch))))
+
+pub record BuildMeans (P : ℕ) (patch full map : List ℕ) (answer : Built) (map′ : List ℕ) : Type 0 where
+  -- accepted exactly where the frame and every block are sound
+  pub accepts : (answer ≡ Done) ↔ (SoundFrame P patch full map × ((b : ℕ) → b < blocksIn (length patch) → SoundBlock P patch full b))
+  -- else, in a sound frame, the lowest faulty block and its first fault
+  pub refuses : SoundFrame P patch full map → (r : Refusal) (b : ℕ) → (answer ≡ Refused r b) ↔ Lowest P patch full b (refusalNumber r)
+  -- refused: every byte as it was
+  pub untouched : (r : Refusal) (b : ℕ) → answer ≡ Refused r b → map′ ≡ map
+  -- each pair is its slot's kind, unused pairs are 0, later bytes are as before
+  pub pair : answer ≡ Done → (b : ℕ) → b < blocksIn (length patch) → pairAt map′ b ≡ pairOf (slotNumbers (slotOf patch b) .kind)
+  pub empties : answer ≡ Done → (b : ℕ) → b < blocksIn (length patch) → slotOf patch b ≡ emptySlot → pairAt map′ b ≡ 0
+  pub patches : answer ≡ Done → (b : ℕ) → b < blocksIn (length patch) → (payload : List ℕ) → Fits payload → slotOf patch b ≡ patchSlot payload → pairAt map′ b ≡ 2
+  pub wholes : answer ≡ Done → (b : ℕ) → b < blocksIn (length patch) → slotOf patch b ≡ fullSlot → pairAt map′ b ≡ 1
+  pub unused : answer ≡ Done → (b : ℕ) → blocksIn (length patch) ≤ b → b < 4 * mapBytes (blocksIn (length patch)) → pairAt map′ b ≡ 0
+  pub later : (i : ℕ) → mapBytes (blocksIn (length patch)) ≤ i → getD map′ i 0 ≡ getD map i 0
+  pub size : length map′ ≡ length map
+  -- what Tally says of the map
+  pub tally : answer ≡ Done → tallyNumbers P map′ (blocksIn (length patch)) ≡ record { number = 0; patch = slotsOf 1 patch; full = slotsOf 2 patch }
+
+-- One block
+
+fits : (P : ℕ) (payload : List ℕ) → sound P payload ≡ true → Fits payload
+unfolding sound
+fits P payload e =
+    let both : (leb 1 (length payload) && leb (length payload) room) ≡ true = and-left (leb 1 (length payload) && leb (length payload) room) _ e in
+    (leb-true 1 (length payload) (and-left (leb 1 (length payload)) (leb (length payload) room) both), leb-true (length payload) room (and-right (leb 1 (length payload)) (leb (length payload) room) both))
+
+module _ (P : ℕ) (full : List ℕ) (b : ℕ) where
+  no-strays : CleanPlace P full b → straysIn P full b ≡ 0
+  no-strays h =
+      elim (decLt b (pagesIn P (length full))) [
+        | yes l ↦ clean-place P full b (same-true (placeOf P full b) (zeros P) (h l))
+        | no l ↦ no-place P full b (omega arith)
+      ]
+
+  clean : straysIn P full b ≡ 0 → CleanPlace P full b
+  clean e l = go (same (placeOf P full b) (zeros P)) refl
+    where
+      go : (t : Bool) → same (placeOf P full b) (zeros P) ≡ t → placeOf P full b ≡ zeros P
+      go true q = same-is (placeOf P full b) (zeros P) q
+      go false q =
+          let z : straysIn P full b ≡ 10 = stray-place P full b l q in
+          absurd (omega arith)
+
+module _ (P : ℕ) (patch full : List ℕ) (b : ℕ) where
+  is-empty : slotOf patch b ≡ emptySlot → slotNumbers (slotOf patch b) ≡ soundSlot 0 0
+  is-empty e = ap slotNumbers e ∙ empty-numbers
+
+  is-full : slotOf patch b ≡ fullSlot → slotNumbers (slotOf patch b) ≡ soundSlot 2 0
+  is-full e = ap slotNumbers e ∙ full-numbers
+
+  is-patch : (payload : List ℕ) → Fits payload → slotOf patch b ≡ patchSlot payload → slotNumbers (slotOf patch b) ≡ soundSlot 1 (length payload)
+  is-patch payload f e = ap slotNumbers e ∙ patch-numbers payload (f .1) (f .0)
+
+  judged : (payload : List ℕ) → Fits payload → slotOf patch b ≡ patchSlot payload → sound P (payloadOf (slotOf patch b)) ≡ sound P payload
+  judged payload f e = ap (λ (x : List ℕ). sound P (payloadOf x)) e ∙ ap (λ (x : List ℕ). sound P x) (payload-of payload (f .1))
+
+  sound-zero : SoundBlock P patch full b → blockFault P patch full b ≡ 0
+  sound-zero (empty e c) = block-empty P patch full b (is-empty e) ∙ no-strays P full b c
+  sound-zero (patched payload e h c) =
+      let f : Fits payload = fits P payload h in
+      block-patch P patch full b (length payload) (is-patch payload f e) (judged payload f e ∙ h) ∙ no-strays P full b c
+  sound-zero (whole e l) = block-full P patch full b (is-full e) l
+
+  zero-sound : blockFault P patch full b ≡ 0 → SoundBlock P patch full b
+  zero-sound z =
+      by-image (slotOf patch b)
+      (λ e. empty e (clean P full b (sym (block-empty P patch full b (is-empty e)) ∙ z)))
+      (λ g h e. paid (sound P (payloadOf (slotOf patch b))) refl (is-patch (payloadOf (slotOf patch b)) (g, h) e) e)
+      (λ e.
+      elim (decLt b (pagesIn P (length full))) [
+        | yes l ↦ whole e l
+        | no l ↦
+            let q : blockFault P patch full b ≡ 8 = block-full-none P patch full b (is-full e) (omega arith) in
+            absurd (omega arith)
+      ])
+      (λ e.
+      let q : blockFault P patch full b ≡ 6 = block-unsound P patch full b e in
+      absurd (omega arith))
+    where
+      paid : (t : Bool) → sound P (payloadOf (slotOf patch b)) ≡ t → slotNumbers (slotOf patch b) ≡ soundSlot 1 (length (payloadOf (slotOf patch b)))
+          → slotOf patch b ≡ patchSlot (payloadOf (slotOf patch b)) → SoundBlock P patch full b
+      paid true p n e =
+          patched (payloadOf (slotOf patch b)) e p (clean P full b (sym (block-patch P patch full b (length (payloadOf (slotOf patch b))) n p) ∙ z))
+      paid false p n e =
+          let q : blockFault P patch full b ≡ 7 = block-payload P patch full b (length (payloadOf (slotOf patch b))) n p in
+          absurd (omega arith)
+
+  strays : b < pagesIn P (length full) → (placeOf P full b ≡ zeros P → ⊥) → straysIn P full b ≡ 10
+  strays l h = stray-place P full b l (same-false (placeOf P full b) (zeros P) h)
+
+  placed : (slotOf patch b ≡ emptySlot) ⊎ ((payload : List ℕ) × (slotOf patch b ≡ patchSlot payload) × (sound P payload ≡ true)) → b < pagesIn P (length full) → (placeOf P full b ≡ zeros P → ⊥) → blockFault P patch full b ≡ 10
+  placed (inl e) l h = block-empty P patch full b (is-empty e) ∙ strays l h
+  placed (inr w) l h =
+      let f : Fits (w .0) = fits P (w .0) (w .2) in
+      block-patch P patch full b (length (w .0)) (is-patch (w .0) f (w .1)) (judged (w .0) f (w .1) ∙ w .2) ∙ strays l h
+
+  pub block-means : BlockMeans P patch full b
+  block-means =
+      record {
+        nothing = (zero-sound, sound-zero);
+        slot = λ e f g. by-image (slotOf patch b) (λ q. absurd (e q)) (λ i j q. absurd (f (payloadOf (slotOf patch b)) (i, j) q)) (λ q. absurd (g q)) (λ q. block-unsound P patch full b q);
+        page = λ e l. block-full-none P patch full b (is-full e) l;
+        payload = λ p f e h. block-payload P patch full b (length p) (is-patch p f e) (judged p f e ∙ h);
+        place = placed;
+      }
+
+-- The frame
+
+module _ (P : ℕ) (patch full map : List ℕ) where
+  frame-sound : firstOf (buildRows P patch full map) ≡ 0 → SoundFrame P patch full map
+  frame-sound e =
+      let n : ℕ = blocksIn (length patch) in
+      let long : Bool = leb (mapBytes n) (length map) in
+      let w = frame-none P patch full long (sym (build-frame P patch full map long (not-fits (mapBytes n) (length map))) ∙ e) in
+      let l = patch-fits-is P (length patch) (and-left (patchFits P (length patch)) (fullFits P n (length full)) (w .0)) in
+      let h : Headers P patch full = headers-sound P patch full (w .2) in
+      record {
+        patch-length = l .0;
+        most = l .1;
+        full-length = full-fits-is P n (length full) (and-right (patchFits P (length patch)) (fullFits P n (length full)) (w .0));
+        buffer = leb-true (mapBytes n) (length map) (w .1);
+        patch-header = h .0;
+        full-header = h .1;
+      }
+
+  sound-frame : SoundFrame P patch full map → firstOf (buildRows P patch full map) ≡ 0
+  unfolding frameRows firstOf orElse lengthRows
+  sound-frame f =
+      let n : ℕ = blocksIn (length patch) in
+      let a : patchFits P (length patch) ≡ true = ap (λ (l : ℕ). patchFits P l) (f .patch-length) ∙ patch-fits P n (f .most) in
+      build-frame P patch full map true (le-ltb (length map) (mapBytes n) (f .buffer))
+      ∙ rw (a, fits-full P n (length full) (f .full-length)) (sound-headers P patch full (f .patch-header, f .full-header))
+
+-- Answers
+
+built-same : (x y : Built) → builtNumbers x ≡ builtNumbers y → x ≡ y
+built-same Done Done e = refl
+built-same Done (Refused r b) e = absurd (refusal-some r (sym (ap (λ (n : BuildNumbers). n .number) e)))
+built-same (Refused r b) Done e = absurd (refusal-some r (ap (λ (n : BuildNumbers). n .number) e))
+built-same (Refused r b) (Refused q c) e =
+    ap (λ (x : Refusal). Refused x b) (refusal-one r q (ap (λ (n : BuildNumbers). n .number) e)) ∙ ap (λ (x : ℕ). Refused q x) (ap (λ (n : BuildNumbers). n .block) e)
+
+-- O1: two outcomes that meet Build are equal
+pub build-one : (P : ℕ) (patch full map : List ℕ) (x y : Built) (map₁ map₂ : List ℕ) → Build P patch full map x map₁ → Build P patch full map y map₂ → (x ≡ y) × (map₁ ≡ map₂)
+build-one P patch full map x y map₁ map₂ a b = (built-same x y (a .numbers ∙ sym (b .numbers)), a .bytes ∙ sym (b .bytes))
+
+module _ (P : ℕ) (patch full map : List ℕ) (answer : Built) (map′ : List ℕ) (w : Build P patch full map answer map′) where
+  done-zero : answer ≡ Done → buildOutcome P patch full map .number ≡ 0
+  done-zero e = ap (λ (n : BuildNumbers). n .number) (sym (w .numbers) ∙ ap builtNumbers e)
+
+  accepted : answer ≡ Done → SoundFrame P patch full map × ((b : ℕ) → b < blocksIn (length patch) → SoundBlock P patch full b)
+  accepted e =
+      let z = build-zero P patch full map (done-zero e) in
+      (frame-sound P patch full map (z .0), λ b h. zero-sound P patch full b (no-faults P patch full (blocksIn (length patch)) (z .1) b h))
+
+  accepting : SoundFrame P patch full map × ((b : ℕ) → b < blocksIn (length patch) → SoundBlock P patch full b) → answer ≡ Done
+  accepting h =
+      let none : firstFault P patch full 0 (blocksIn (length patch)) ≡ record { number = 0; block = 0 } =
+      none-found P patch full 0 (blocksIn (length patch)) (λ i _ l. sound-zero P patch full i (h .1 i (omega arith))) in
+      built-same answer Done (w .numbers ∙ ap buildNumbers (build-done P patch full map (sound-frame P patch full map (h .0)) (ap (λ (f : BlockFault). f .number) none)))
+
+  refused : SoundFrame P patch full map → (r : Refusal) (b : ℕ) → answer ≡ Refused r b → Lowest P patch full b (refusalNumber r)
+  refused f r b e =
+      let n : ℕ = blocksIn (length patch) in
+      let o : builtNumbers (Refused r b) ≡ buildNumbers (buildOutcome P patch full map) = sym (ap builtNumbers e) ∙ w .numbers in
+      go (firstFault P patch full 0 n .number) refl o
+    where
+      n : ℕ
+      n = blocksIn (length patch)
+
+      go : (k : ℕ) → firstFault P patch full 0 n .number ≡ k → builtNumbers (Refused r b) ≡ buildNumbers (buildOutcome P patch full map) → Lowest P patch full b (refusalNumber r)
+      go zero z o = absurd (refusal-some r (ap (λ (x : BuildNumbers). x .number) (o ∙ ap buildNumbers (build-done P patch full map (sound-frame P patch full map f) z))))
+      go (suc k) z o =
+          let t : builtNumbers (Refused r b) ≡ record { number = suc k; block = firstFault P patch full 0 n .block } =
+          o ∙ ap buildNumbers (build-faulty P patch full map (sound-frame P patch full map f) (suc k) (firstFault P patch full 0 n .block) z refl (λ q. omega arith)) in
+          let c : b ≡ firstFault P patch full 0 n .block = ap (λ (x : BuildNumbers). x .block) t in
+          let d : refusalNumber r ≡ suc k = ap (λ (x : BuildNumbers). x .number) t in
+          let g : FoundIn P patch full 0 n (firstFault P patch full 0 n) = fault-found P patch full 0 n (λ q. omega (arith, z, q)) in
+          record {
+            below = omega (arith, g .within, c);
+            fault = ap (λ (i : ℕ). blockFault P patch full i) c ∙ g .fault ∙ z ∙ sym d;
+            lower = λ i l. zero-sound P patch full i (g .lower i (omega arith) (omega (arith, c)));
+          }
+
+  refusing : SoundFrame P patch full map → (r : Refusal) (b : ℕ) → Lowest P patch full b (refusalNumber r) → answer ≡ Refused r b
+  refusing f r b l =
+      let n : ℕ = blocksIn (length patch) in
+      let found : firstFault P patch full 0 n ≡ record { number = refusalNumber r; block = b } =
+      found-first P patch full 0 n (record { number = refusalNumber r; block = b })
+      (record { from = omega arith; within = omega (arith, l .below); fault = l .fault; lower = λ i _ j. sound-zero P patch full i (l .lower i j) })
+      (refusal-some r) in
+      built-same answer (Refused r b)
+      (w .numbers
+      ∙ ap buildNumbers
+      (build-faulty P patch full map (sound-frame P patch full map f) (refusalNumber r) b (ap (λ (x : BlockFault). x .number) found) (ap (λ (x : BlockFault). x .block) found) (refusal-some r)))
+
+  as-before : (r : Refusal) (b : ℕ) → answer ≡ Refused r b → map′ ≡ map
+  as-before r b e =
+      w .bytes
+      ∙ refused-map P patch full map (λ z. refusal-some r (ap (λ (x : BuildNumbers). x .number) (sym (ap builtNumbers e) ∙ w .numbers) ∙ z))
+
+  map-is : answer ≡ Done → map′ ≡ splice map 0 (builtMap patch)
+  map-is e =
+      let z = build-zero P patch full map (done-zero e) in
+      w .bytes ∙ ap (λ (o : BuildOutcome). o .map) (build-done P patch full map (z .0) (z .1))
+
+  long-enough : answer ≡ Done → mapBytes (blocksIn (length patch)) ≤ length map
+  long-enough e = accepted e .0 .buffer
+
+  later-bytes : (x : Built) → answer ≡ x → (i : ℕ) → mapBytes (blocksIn (length patch)) ≤ i → getD map′ i 0 ≡ getD map i 0
+  later-bytes Done e i h =
+      let l : length (builtMap patch) ≡ mapBytes (blocksIn (length patch)) = built-length patch in
+      ap (λ (m : List ℕ). getD m i 0) (map-is e) ∙ laid-later map (builtMap patch) (omega (arith, long-enough e)) i (omega arith)
+  later-bytes (Refused r b) e i h = ap (λ (m : List ℕ). getD m i 0) (as-before r b e)
+
+  same-size : (x : Built) → answer ≡ x → length map′ ≡ length map
+  same-size Done e =
+      let l : length (builtMap patch) ≡ mapBytes (blocksIn (length patch)) = built-length patch in
+      ap (λ (m : List ℕ). length m) (map-is e) ∙ laid-length map (builtMap patch) (omega (arith, long-enough e))
+  same-size (Refused r b) e = ap (λ (m : List ℕ). length m) (as-before r b e)
+
+  tallied : answer ≡ Done → tallyNumbers P map′ (blocksIn (length patch)) ≡ record { number = 0; patch = slotsOf 1 patch; full = slotsOf 2 patch }
+  unfolding slotsOf
+  tallied e =
+      let n : ℕ = blocksIn (length patch) in
+      let l : mapBytes n ≤ length map = long-enough e in
+      let m : List ℕ = splice map 0 (builtMap patch) in
+      let s : length m ≡ length map = sym (ap (λ (x : List ℕ). length x) (map-is e)) ∙ same-size Done e in
+      ap (λ (x : List ℕ). tallyNumbers P x n) (map-is e)
+      ∙ sym (tally-done P m n (accepted e .0 .most) (omega arith) (slotsOf 1 patch) (slotsOf 2 patch) (built-good patch map l) (sym (built-patches patch map l)) (sym (built-fulls patch map l)) .numbers)
+
+  pair-is : answer ≡ Done → (b : ℕ) → b < blocksIn (length patch) → pairAt map′ b ≡ pairOf (slotNumbers (slotOf patch b) .kind)
+  pair-is e b h = ap (λ (m : List ℕ). pairAt m b) (map-is e) ∙ built-pair patch map (long-enough e) b h
+
+  by-kind : answer ≡ Done → (b : ℕ) → b < blocksIn (length patch) → {k n : ℕ} → slotNumbers (slotOf patch b) ≡ soundSlot k n → pairAt map′ b ≡ pairOf k
+  by-kind e b h q = pair-is e b h ∙ ap (λ (x : SlotNumbers). pairOf (x .kind)) q
+
+  pub build-means : BuildMeans P patch full map answer map′
+  unfolding pairOf
+  build-means =
+      record {
+        accepts = (accepted, accepting);
+        refuses = λ f r b. (refused f r b, refusing f r b);
+        untouched = as-before;
+        pair = pair-is;
+        empties = λ e b h q. by-kind e b h (is-empty P patch full b q);
+        patches = λ e b h p f q. by-kind e b h (is-patch P patch full b p f q);
+        wholes = λ e b h q. by-kind e b h (is-full P patch full b q);
+        unused = λ e b h k. ap (λ (m : List ℕ). pairAt m b) (map-is e) ∙ built-unused patch map (long-enough e) b h k;
+        later = later-bytes answer refl;
+        size = same-size answer refl;
+        tally = tallied;
+      }
