@@ -113,7 +113,7 @@ module _ {A : Type 0} (p : A → Bool) where
       go below (inr q) =
           record { before = []; after = xs; split = ap (λ (z : A). z ∷ xs) (q .0); passes = ap p (sym (q .0)) ∙ q .1; none-later = last-none xs (q .2) }
 
-  last-in : {x : A} (xs : List A) → last p xs ≡ some x → List·Memᴰ x xs × (p x ≡ true)
+  pub last-in : {x : A} (xs : List A) → last p xs ≡ some x → List·Memᴰ x xs × (p x ≡ true)
   last-in {x} xs e =
       let l : LastAt p xs x = last-at xs x e in
       (rw (l .split) (Memᴰ·append-right (l .before) (List·Memᴰ·head refl)), l .passes)
@@ -429,6 +429,21 @@ module _ (S : Store) where
             let t = stands os q in
             absurd (last-none _ ls e w (l w .1 (rw (t .2) q)) (rw (t .1, eq-eqb (block w) b (t .2))))
         go b (some w) e k q = let i = last-in _ ls e in rw (sym q ∙ rw (hit (i .1) .1) at (l w .0 (i .0)))
+
+    -- a block holds what its last accepted write left there, or is blank
+    pub writes-at : (s : State) → Fresh s → (ws : List Write) (b : ℕ) → b < blocks (frame s)
+        → at (writes s ws) b ≡ Option·elim (lastWrite (frame s) b ws) blank cell
+    unfolding writes leaves Option·elim
+    writes-at s fresh ws b h =
+        rw (← run-map step write s ws) (fresh-at s fresh (map write ws) b h ∙ rw (writes-stand (frame s) b ws) (go (lastWrite (frame s) b ws)))
+      where
+        go : (m : Option Write) → leaves blank (Option·map write m) ≡ Option·elim m blank cell
+        go none = refl
+        go (some w) = refl
+
+    pub writes-frame : (s : State) (ws : List Write) → frame (writes s ws) ≡ frame s
+    unfolding writes
+    writes-frame s ws = rw (← run-map step write s ws) (run-frame s (map write ws))
 
     pub writes-taken : (s : State) (ws ls : List Write) → LastWrites (frame s) ws ls → Taken s ls
     writes-taken s ws ls l = lasts-taken s (map write ws) ls (lasts-of-writes (frame s) ws ls .0 l)

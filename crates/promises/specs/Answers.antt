@@ -1,0 +1,40 @@
+-- The numbers of an answer determine the code's own enum, for each call of the store.
+use Prim.Native.Nat.{ℕ}
+use mathlib.Core.Path.{_≡_, refl, sym, ap, _∙_}
+use Rattle.layout.specs.Numbers.{kindNumber, refusalNumber, kind-one, refusal-one, refusal-some}
+use Rattle.store.specs.Format.{formattedNumber}
+use Rattle.store.specs.Judge.{JudgedNumbers, judgedNumbers}
+use Rattle.store.specs.Read.{ReadNumbers, readingNumbers}
+use Rattle.store.specs.Write.{WriteNumbers, writtenNumbers}
+use Rattle.store.specs.declared.Formatted.{Formatted}
+use Rattle.store.specs.declared.Formatted.the-variants.{Done as FormattedDone, Refused as FormattedRefused}
+use Rattle.store.specs.declared.Judged.{Judged}
+use Rattle.store.specs.declared.Judged.the-variants.{Done as JudgedDone, Refused as JudgedRefused}
+use Rattle.store.specs.declared.Reading.{Reading}
+use Rattle.store.specs.declared.Reading.the-variants.{Done as ReadingDone, Refused as ReadingRefused}
+use Rattle.store.specs.declared.Written.{Written}
+use Rattle.store.specs.declared.Written.the-variants.{Done as WrittenDone, Refused as WrittenRefused}
+
+pub formatted-one : (a b : Formatted) → formattedNumber a ≡ formattedNumber b → a ≡ b
+formatted-one FormattedDone FormattedDone e = refl
+formatted-one FormattedDone (FormattedRefused r) e = absurd (refusal-some r (sym e))
+formatted-one (FormattedRefused r) FormattedDone e = absurd (refusal-some r e)
+formatted-one (FormattedRefused r) (FormattedRefused q) e = ap FormattedRefused (refusal-one r q e)
+
+pub judged-one : (a b : Judged) → judgedNumbers a ≡ judgedNumbers b → a ≡ b
+judged-one (JudgedDone k n) (JudgedDone j m) e = λ i. JudgedDone (kind-one k j (ap (λ (x : JudgedNumbers). x .kind) e) i) (e i .length)
+judged-one (JudgedDone k n) (JudgedRefused r) e = absurd (refusal-some r (sym (ap (λ (x : JudgedNumbers). x .number) e)))
+judged-one (JudgedRefused r) (JudgedDone k n) e = absurd (refusal-some r (ap (λ (x : JudgedNumbers). x .number) e))
+judged-one (JudgedRefused r) (JudgedRefused q) e = ap JudgedRefused (refusal-one r q (ap (λ (x : JudgedNumbers). x .number) e))
+
+pub reading-one : (a b : Reading) → readingNumbers a ≡ readingNumbers b → a ≡ b
+reading-one (ReadingDone k) (ReadingDone j) e = ap ReadingDone (kind-one k j (ap (λ (x : ReadNumbers). x .kind) e))
+reading-one (ReadingDone k) (ReadingRefused r) e = absurd (refusal-some r (sym (ap (λ (x : ReadNumbers). x .number) e)))
+reading-one (ReadingRefused r) (ReadingDone k) e = absurd (refusal-some r (ap (λ (x : ReadNumbers). x .number) e))
+reading-one (ReadingRefused r) (ReadingRefused q) e = ap ReadingRefused (refusal-one r q (ap (λ (x : ReadNumbers). x .number) e))
+
+pub written-one : (a b : Written) → writtenNumbers a ≡ writtenNumbers b → a ≡ b
+written-one (WrittenDone k n) (WrittenDone j m) e = λ i. WrittenDone (kind-one k j (ap (λ (x : WriteNumbers). x .kind) e) i) (e i .length)
+written-one (WrittenDone k n) (WrittenRefused r) e = absurd (refusal-some r (sym (ap (λ (x : WriteNumbers). x .number) e)))
+written-one (WrittenRefused r) (WrittenDone k n) e = absurd (refusal-some r (ap (λ (x : WriteNumbers). x .number) e))
+written-one (WrittenRefused r) (WrittenRefused q) e = ap WrittenRefused (refusal-one r q (ap (λ (x : WriteNumbers). x .number) e))

@@ -1,0 +1,99 @@
+-- Demand 2. "Slots, streams and pages follow the published version 2 layout. A write stores an empty slot if the page equals its base, a
+-- patch if the stream takes at most 504 bytes, a full page otherwise, and refuses for room only if the full area has no place for that
+-- block. Reading back over the same base gives the written page; every sound slot from elsewhere reads as the layout says, unless its
+-- payload is unsound or its full page missing."
+--
+-- `writeOutcome` and `readOutcome` are what the contracts of Write and Read cite; the other words are in `Words`. Any lists are areas,
+-- bases and pages here, and any number is a block.
+use Prim.Native.Nat.{ℕ, _≤_, _<_}
+use mathlib.Core.Path.{_≡_}
+use mathlib.Core.Bool.{true, false}
+use mathlib.Core.Logic.{_↔_}
+use mathlib.Core.List.{List, []}
+use lib.Dec.{lit≤}
+use lib.ListN.{length}
+use Rattle.span.specs.Bytes.{zeros}
+use Rattle.layout.specs.Sizes.{pageSize}
+use Rattle.layout.specs.Slots.{emptySlot, fullSlot}
+use Rattle.stream.specs.Entries.{payloadStream, sound, applied}
+use Rattle.stream.specs.Calls.{pageOf}
+use Rattle.store.specs.Frame.{slotOf, placeOf}
+use Rattle.store.specs.Read.{ReadOutcome, readOutcome}
+use Rattle.store.specs.Write.{WriteOutcome, writeOutcome}
+use Rattle.promises.specs.Words.{blocks, places, FrameFits, PatchOf, Large, streamOf, Stored, WriteGives, ReadGives}
+use Rattle.promises.specs.Tables.{write-table, read-table}
+use Rattle.promises.specs.StoreLaws.{write-stored}
+use Rattle.promises.specs.ReadLaws.{reads-empty, reads-patch, reads-unsound, reads-full, reads-missing, zero-bases}
+use Rattle.promises.specs.WriteLaws.{write-length, kind-empty, kind-patch, kind-full, no-room, reads-back, others-read}
+
+module _ (patch full : List ℕ) (b : ℕ) (base page : List ℕ) where
+  abbrev pub written : WriteOutcome
+  written = writeOutcome pageSize patch full b base page
+
+  abbrev pub read : ReadOutcome
+  read = readOutcome pageSize patch full b base page
+
+  -- Every number that Write and Read give, and just when: the tables are `WriteGives` and `ReadGives`
+
+  pub write-gives : (k : ℕ) → (written .number ≡ k) ↔ WriteGives pageSize patch full b base page k
+  write-gives = write-table pageSize patch full b base page
+
+  pub read-gives : (k : ℕ) → (read .number ≡ k) ↔ ReadGives pageSize patch full b base page k
+  read-gives = read-table pageSize patch full b base page
+
+  -- "refuses for room only if the full area has no place for that block"
+  pub write-room : FrameFits pageSize patch full base page → b < blocks patch → (written .number ≡ 8) ↔ (Large pageSize base page × (places pageSize full ≤ b))
+  write-room = no-room pageSize patch full b base page
+
+  module _ (done : written .number ≡ 0) where
+    -- The kind stored, and the stream's length
+
+    pub empty-iff : (written .kind ≡ 0) ↔ (page ≡ pageOf pageSize base)
+    empty-iff = kind-empty pageSize patch full b base page done
+
+    pub patch-iff : (written .kind ≡ 1) ↔ ((1 ≤ length (streamOf pageSize base page)) × (length (streamOf pageSize base page) ≤ 504))
+    patch-iff = kind-patch pageSize patch full b base page done
+
+    pub full-iff : (written .kind ≡ 2) ↔ (504 < length (streamOf pageSize base page))
+    full-iff = kind-full pageSize patch full b base page done
+
+    pub stream-length : written .length ≡ length (streamOf pageSize base page)
+    stream-length = write-length pageSize patch full b base page done
+
+    -- afterwards the slot is the sound one of that kind, the place holds the page or zeros, and no other byte is changed
+    pub stores : Stored pageSize patch full b base page (written .kind) (written .patch) (written .full)
+    stores = write-stored pageSize patch full b base page done
+
+    -- "Reading back over the same base gives the written page": over a base that stands for the same page, into any page
+    pub read-back : (base′ page′ : List ℕ) → pageOf pageSize base′ ≡ pageOf pageSize base → length page′ ≡ pageSize
+        → readOutcome pageSize (written .patch) (written .full) b base′ page′ ≡ record { number = 0; kind = written .kind; page = page }
+    read-back = reads-back pageSize patch full b base page (lit≤ tt) done
+
+  -- and every other block reads as before, whatever it holds and whether or not the write was refused
+  pub others : (c : ℕ) → (c ≡ b → ⊥) → (base′ page′ : List ℕ)
+      → readOutcome pageSize (written .patch) (written .full) c base′ page′ ≡ readOutcome pageSize patch full c base′ page′
+  others = others-read pageSize patch full b base page
+
+  -- Every sound slot from elsewhere
+
+  module _ (fits : FrameFits pageSize patch full base page) (below : b < blocks patch) where
+    pub empty-slot : slotOf patch b ≡ emptySlot → read ≡ record { number = 0; kind = 0; page = pageOf pageSize base }
+    empty-slot = reads-empty pageSize patch full b base page fits below
+
+    pub patch-slot : (payload : List ℕ) → PatchOf (slotOf patch b) payload → sound pageSize payload ≡ true
+        → read ≡ record { number = 0; kind = 1; page = applied (pageOf pageSize base) (payloadStream pageSize payload) }
+    patch-slot = reads-patch pageSize patch full b base page fits below
+
+    pub patch-slot-7 : (payload : List ℕ) → PatchOf (slotOf patch b) payload → sound pageSize payload ≡ false
+        → read ≡ record { number = 7; kind = 0; page = page }
+    patch-slot-7 = reads-unsound pageSize patch full b base page fits below
+
+    pub full-slot : slotOf patch b ≡ fullSlot → b < places pageSize full → read ≡ record { number = 0; kind = 2; page = placeOf pageSize full b }
+    full-slot = reads-full pageSize patch full b base page fits below
+
+    pub full-slot-8 : slotOf patch b ≡ fullSlot → places pageSize full ≤ b → read ≡ record { number = 8; kind = 0; page = page }
+    full-slot-8 = reads-missing pageSize patch full b base page fits below
+
+-- a base of 0 bytes and one of 8,192 zeros are one base page
+pub zero-base : pageOf pageSize [] ≡ pageOf pageSize (zeros pageSize)
+zero-base = zero-bases pageSize

@@ -1,0 +1,56 @@
+-- "The answer and every lent byte after a call follow from the inputs, refusals too": two outcomes that both meet a call's predicate, which
+-- is what its contract cites, have the same answer, the code's own enum, and the same bytes. One statement a call; Build's is
+-- `build-one` in `store`. Of Show the bytes are determined; where an empty part lies cannot be told (docs/PROMISES.md, O1).
+use Prim.Native.Nat.{ℕ}
+use mathlib.Core.Path.{_≡_, sym, _∙_}
+use mathlib.Core.List.{List}
+use Rattle.blockmap.specs.Calls.{LookUp, Tally}
+use Rattle.blockmap.specs.CallLaws.{look-up-one, tally-one}
+use Rattle.blockmap.specs.declared.Looked.{Looked}
+use Rattle.blockmap.specs.declared.Tallied.{Tallied}
+use Rattle.stream.specs.Calls.{Compare, Apply}
+use Rattle.stream.specs.Only.{compare-only, apply-only}
+use Rattle.stream.specs.declared.Compared.{Compared}
+use Rattle.stream.specs.declared.Applied.{Applied}
+use Rattle.store.specs.Format.{Format}
+use Rattle.store.specs.Judge.{Judge}
+use Rattle.store.specs.Show.{Show}
+use Rattle.store.specs.Read.{Read}
+use Rattle.store.specs.Write.{Write}
+use Rattle.store.specs.declared.Formatted.{Formatted}
+use Rattle.store.specs.declared.Judged.{Judged}
+use Rattle.store.specs.declared.Reading.{Reading}
+use Rattle.store.specs.declared.Written.{Written}
+use Rattle.promises.specs.Answers.{formatted-one, judged-one, reading-one, written-one}
+
+module _ (P : ℕ) where
+  pub one-format : (patch full : List ℕ) (a b : Formatted) (p q f g : List ℕ) → Format P patch full a p f → Format P patch full b q g → (a ≡ b) × (p ≡ q) × (f ≡ g)
+  one-format patch full a b p q f g x y =
+      (formatted-one a b (x .numbers ∙ sym (y .numbers)), x .patch-bytes ∙ sym (y .patch-bytes), x .full-bytes ∙ sym (y .full-bytes))
+
+  pub one-compare : (base page buffer : List ℕ) (a b : Compared) (p q : List ℕ) → Compare P base page buffer a p → Compare P base page buffer b q → (a ≡ b) × (p ≡ q)
+  one-compare = compare-only P
+
+  pub one-apply : (base payload page : List ℕ) (a b : Applied) (p q : List ℕ) → Apply P base payload page a p → Apply P base payload page b q → (a ≡ b) × (p ≡ q)
+  one-apply = apply-only P
+
+  pub one-judge : (slot : List ℕ) (a b : Judged) → Judge slot a → Judge slot b → a ≡ b
+  one-judge slot a b x y = judged-one a b (x .numbers ∙ sym (y .numbers))
+
+  pub one-show : (patch : List ℕ) (b : ℕ) (p q : List ℕ) → Show P patch b p → Show P patch b q → p ≡ q
+  one-show patch b p q x y = x .bytes ∙ sym (y .bytes)
+
+  pub one-read : (patch full : List ℕ) (n : ℕ) (base page : List ℕ) (a b : Reading) (p q : List ℕ)
+      → Read P patch full n base page a p → Read P patch full n base page b q → (a ≡ b) × (p ≡ q)
+  one-read patch full n base page a b p q x y = (reading-one a b (x .numbers ∙ sym (y .numbers)), x .bytes ∙ sym (y .bytes))
+
+  pub one-write : (patch full : List ℕ) (n : ℕ) (base page : List ℕ) (a b : Written) (p q f g : List ℕ)
+      → Write P patch full n base page a p f → Write P patch full n base page b q g → (a ≡ b) × (p ≡ q) × (f ≡ g)
+  one-write patch full n base page a b p q f g x y =
+      (written-one a b (x .numbers ∙ sym (y .numbers)), x .patch-bytes ∙ sym (y .patch-bytes), x .full-bytes ∙ sym (y .full-bytes))
+
+  pub one-look-up : (map : List ℕ) (n b : ℕ) (x y : Looked) → LookUp P map n b x → LookUp P map n b y → x ≡ y
+  one-look-up = look-up-one P
+
+  pub one-tally : (map : List ℕ) (n : ℕ) (x y : Tallied) → Tally P map n x → Tally P map n y → x ≡ y
+  one-tally = tally-one P

@@ -1,0 +1,46 @@
+use Rattle.thonxiliko.specs.Areas.{build-held}
+use Rattle.store.specs.Build.{builtNumbers}
+use Prim.Native.Nat.{ℕ}
+use mathlib.Core.Path.{_≡_, refl, sym, ap, _∙_}
+use borrow.Author.Needs.{needs}
+use Rattle.thonxiliko.proofs.areas.thx_build.Statement.{statement}
+use Rattle.thonxiliko.proofs.areas.thx_build.Tie as tie
+
+build-requires : tie.Need-build-requires
+build-requires c κs = search needs
+
+enum-told : tie.Need-enum-told
+enum-told c = search needs
+
+enum-known-refusal : tie.Need-enum-known-refusal
+enum-known-refusal c = search needs
+
+refusal-number-requires : tie.Need-refusal-number-requires
+refusal-number-requires c κs = search needs
+
+same-length : tie.Need-same-length
+same-length c = search needs
+
+returns : tie.Need-returns
+returns c =
+    build-held (c .before .before .before .before .build .ensures) (ap builtNumbers (sym (c .enum-told .given .1)))
+
+same-length-2 : tie.Need-same-length-2
+same-length-2 c = search needs
+
+returns-2 : tie.Need-returns-2
+returns-2 c =
+    build-held (c .before .before .before .before .before .before .build .ensures) ((λ i. record { number = c .refusal-number .ensures i; block = c .before .before .refusal .given .0 .1 .0 }) ∙ ap builtNumbers (sym (c .before .before .refusal .given .1)))
+
+pub thx-build-spec : {M : Type 1} → statement M
+thx-build-spec =
+    tie.close
+    (tie.spec
+    build-requires
+    enum-told
+    enum-known-refusal
+    refusal-number-requires
+    same-length
+    returns
+    same-length-2
+    returns-2)

@@ -1,0 +1,54 @@
+use Rattle.thonxiliko.specs.Areas.{format-held}
+use Rattle.store.specs.Format.{formattedNumber}
+use Prim.Native.Nat.{ℕ}
+use mathlib.Core.Path.{_≡_, refl, sym, ap, _∙_}
+use borrow.Author.Needs.{needs}
+use Rattle.thonxiliko.proofs.areas.thx_format.Statement.{statement}
+use Rattle.thonxiliko.proofs.areas.thx_format.Tie as tie
+
+format-requires : tie.Need-format-requires
+format-requires c κs = search needs
+
+enum-told : tie.Need-enum-told
+enum-told c = search needs
+
+enum-known-refusal : tie.Need-enum-known-refusal
+enum-known-refusal c = search needs
+
+refusal-number-requires : tie.Need-refusal-number-requires
+refusal-number-requires c κs = search needs
+
+same-length : tie.Need-same-length
+same-length c = search needs
+
+same-length-2 : tie.Need-same-length-2
+same-length-2 c = search needs
+
+returns : tie.Need-returns
+returns c =
+    format-held (c .before .before .before .before .before .before .format .ensures) (ap formattedNumber (sym (c .enum-told .given .1)))
+
+same-length-3 : tie.Need-same-length-3
+same-length-3 c = search needs
+
+same-length-4 : tie.Need-same-length-4
+same-length-4 c = search needs
+
+returns-2 : tie.Need-returns-2
+returns-2 c =
+    format-held (c .before .before .before .before .before .before .before .before .format .ensures) (c .refusal-number .ensures ∙ ap formattedNumber (sym (c .before .before .refusal .given .1)))
+
+pub thx-format-spec : {M : Type 1} → statement M
+thx-format-spec =
+    tie.close
+    (tie.spec
+    format-requires
+    enum-told
+    enum-known-refusal
+    refusal-number-requires
+    same-length
+    same-length-2
+    returns
+    same-length-3
+    same-length-4
+    returns-2)

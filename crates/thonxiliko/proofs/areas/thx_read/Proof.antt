@@ -1,0 +1,50 @@
+use Rattle.thonxiliko.specs.Areas.{read-held}
+use Rattle.store.specs.Read.{readingNumbers}
+use Prim.Native.Nat.{ℕ}
+use mathlib.Core.Path.{_≡_, refl, sym, ap, _∙_}
+use borrow.Author.Needs.{needs}
+use Rattle.thonxiliko.proofs.areas.thx_read.Statement.{statement}
+use Rattle.thonxiliko.proofs.areas.thx_read.Tie as tie
+
+read-requires : tie.Need-read-requires
+read-requires c κs = search needs
+
+enum-known-kind : tie.Need-enum-known-kind
+enum-known-kind c = search needs
+
+kind-number-requires : tie.Need-kind-number-requires
+kind-number-requires c κs = search needs
+
+enum-known-refusal : tie.Need-enum-known-refusal
+enum-known-refusal c = search needs
+
+refusal-number-requires : tie.Need-refusal-number-requires
+refusal-number-requires c κs = search needs
+
+same-length : tie.Need-same-length
+same-length c = search needs
+
+returns : tie.Need-returns
+returns c =
+    read-held (c .before .before .before .before .before .before .read .ensures) ((λ i. record { number = 0; kind = c .kind-number .ensures i }) ∙ ap readingNumbers (sym (c .before .before .kind .given .1)))
+
+same-length-2 : tie.Need-same-length-2
+same-length-2 c = search needs
+
+returns-2 : tie.Need-returns-2
+returns-2 c =
+    read-held (c .before .before .before .before .before .before .read .ensures) ((λ i. record { number = c .refusal-number .ensures i; kind = 0 }) ∙ ap readingNumbers (sym (c .before .before .refusal .given .1)))
+
+pub thx-read-spec : {M : Type 1} → statement M
+thx-read-spec =
+    tie.close
+    (tie.spec
+    read-requires
+    enum-known-kind
+    kind-number-requires
+    enum-known-refusal
+    refusal-number-requires
+    same-length
+    returns
+    same-length-2
+    returns-2)

@@ -1,0 +1,4 @@
+pub mod Areas
+pub mod Pages
+pub mod Maps
+pub mod Widths

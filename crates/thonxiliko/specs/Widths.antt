@@ -1,0 +1,165 @@
+-- Every number of an answer fits its member of 32 bits.
+use Prim.Native.Nat.{ℕ, zero, suc, _+_, _-_, _*_, _^_, _≤_, _<_}
+use native.Mathlib.Omega.{arith}
+use mathlib.Core.Path.{_≡_, refl, sym, ap, _∙_}
+use mathlib.Core.Bool.{Bool, true, false, not, _&&_, cond}
+use mathlib.Core.List.{List, [], _∷_, _++_}
+use lib.Dec.{eqb, leb, ltb}
+use lib.IntN.{ℤ}
+use borrow.Author.Tests.{leb-true}
+use Rattle.span.specs.Bytes.{same}
+use lib.ListN.{length, length-append}
+use Rattle.layout.specs.Sizes.{pageSize, room}
+use Rattle.layout.specs.Numbers.{le}
+use Rattle.layout.specs.Refusals.{Row, _⇐_, firstOf, orElse, ordered, decided}
+use Rattle.layout.specs.Slots.{SlotNumbers, slotNumbers, soundSlot, unsoundSlot, payloadLength, payloadOf, isPatch, emptySlot, patchSlot, fullSlot}
+use Rattle.stream.specs.Differences.{Change, diffs, spelled, coded, written}
+use Rattle.stream.specs.Entries.{sound, entries, payloadStream}
+use Rattle.stream.specs.StreamLaws.{sound-few}
+use Rattle.stream.specs.Calls.{pageOf, pagesFit, ComparedNumbers, comparedNumbers, compareRows, comparison, compareNumbers, Compare, AppliedNumbers, appliedNumbers, applyRows, applyNumbers, Apply}
+use Rattle.stream.specs.Laws.{page-length, compare-done, apply-number, apply-done, apply-not}
+use Rattle.stream.specs.Kinds.{compare-gives, accepted-fits}
+use Rattle.store.specs.Judge.{Judge, JudgedNumbers, judgedNumbers, judgeRows, judgeNumbers}
+use Rattle.store.specs.Write.{Write, WriteNumbers, writtenNumbers, writeNumbers, decidedStream, writeRows, writeOutcome}
+use Rattle.layout.specs.declared.Kind.{Kind}
+use Rattle.stream.specs.declared.Compared.{Compared}
+use Rattle.stream.specs.declared.Compared.the-variants.{Done as ComparedDone}
+use Rattle.stream.specs.declared.Applied.{Applied}
+use Rattle.stream.specs.declared.Applied.the-variants.{Done as AppliedDone}
+use Rattle.store.specs.declared.Judged.{Judged}
+use Rattle.store.specs.declared.Judged.the-variants.{Done as JudgedDone}
+use Rattle.store.specs.declared.Written.{Written}
+use Rattle.store.specs.declared.Written.the-variants.{Done as WrittenDone}
+
+-- The writer's stream has no more entries than the page has bytes, of four bytes at most
+
+diffs-few : (q : ℕ) (xs ys : List ℕ) → length (diffs q xs ys) ≤ length ys
+unfolding diffs
+diffs-few q [] ys = omega arith
+diffs-few q (x ∷ xs) [] = omega arith
+diffs-few q (x ∷ xs) (y ∷ ys) = go (eqb x y) (diffs-few (q + 1) xs ys)
+  where
+    go : (t : Bool) → length (diffs (q + 1) xs ys) ≤ length ys
+        → length {A = Change} (elim t as (λ _. List Change) [ true ↦ diffs (q + 1) xs ys | false ↦ record { place = q; value = y } ∷ diffs (q + 1) xs ys ]) ≤ length (y ∷ ys)
+    go true h = omega arith
+    go false h = omega arith
+
+spelled-few : (jump v : ℕ) → length (spelled jump v) ≤ 4
+unfolding spelled le
+spelled-few jump v = go (ltb jump 255)
+  where
+    go : (t : Bool) → length (cond t (jump ∷ v ∷ []) (255 ∷ (le 2 jump ++ (v ∷ [])))) ≤ 4
+    go true = omega arith
+    go false = omega arith
+
+coded-few : (next : ℕ) (cs : List Change) → length (coded next cs) ≤ 4 * length cs
+unfolding coded
+coded-few next [] = omega arith
+coded-few next (c ∷ cs) =
+    let s : length (spelled (c .place - next) (c .value)) ≤ 4 = spelled-few (c .place - next) (c .value) in
+    let r : length (coded (c .place + 1) cs) ≤ 4 * length cs = coded-few (c .place + 1) cs in
+    let a : length (spelled (c .place - next) (c .value) ++ coded (c .place + 1) cs) ≡ length (spelled (c .place - next) (c .value)) + length (coded (c .place + 1) cs) = length-append (spelled (c .place - next) (c .value)) (coded (c .place + 1) cs) in
+    omega arith
+
+written-few : (base page : List ℕ) → length (written base page) ≤ 4 * length page
+unfolding written
+written-few base page =
+    let c : length (coded 0 (diffs 0 base page)) ≤ 4 * length (diffs 0 base page) = coded-few 0 (diffs 0 base page) in
+    let d : length (diffs 0 base page) ≤ length page = diffs-few 0 base page in
+    omega arith
+
+-- a call whose first row is about its pages, and that is not refused, has pages that fit
+first-fits : (t : Bool) (rows : List Row) → firstOf ((1 ⇐ not t) ∷ rows) ≡ 0 → t ≡ true
+unfolding firstOf orElse
+first-fits true rows e = refl
+first-fits false rows e = absurd (omega arith)
+
+-- Compare
+
+module _ (base page buffer : List ℕ) where
+  pub compare-fits : {after : List ℕ} {a : Compared} {k : Kind} {n e : ℕ} {l : ℤ} → Compare pageSize base page buffer a after → a ≡ ComparedDone k n e l
+      → (n < 2 ^ 32) × (e < 2 ^ 32)
+  unfolding comparison written
+  compare-fits {after} {a} {k} {n} {e} {l} c q =
+      let ds : List Change = diffs 0 (pageOf pageSize base) page in
+      let f : comparedNumbers (ComparedDone k n e l) ≡ compareNumbers pageSize base page buffer = ap comparedNumbers (sym q) ∙ c .numbers in
+      let z : compareNumbers pageSize base page buffer .number ≡ 0 = sym (ap (λ (x : ComparedNumbers). x .number) f) in
+      let d : comparedNumbers (ComparedDone k n e l) ≡ comparison ds = f ∙ compare-done pageSize base page buffer (sym (compare-gives pageSize base page buffer) ∙ z) in
+      let p : length page ≡ pageSize = page-length pageSize base page (accepted-fits pageSize base page buffer z) in
+      let g : n ≡ length (coded 0 ds) = ap (λ (x : ComparedNumbers). x .length) d in
+      let h : e ≡ length ds = ap (λ (x : ComparedNumbers). x .entries) d in
+      let w : length (coded 0 ds) ≤ 4 * length page = written-few (pageOf pageSize base) page in
+      let v : length ds ≤ length page = diffs-few 0 (pageOf pageSize base) page in
+      (omega arith, omega arith)
+
+-- Apply
+
+module _ (base payload page : List ℕ) where
+  apply-few : (k : ℕ) → firstOf (applyRows pageSize base payload page) ≡ k → applyNumbers pageSize base payload page .entries ≤ 252
+  apply-few zero e =
+      let s : sound pageSize payload ≡ true = go (pagesFit pageSize base page) (sound pageSize payload) (sym (apply-number pageSize base payload page) ∙ e) in
+      let n : applyNumbers pageSize base payload page .entries ≡ entries (payloadStream pageSize payload) = ap (λ (x : AppliedNumbers). x .entries) (apply-done pageSize base payload page e .0) in
+      omega (arith, sound-few pageSize payload s)
+    where
+      go : (f s : Bool) → cond {A = ℕ} f (cond s 0 7) 1 ≡ 0 → s ≡ true
+      go true true e = refl
+      go true false e = absurd (omega arith)
+      go false s e = absurd (omega arith)
+  apply-few (suc k) e =
+      let n : applyNumbers pageSize base payload page .entries ≡ 0 = ap (λ (x : AppliedNumbers). x .entries) (apply-not pageSize base payload page k e .0) in
+      omega arith
+
+  pub apply-fits : {after : List ℕ} {a : Applied} {e : ℕ} {l : ℤ} → Apply pageSize base payload page a after → a ≡ AppliedDone e l → e < 2 ^ 32
+  apply-fits {after} {a} {e} {l} c q =
+      let f : appliedNumbers (AppliedDone e l) ≡ applyNumbers pageSize base payload page = ap appliedNumbers (sym q) ∙ c .numbers in
+      let g : e ≡ applyNumbers pageSize base payload page .entries = ap (λ (x : AppliedNumbers). x .entries) f in
+      let b : applyNumbers pageSize base payload page .entries ≤ 252 = apply-few (firstOf (applyRows pageSize base payload page)) refl in
+      omega arith
+
+-- Judge
+
+slot-few : (s : List ℕ) → slotNumbers s .length ≤ room
+unfolding slotNumbers isPatch
+slot-few s = go (same s emptySlot) (leb 1 (payloadLength s)) (leb (payloadLength s) room) refl (same s (patchSlot (payloadOf s))) (same s fullSlot)
+  where
+    go : (a b c : Bool) → leb (payloadLength s) room ≡ c → (d f : Bool)
+        → cond a (soundSlot 0 0) (cond (b && c && d) (soundSlot 1 (payloadLength s)) (cond f (soundSlot 2 0) unsoundSlot)) .length ≤ room
+    go true b c e d f = omega arith
+    go false true true e true f = leb-true (payloadLength s) room e
+    go false true true e false true = omega arith
+    go false true true e false false = omega arith
+    go false true false e d true = omega arith
+    go false true false e d false = omega arith
+    go false false c e d true = omega arith
+    go false false c e d false = omega arith
+
+module _ (slot : List ℕ) where
+  judge-few : (k : ℕ) → firstOf (judgeRows slot) ≡ k → judgeNumbers slot .length ≤ room
+  unfolding judgeNumbers decided
+  judge-few zero e = rw e (slot-few slot)
+  judge-few (suc k) e = rw e (omega arith)
+
+  pub judge-fits : {a : Judged} {k : Kind} {n : ℕ} → Judge slot a → a ≡ JudgedDone k n → n < 2 ^ 32
+  judge-fits {a} {k} {n} c q =
+      let f : judgedNumbers (JudgedDone k n) ≡ judgeNumbers slot = ap judgedNumbers (sym q) ∙ c .numbers in
+      let g : n ≡ judgeNumbers slot .length = ap (λ (x : JudgedNumbers). x .length) f in
+      let b : judgeNumbers slot .length ≤ room = judge-few (firstOf (judgeRows slot)) refl in
+      omega arith
+
+-- Write
+
+module _ (patch full : List ℕ) (b : ℕ) (base page : List ℕ) where
+  write-few : (k : ℕ) → firstOf (writeRows pageSize patch full b base page) ≡ k → writeOutcome pageSize patch full b base page .length ≤ 4 * pageSize
+  unfolding writeOutcome writeRows ordered decided decidedStream
+  write-few zero e =
+      let l : length page ≡ pageSize = page-length pageSize base page (first-fits (pagesFit pageSize base page) _ e) in
+      let w : length (written (pageOf pageSize base) page) ≤ 4 * length page = written-few (pageOf pageSize base) page in
+      rw e (omega arith)
+  write-few (suc k) e = rw e (omega arith)
+
+  pub write-fits : {patch′ full′ : List ℕ} {a : Written} {k : Kind} {n : ℕ} → Write pageSize patch full b base page a patch′ full′ → a ≡ WrittenDone k n → n < 2 ^ 32
+  write-fits {patch′} {full′} {a} {k} {n} c q =
+      let f : writtenNumbers (WrittenDone k n) ≡ writeNumbers (writeOutcome pageSize patch full b base page) = ap writtenNumbers (sym q) ∙ c .numbers in
+      let g : n ≡ writeOutcome pageSize patch full b base page .length = ap (λ (x : WriteNumbers). x .length) f in
+      let m : writeOutcome pageSize patch full b base page .length ≤ 4 * pageSize = write-few (firstOf (writeRows pageSize patch full b base page)) refl in
+      omega arith

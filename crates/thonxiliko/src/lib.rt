@@ -1,0 +1,115 @@
+// The C interface. Each exported function calls the proved call beneath it and gives its answer as the paper's numbers.
+mod areas;
+mod map;
+mod pages;
+
+use layout::Kind;
+use layout::Refusal;
+ghost use mathlib.Core.Path.{_≡_};
+ghost use Rattle.layout.specs.Numbers.{kindNumber, refusalNumber};
+
+// What Format answers.
+#[repr(C)]
+pub struct thx_done {
+    pub number: u32,
+}
+
+// What Compare answers.
+#[repr(C)]
+pub struct thx_compared {
+    pub number: u32,
+    pub kind: u32,
+    pub length: u32,
+    pub entries: u32,
+    pub last: i32,
+}
+
+// What Apply answers.
+#[repr(C)]
+pub struct thx_applied {
+    pub number: u32,
+    pub entries: u32,
+    pub last: i32,
+}
+
+// What Judge answers.
+#[repr(C)]
+pub struct thx_judged {
+    pub number: u32,
+    pub kind: u32,
+    pub length: u32,
+}
+
+// The part of the patch area that Show names: both 0 for an empty one.
+#[repr(C)]
+pub struct thx_part {
+    pub at: u64,
+    pub len: u64,
+}
+
+// What Read answers.
+#[repr(C)]
+pub struct thx_reading {
+    pub number: u32,
+    pub kind: u32,
+}
+
+// What Write answers.
+#[repr(C)]
+pub struct thx_written {
+    pub number: u32,
+    pub kind: u32,
+    pub length: u32,
+}
+
+// What Build answers.
+#[repr(C)]
+pub struct thx_built {
+    pub number: u32,
+    pub block: u64,
+}
+
+// What Look up answers.
+#[repr(C)]
+pub struct thx_pair {
+    pub number: u32,
+    pub pair: u32,
+}
+
+// What Tally answers.
+#[repr(C)]
+pub struct thx_tallied {
+    pub number: u32,
+    pub patch: u64,
+    pub full: u64,
+}
+
+// The paper's number for a kind.
+fn kind_number(kind: Kind) -> u32
+    ensures { λ r. ⌜ r ≡ kindNumber kind ⌝ }
+{
+    match kind {
+        Kind::Empty => 0,
+        Kind::Patch => 1,
+        Kind::Full => 2,
+    }
+}
+
+// The paper's number for a refusal.
+fn refusal_number(refusal: Refusal) -> u32
+    ensures { λ r. ⌜ r ≡ refusalNumber refusal ⌝ }
+{
+    match refusal {
+        Refusal::Page => 1,
+        Refusal::Length => 2,
+        Refusal::Header => 3,
+        Refusal::Version => 4,
+        Refusal::Block => 5,
+        Refusal::Slot => 6,
+        Refusal::Payload => 7,
+        Refusal::Room => 8,
+        Refusal::Buffer => 9,
+        Refusal::Place => 10,
+        Refusal::Pair => 11,
+    }
+}
