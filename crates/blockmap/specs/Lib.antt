@@ -1,4 +1,5 @@
 pub mod Pairs
+pub mod Table
 pub mod PairLaws
 pub mod Meaning
 pub mod Pack

@@ -116,11 +116,12 @@ pub fn tally(map: &[u8], n: usize) -> Tallied
     if unused_met(map, n) {
         return Tallied::Refused(Refusal::Pair);
     }
+    let table = table::whole();
     let mut patch: usize = 0;
     let mut full: usize = 0;
     let mut at = 0;
     while at < bytes {
-        let entry = table::entry_of(map[at]);
+        let entry = table::entry_of(&table, map[at]);
         if entry == table::MET_RESERVED {
             return Tallied::Refused(Refusal::Pair);
         }

@@ -1,6 +1,7 @@
 // The tally's table: what each byte value says of its four pairs.
 ghost use mathlib.Core.Path.{_≡_};
 ghost use Rattle.blockmap.specs.Pairs.{tallyEntry};
+ghost use Rattle.blockmap.specs.Table.{Tabled};
 
 // The entry where some pair is 3.
 pub(crate) const MET_RESERVED: u8 = 255;
@@ -265,9 +266,17 @@ const TALLY: [u8; 256] = [
     255,
 ];
 
+// The whole table. A loop takes it once and reads it many times.
+pub(crate) fn whole() -> [u8; 256]
+    ensures { λ r. ⌜ Tabled r ⌝ }
+{
+    TALLY
+}
+
 // The table's entry for a byte.
-pub(crate) fn entry_of(byte: u8) -> u8
+pub(crate) fn entry_of(table: &[u8], byte: u8) -> u8
+    requires { ⌜ Tabled (now table) ⌝ }
     ensures { λ r. ⌜ r ≡ tallyEntry byte ⌝ }
 {
-    TALLY[byte as usize]
+    table[byte as usize]
 }

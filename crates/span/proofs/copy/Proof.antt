@@ -12,11 +12,6 @@ use Prim.Native.Nat.{ℕ, _+_, _-_, _≤_, _<_, min}
 use borrow.Author.Needs.{needs}
 use Rattle.span.proofs.copy.Statement.{statement}
 use Rattle.span.proofs.copy.Tie as tie
-use Rattle.span.proofs.copy.Reads as reads
-use Rattle.span.proofs.copy.Lts as lts
-use Rattle.span.proofs.copy_bulk.Reads as copy-bulk-reads
-use Rattle.span.proofs.copy_bytes.Reads as copy-bytes-reads
-use Rattle.span.proofs.shorter.Reads as shorter-reads
 
 abbrev Inv-loop : tie.InvT-loop
 Inv-loop dst₀ src end at₀ dst at = (at ≤ end) × (length dst ≡ length dst₀) × (dst ≡ splice dst₀ 0 (take at src))
@@ -24,57 +19,44 @@ Inv-loop dst₀ src end at₀ dst at = (at ≤ end) × (length dst ≡ length ds
 abbrev μ-loop : tie.MeasureT-loop
 μ-loop dst₀ src end at₀ dst at = end - at
 
--- src/lib.rt:64:9
 shorter-requires : tie.Need-shorter-requires Inv-loop μ-loop
 shorter-requires c κs = search needs
 
--- src/lib.rt:66:5
 loop-holds : tie.Need-loop-holds Inv-loop μ-loop
 loop-holds c =
     let d : List ℕ = c .before .before .before .args .dst .now in
     (search needs, refl, sym (splice-none d 0 (omega arith)))
 
--- src/lib.rt:66:19
 sub-loop : tie.Need-sub-loop Inv-loop μ-loop
 sub-loop c = search needs
 
--- src/lib.rt:67:18
 add-to : tie.Need-add-to Inv-loop μ-loop
 add-to c = search needs
 
--- src/lib.rt:68:19
 sub-copy-bulk : tie.Need-sub-copy-bulk Inv-loop μ-loop
 sub-copy-bulk c = search needs
 
--- src/lib.rt:68:19
 part-copy-bulk-start : tie.Need-part-copy-bulk-start Inv-loop μ-loop
 part-copy-bulk-start c = search needs
 
--- src/lib.rt:68:19
 part-copy-bulk-end : tie.Need-part-copy-bulk-end Inv-loop μ-loop
 part-copy-bulk-end c = search needs
 
--- src/lib.rt:68:37
 sub-copy-bulk-2 : tie.Need-sub-copy-bulk-2 Inv-loop μ-loop
 sub-copy-bulk-2 c = search needs
 
--- src/lib.rt:68:37
 part-copy-bulk-start-2 : tie.Need-part-copy-bulk-start-2 Inv-loop μ-loop
 part-copy-bulk-start-2 c = search needs
 
--- src/lib.rt:68:37
 part-copy-bulk-end-2 : tie.Need-part-copy-bulk-end-2 Inv-loop μ-loop
 part-copy-bulk-end-2 c = search needs
 
--- src/lib.rt:68:9
 copy-bulk-requires : tie.Need-copy-bulk-requires Inv-loop μ-loop
 copy-bulk-requires c κs = search needs
 
--- src/lib.rt:66:5
 loop-less : tie.Need-loop-less Inv-loop μ-loop
 loop-less c = search needs
 
--- src/lib.rt:66:5
 loop-again : tie.Need-loop-again Inv-loop μ-loop
 loop-again c =
     let a = c .before .before .before .before .before .before .before .before .before .before .args in
@@ -92,39 +74,30 @@ loop-again c =
           ∙ ap (λ (k : ℕ). splice (a .dst .now) 0 (take k (a .src .now))) q,
     )
 
--- src/lib.rt:71:16
 sub-copy-bytes : tie.Need-sub-copy-bytes Inv-loop μ-loop
 sub-copy-bytes c = search needs
 
--- src/lib.rt:71:16
 part-copy-bytes-start : tie.Need-part-copy-bytes-start Inv-loop μ-loop
 part-copy-bytes-start c = search needs
 
--- src/lib.rt:71:16
 part-copy-bytes-end : tie.Need-part-copy-bytes-end Inv-loop μ-loop
 part-copy-bytes-end c = search needs
 
--- src/lib.rt:71:35
 sub-copy-bytes-2 : tie.Need-sub-copy-bytes-2 Inv-loop μ-loop
 sub-copy-bytes-2 c = search needs
 
--- src/lib.rt:71:35
 part-copy-bytes-start-2 : tie.Need-part-copy-bytes-start-2 Inv-loop μ-loop
 part-copy-bytes-start-2 c = search needs
 
--- src/lib.rt:71:35
 part-copy-bytes-end-2 : tie.Need-part-copy-bytes-end-2 Inv-loop μ-loop
 part-copy-bytes-end-2 c = search needs
 
--- src/lib.rt:71:5
 copy-bytes-requires : tie.Need-copy-bytes-requires Inv-loop μ-loop
 copy-bytes-requires c κs = search needs
 
--- src/lib.rt:61:1
 same-length : tie.Need-same-length Inv-loop μ-loop
 same-length c = search needs
 
--- src/lib.rt:61:1
 returns : tie.Need-returns Inv-loop μ-loop
 returns c =
     let a = c .before .before .before .before .before .before .before .before .before .before .args in

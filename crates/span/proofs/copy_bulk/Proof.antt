@@ -7,31 +7,22 @@ use Prim.Native.Nat.{ℕ, _+_, _-_, _≤_, _<_, min}
 use borrow.Author.Needs.{needs}
 use Rattle.span.proofs.copy_bulk.Statement.{statement}
 use Rattle.span.proofs.copy_bulk.Tie as tie
-use Rattle.span.proofs.copy_bulk.Reads as reads
-use Rattle.span.proofs.copy_bulk.Lts as lts
-use Rattle.span.proofs.copy_bytes.Reads as copy-bytes-reads
 
--- src/lib.rt:56:16
 slice-aggregate-copy-bytes : tie.Need-slice-aggregate-copy-bytes
 slice-aggregate-copy-bytes c = search needs
 
--- src/lib.rt:56:5
 copy-bytes-requires : tie.Need-copy-bytes-requires
 copy-bytes-requires c κs = search needs
 
--- src/lib.rt:57:21
 slice-aggregate-copy-bytes-2 : tie.Need-slice-aggregate-copy-bytes-2
 slice-aggregate-copy-bytes-2 c = search needs
 
--- src/lib.rt:57:5
 copy-bytes-requires-2 : tie.Need-copy-bytes-requires-2
 copy-bytes-requires-2 c κs = search needs
 
--- src/lib.rt:51:1
 same-length : tie.Need-same-length
 same-length c = search needs
 
--- src/lib.rt:51:1
 returns : tie.Need-returns
 returns c =
     let at = c .before .before .before .before .before .before .before .before .before .before in
