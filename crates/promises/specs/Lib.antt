@@ -18,3 +18,5 @@ pub mod RunLaws
 pub mod DemandThree
 pub mod Answers
 pub mod Determined
+pub mod Kept
+pub mod DemandOne

@@ -102,7 +102,7 @@ module _ (P : ℕ) where
     )
 
     -- the frame, before and after
-    kept : (ws : List Lent) → SameFrame (s .patch) (s .full) (after P s ws .patch) (after P s ws .full)
+    pub kept : (ws : List Lent) → SameFrame (s .patch) (s .full) (after P s ws .patch) (after P s ws .full)
     kept ws =
         let e : frameOf (after P s ws) ≡ frameOf s = ap frameOf (sym (after-is s ws)) ∙ writes-frame (store P) (store-laws P) s ws in
         let p = emptied-same patchHead (after P s ws .patch) (s .patch) .0 (ap (λ (x : Areas). x .patch) e) in

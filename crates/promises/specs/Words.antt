@@ -128,3 +128,10 @@ pub data ReadGives (P : ℕ) (patch full : List ℕ) (b : ℕ) (base page : List
   payload : FrameFits P patch full base page → b < blocks patch → (bytes : List ℕ) → PatchOf (slotOf patch b) bytes → sound P bytes ≡ false
       → ReadGives P patch full b base page 7
   done : FrameFits P patch full base page → b < blocks patch → Readable P (slotOf patch b) full b → ReadGives P patch full b base page 0
+
+-- the numbers with which Build gives a block
+pub data OfBlock : ℕ → Type 0 where
+  slot-6 : OfBlock 6
+  payload-7 : OfBlock 7
+  page-8 : OfBlock 8
+  place-10 : OfBlock 10

@@ -1,0 +1,126 @@
+-- Demand 1. "Every call takes any buffers and any numbers, ends, and refuses bad input itself by a number from the table, or by an empty
+-- part where it hands a part out. A refused call changes no byte it was lent."
+--
+-- That every call takes anything and ends is what the prover checks: no call has a `requires`. The rest stands here, over the predicates
+-- that the contracts cite: where the answer's number is not 0, every lent byte is as it was, and the other numbers of the answer are 0,
+-- "except that Build gives the block with 6, 7, 8 and 10". Judge, Look up and Tally are lent nothing to write.
+use Prim.Native.Nat.{ℕ, _≤_}
+use native.Mathlib.Omega.{arith}
+use mathlib.Core.Path.{_≡_, refl, sym, ap, _∙_}
+use mathlib.Core.Logic.{_⊎_}
+use mathlib.Core.List.{List, []}
+use lib.IntN.{ℤ, pos}
+use Rattle.layout.specs.Numbers.{refusalNumber}
+use Rattle.layout.specs.Refusals.{firstOf}
+use Rattle.layout.specs.declared.Refusal.{Refusal}
+use Rattle.layout.specs.declared.Refusal.the-variants.{Page, Length, Header, Version, Block, Slot, Payload, Room, Buffer, Place, Pair}
+use Rattle.blockmap.specs.Calls.{LookedNumbers, lookedNumbers, LookUp, TalliedNumbers, talliedNumbers, Tally}
+use Rattle.blockmap.specs.declared.Looked.{Looked}
+use Rattle.blockmap.specs.declared.Looked.the-variants.{Done as LookedDone, Refused as LookedRefused}
+use Rattle.blockmap.specs.declared.Tallied.{Tallied}
+use Rattle.blockmap.specs.declared.Tallied.the-variants.{Done as TalliedDone, Refused as TalliedRefused}
+use Rattle.stream.specs.Calls.{ComparedNumbers, comparedNumbers, Compare, AppliedNumbers, appliedNumbers, Apply}
+use Rattle.stream.specs.declared.Compared.{Compared}
+use Rattle.stream.specs.declared.Compared.the-variants.{Done as ComparedDone, Refused as ComparedRefused}
+use Rattle.stream.specs.declared.Applied.{Applied}
+use Rattle.stream.specs.declared.Applied.the-variants.{Done as AppliedDone, Refused as AppliedRefused}
+use Rattle.store.specs.Format.{formattedNumber, Format}
+use Rattle.store.specs.Judge.{JudgedNumbers, judgedNumbers, Judge}
+use Rattle.store.specs.Show.{showRows, Show}
+use Rattle.store.specs.Read.{ReadNumbers, readingNumbers, Read}
+use Rattle.store.specs.Write.{WriteNumbers, writtenNumbers, Write}
+use Rattle.store.specs.Build.{BuildNumbers, builtNumbers, Build}
+use Rattle.store.specs.declared.Formatted.{Formatted}
+use Rattle.store.specs.declared.Judged.{Judged}
+use Rattle.store.specs.declared.Judged.the-variants.{Done as JudgedDone, Refused as JudgedRefused}
+use Rattle.store.specs.declared.Reading.{Reading}
+use Rattle.store.specs.declared.Reading.the-variants.{Done as ReadingDone, Refused as ReadingRefused}
+use Rattle.store.specs.declared.Written.{Written}
+use Rattle.store.specs.declared.Written.the-variants.{Done as WrittenDone, Refused as WrittenRefused}
+use Rattle.store.specs.declared.Built.{Built}
+use Rattle.promises.specs.Words.{OfBlock}
+use Rattle.promises.specs.Kept.{format-kept, compare-kept, apply-kept, show-kept, read-kept, write-kept, build-kept}
+
+-- a refusal is a number from the table
+pub from-the-table : (r : Refusal) → (1 ≤ refusalNumber r) × (refusalNumber r ≤ 11)
+from-the-table Page = (omega arith, omega arith)
+from-the-table Length = (omega arith, omega arith)
+from-the-table Header = (omega arith, omega arith)
+from-the-table Version = (omega arith, omega arith)
+from-the-table Block = (omega arith, omega arith)
+from-the-table Slot = (omega arith, omega arith)
+from-the-table Payload = (omega arith, omega arith)
+from-the-table Room = (omega arith, omega arith)
+from-the-table Buffer = (omega arith, omega arith)
+from-the-table Place = (omega arith, omega arith)
+from-the-table Pair = (omega arith, omega arith)
+
+module _ (P : ℕ) where
+  -- Every lent byte is as it was
+
+  pub format-keeps : (patch full : List ℕ) (a : Formatted) (p f : List ℕ) → Format P patch full a p f → (formattedNumber a ≡ 0 → ⊥) → (p ≡ patch) × (f ≡ full)
+  format-keeps patch full a p f x h =
+      let k = format-kept P patch full (λ e. h (x .numbers ∙ e)) in
+      (x .patch-bytes ∙ k .0, x .full-bytes ∙ k .1)
+
+  pub compare-keeps : (base page buffer : List ℕ) (a : Compared) (after : List ℕ) → Compare P base page buffer a after
+      → (comparedNumbers a .number ≡ 0 → ⊥) → after ≡ buffer
+  compare-keeps base page buffer a after x h =
+      x .bytes ∙ compare-kept P base page buffer (λ e. h (ap (λ (n : ComparedNumbers). n .number) (x .numbers) ∙ e))
+
+  pub apply-keeps : (base payload page : List ℕ) (a : Applied) (after : List ℕ) → Apply P base payload page a after
+      → (appliedNumbers a .number ≡ 0 → ⊥) → after ≡ page
+  apply-keeps base payload page a after x h =
+      x .bytes ∙ apply-kept P base payload page (λ e. h (ap (λ (n : AppliedNumbers). n .number) (x .numbers) ∙ e))
+
+  -- "an empty part where it hands a part out"
+  pub show-hands-nothing : (patch : List ℕ) (b : ℕ) (shown : List ℕ) → Show P patch b shown → (firstOf (showRows P patch b) ≡ 0 → ⊥) → shown ≡ []
+  show-hands-nothing patch b shown x h = x .bytes ∙ show-kept P patch b h
+
+  pub read-keeps : (patch full : List ℕ) (b : ℕ) (base page : List ℕ) (a : Reading) (after : List ℕ) → Read P patch full b base page a after
+      → (readingNumbers a .number ≡ 0 → ⊥) → after ≡ page
+  read-keeps patch full b base page a after x h =
+      x .bytes ∙ read-kept P patch full b base page (λ e. h (ap (λ (n : ReadNumbers). n .number) (x .numbers) ∙ e))
+
+  pub write-keeps : (patch full : List ℕ) (b : ℕ) (base page : List ℕ) (a : Written) (p f : List ℕ) → Write P patch full b base page a p f
+      → (writtenNumbers a .number ≡ 0 → ⊥) → (p ≡ patch) × (f ≡ full)
+  write-keeps patch full b base page a p f x h =
+      let k = write-kept P patch full b base page (λ e. h (ap (λ (n : WriteNumbers). n .number) (x .numbers) ∙ e)) in
+      (x .patch-bytes ∙ k .0, x .full-bytes ∙ k .1)
+
+  pub build-keeps : (patch full map : List ℕ) (a : Built) (after : List ℕ) → Build P patch full map a after
+      → (builtNumbers a .number ≡ 0 → ⊥) → (after ≡ map) × ((builtNumbers a .block ≡ 0) ⊎ OfBlock (builtNumbers a .number))
+  build-keeps patch full map a after x h =
+      let k = build-kept P patch full map (λ e. h (ap (λ (n : BuildNumbers). n .number) (x .numbers) ∙ e)) in
+      (x .bytes ∙ k .0, rw (x .numbers) (k .1))
+
+-- and the other numbers of the answer are 0
+
+pub compare-zeros : (a : Compared) → (comparedNumbers a .number ≡ 0 → ⊥)
+    → comparedNumbers a ≡ record { number = comparedNumbers a .number; kind = 0; length = 0; entries = 0; last = pos 0 }
+compare-zeros (ComparedDone k n e l) h = absurd (h refl)
+compare-zeros (ComparedRefused r) h = refl
+
+pub apply-zeros : (a : Applied) → (appliedNumbers a .number ≡ 0 → ⊥) → appliedNumbers a ≡ record { number = appliedNumbers a .number; entries = 0; last = pos 0 }
+apply-zeros (AppliedDone e l) h = absurd (h refl)
+apply-zeros (AppliedRefused r) h = refl
+
+pub judge-zeros : (a : Judged) → (judgedNumbers a .number ≡ 0 → ⊥) → judgedNumbers a ≡ record { number = judgedNumbers a .number; kind = 0; length = 0 }
+judge-zeros (JudgedDone k n) h = absurd (h refl)
+judge-zeros (JudgedRefused r) h = refl
+
+pub read-zeros : (a : Reading) → (readingNumbers a .number ≡ 0 → ⊥) → readingNumbers a ≡ record { number = readingNumbers a .number; kind = 0 }
+read-zeros (ReadingDone k) h = absurd (h refl)
+read-zeros (ReadingRefused r) h = refl
+
+pub write-zeros : (a : Written) → (writtenNumbers a .number ≡ 0 → ⊥) → writtenNumbers a ≡ record { number = writtenNumbers a .number; kind = 0; length = 0 }
+write-zeros (WrittenDone k n) h = absurd (h refl)
+write-zeros (WrittenRefused r) h = refl
+
+pub look-up-zeros : (a : Looked) → (lookedNumbers a .number ≡ 0 → ⊥) → lookedNumbers a ≡ record { number = lookedNumbers a .number; pair = 0 }
+look-up-zeros (LookedDone p) h = absurd (h refl)
+look-up-zeros (LookedRefused r) h = refl
+
+pub tally-zeros : (a : Tallied) → (talliedNumbers a .number ≡ 0 → ⊥) → talliedNumbers a ≡ record { number = talliedNumbers a .number; patch = 0; full = 0 }
+tally-zeros (TalliedDone p f) h = absurd (h refl)
+tally-zeros (TalliedRefused r) h = refl

@@ -1,0 +1,63 @@
+// A run of writes from lent buffers, each on the areas that the ones before it left. What is proved of runs is so of this loop.
+use layout::Layout;
+use store::Written;
+ghost use mathlib.Core.Path.{_≡_};
+ghost use Prim.Native.Nat.{_*_};
+ghost use lib.ListN.{set};
+ghost use Rattle.span.specs.Bytes.{part};
+ghost use Rattle.layout.specs.Sizes.{pageSize};
+ghost use Rattle.replay.specs.Writes.{Turned, Replayed};
+
+// The i-th of pages that stand one after the other, or as much of it as there is.
+fn nth_page(pages: &[u8], i: usize) -> &[u8]
+    ensures { λ r. ⌜ now r ≡ part (pageSize * i) pageSize (now (pages .entry)) ⌝ }
+{
+    if pages.len() / Layout::PAGE < i {
+        return &pages[0..0];
+    }
+    span::part(pages, Layout::PAGE * i, Layout::PAGE)
+}
+
+// One write of a run: 1 if it is accepted, 0 if it is refused.
+fn turn(patch: &mut [u8], full: &mut [u8], block: u64, base: &[u8], page: &[u8]) -> u8
+    ensures { λ r. ⌜ Turned pageSize (now (patch .entry)) (now (full .entry)) block (now (base .entry)) (now (page .entry)) r (now (patch .exit)) (now (full .exit)) ⌝ }
+{
+    match store::write::write(patch, full, block as usize, base, page) {
+        Written::Done { kind: _, length: _ } => 1,
+        Written::Refused(_) => 0,
+    }
+}
+
+// Stores a mark, if there is room for it.
+fn note(marks: &mut [u8], i: usize, mark: u8)
+    ensures { λ _. ⌜ now (marks .exit) ≡ set (now (marks .entry)) i mark ⌝ }
+{
+    if i < marks.len() {
+        marks[i] = mark;
+    }
+}
+
+// Makes the i-th write with the i-th block number and the i-th page of `bases` and of `pages`; as many writes as there are block
+// numbers. Marks 1 for an accepted write and 0 for a refused one, as far as `marks` goes, and answers how many were accepted.
+pub fn replay(
+    patch: &mut [u8],
+    full: &mut [u8],
+    blocks: &[u64],
+    bases: &[u8],
+    pages: &[u8],
+    marks: &mut [u8],
+) -> usize
+    ensures { λ r. ⌜ Replayed pageSize (now (patch .entry)) (now (full .entry)) (now (blocks .entry)) (now (bases .entry)) (now (pages .entry)) (now (marks .entry)) r (now (patch .exit)) (now (full .exit)) (now (marks .exit)) ⌝ }
+{
+    let mut accepted: usize = 0;
+    let mut i = 0;
+    while i < blocks.len() {
+        let base = nth_page(bases, i);
+        let page = nth_page(pages, i);
+        let mark = turn(patch, full, blocks[i], base, page);
+        note(marks, i, mark);
+        accepted += mark as usize;
+        i += 1;
+    }
+    accepted
+}
