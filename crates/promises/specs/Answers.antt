@@ -1,7 +1,6 @@
 -- The numbers of an answer determine the code's own enum, for each call of the store.
-use Prim.Native.Nat.{ℕ}
-use mathlib.Core.Path.{_≡_, refl, sym, ap, _∙_}
-use Rattle.layout.specs.Numbers.{kindNumber, refusalNumber, kind-one, refusal-one, refusal-some}
+use mathlib.Core.Path.{_≡_, refl, sym, ap}
+use Rattle.layout.specs.Numbers.{kind-one, refusal-one, refusal-some}
 use Rattle.store.specs.Format.{formattedNumber}
 use Rattle.store.specs.Judge.{JudgedNumbers, judgedNumbers}
 use Rattle.store.specs.Read.{ReadNumbers, readingNumbers}

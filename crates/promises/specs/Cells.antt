@@ -3,8 +3,8 @@ use Prim.Native.Nat.{ℕ, zero, suc, _+_, _-_, _*_, _≤_, _<_, min}
 use native.Mathlib.Omega.{arith}
 use native.Mathlib.Nat.{mul-le-mul-left, mul-suc, mul-zero}
 use native.Mathlib.Decide.{decLt}
-use mathlib.Core.Path.{_≡_, refl, sym, ap, _∙_}
-use mathlib.Core.List.{List, [], _∷_, _++_, append-nil}
+use mathlib.Core.Path.{_≡_, sym, ap, _∙_}
+use mathlib.Core.List.{List, [], _++_, append-nil}
 use mathlib.Core.Logic.{_↔_}
 use lib.ListN.{length, length-append, take}
 use lib.Seq.{take-all}
@@ -18,9 +18,6 @@ step size b c h = let q : size * suc b ≡ size * b + size = mul-suc size b in l
 module _ (area : List ℕ) (head size count : ℕ) (l : length area ≡ head + size * count) where
   pub cell-within : (b : ℕ) → b < count → head + size * b + size ≤ length area
   cell-within b h = let s : size * b + size ≤ size * count = step size b count h in omega arith
-
-  pub cell-past : (b : ℕ) → count ≤ b → part (head + size * b) size area ≡ []
-  cell-past b h = let m : size * count ≤ size * b = mul-le-mul-left size h in part-past (head + size * b) size area (omega arith)
 
   module _ (b : ℕ) (h : b < count) (image : List ℕ) (k : length image ≡ size) where
     pub put-length : length (splice area (head + size * b) image) ≡ length area

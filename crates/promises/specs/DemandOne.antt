@@ -6,15 +6,15 @@
 -- "except that Build gives the block with 6, 7, 8 and 10". Judge, Look up and Tally are lent nothing to write.
 use Prim.Native.Nat.{ℕ, _≤_}
 use native.Mathlib.Omega.{arith}
-use mathlib.Core.Path.{_≡_, refl, sym, ap, _∙_}
+use mathlib.Core.Path.{_≡_, refl, ap, _∙_}
 use mathlib.Core.Logic.{_⊎_}
 use mathlib.Core.List.{List, []}
-use lib.IntN.{ℤ, pos}
+use lib.IntN.{pos}
 use Rattle.layout.specs.Numbers.{refusalNumber}
 use Rattle.layout.specs.Refusals.{firstOf}
 use Rattle.layout.specs.declared.Refusal.{Refusal}
 use Rattle.layout.specs.declared.Refusal.the-variants.{Page, Length, Header, Version, Block, Slot, Payload, Room, Buffer, Place, Pair}
-use Rattle.blockmap.specs.Calls.{LookedNumbers, lookedNumbers, LookUp, TalliedNumbers, talliedNumbers, Tally}
+use Rattle.blockmap.specs.Calls.{lookedNumbers, talliedNumbers}
 use Rattle.blockmap.specs.declared.Looked.{Looked}
 use Rattle.blockmap.specs.declared.Looked.the-variants.{Done as LookedDone, Refused as LookedRefused}
 use Rattle.blockmap.specs.declared.Tallied.{Tallied}
@@ -25,7 +25,7 @@ use Rattle.stream.specs.declared.Compared.the-variants.{Done as ComparedDone, R
 use Rattle.stream.specs.declared.Applied.{Applied}
 use Rattle.stream.specs.declared.Applied.the-variants.{Done as AppliedDone, Refused as AppliedRefused}
 use Rattle.store.specs.Format.{formattedNumber, Format}
-use Rattle.store.specs.Judge.{JudgedNumbers, judgedNumbers, Judge}
+use Rattle.store.specs.Judge.{judgedNumbers}
 use Rattle.store.specs.Show.{showRows, Show}
 use Rattle.store.specs.Read.{ReadNumbers, readingNumbers, Read}
 use Rattle.store.specs.Write.{WriteNumbers, writtenNumbers, Write}

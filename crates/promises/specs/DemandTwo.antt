@@ -8,7 +8,7 @@
 use Prim.Native.Nat.{ℕ, _≤_, _<_}
 use mathlib.Core.Path.{_≡_}
 use mathlib.Core.Bool.{true, false}
-use mathlib.Core.Logic.{_↔_}
+use mathlib.Core.Logic.{_↔_, _⊎_}
 use mathlib.Core.List.{List, []}
 use lib.Dec.{lit≤}
 use lib.ListN.{length}
@@ -20,10 +20,10 @@ use Rattle.stream.specs.Calls.{pageOf}
 use Rattle.store.specs.Frame.{slotOf, placeOf}
 use Rattle.store.specs.Read.{ReadOutcome, readOutcome}
 use Rattle.store.specs.Write.{WriteOutcome, writeOutcome}
-use Rattle.promises.specs.Words.{blocks, places, FrameFits, PatchOf, Large, streamOf, Stored, WriteGives, ReadGives}
+use Rattle.promises.specs.Words.{blocks, places, FrameFits, PatchOf, SoundSlot, Large, streamOf, Stored, WriteGives, ReadGives}
 use Rattle.promises.specs.Tables.{write-table, read-table}
 use Rattle.promises.specs.StoreLaws.{write-stored}
-use Rattle.promises.specs.ReadLaws.{reads-empty, reads-patch, reads-unsound, reads-full, reads-missing, zero-bases}
+use Rattle.promises.specs.ReadLaws.{reads-empty, reads-patch, reads-unsound, reads-full, reads-missing, reads-sound, zero-bases}
 use Rattle.promises.specs.WriteLaws.{write-length, kind-empty, kind-patch, kind-full, no-room, reads-back, others-read}
 
 module _ (patch full : List ℕ) (b : ℕ) (base page : List ℕ) where
@@ -93,6 +93,10 @@ module _ (patch full : List ℕ) (b : ℕ) (base page : List ℕ) where
 
     pub full-slot-8 : slotOf patch b ≡ fullSlot → places pageSize full ≤ b → read ≡ record { number = 8; kind = 0; page = page }
     full-slot-8 = reads-missing pageSize patch full b base page fits below
+
+    -- "unless its payload is unsound or its full page missing": no other number is given for a sound slot
+    pub sound-slot : SoundSlot (slotOf patch b) → (read .number ≡ 0) ⊎ (read .number ≡ 7) ⊎ (read .number ≡ 8)
+    sound-slot = reads-sound pageSize patch full b base page fits below
 
 -- a base of 0 bytes and one of 8,192 zeros are one base page
 pub zero-base : pageOf pageSize [] ≡ pageOf pageSize (zeros pageSize)

@@ -1,6 +1,5 @@
 -- "The answer and every lent byte after a call follow from the inputs, refusals too": two outcomes that both meet a call's predicate, which
--- is what its contract cites, have the same answer, the code's own enum, and the same bytes. One statement a call; Build's is
--- `build-one` in `store`. Of Show the bytes are determined; where an empty part lies cannot be told (docs/PROMISES.md, O1).
+-- is what its contract cites, have the same answer, the code's own enum, and the same bytes. One statement a call. Of Show the bytes are determined; where an empty part lies cannot be told (docs/PROMISES.md, O1).
 use Prim.Native.Nat.{ℕ}
 use mathlib.Core.Path.{_≡_, sym, _∙_}
 use mathlib.Core.List.{List}
@@ -17,6 +16,9 @@ use Rattle.store.specs.Judge.{Judge}
 use Rattle.store.specs.Show.{Show}
 use Rattle.store.specs.Read.{Read}
 use Rattle.store.specs.Write.{Write}
+use Rattle.store.specs.Build.{Build}
+use Rattle.store.specs.BuildMeaning.{build-one}
+use Rattle.store.specs.declared.Built.{Built}
 use Rattle.store.specs.declared.Formatted.{Formatted}
 use Rattle.store.specs.declared.Judged.{Judged}
 use Rattle.store.specs.declared.Reading.{Reading}
@@ -48,6 +50,9 @@ module _ (P : ℕ) where
       → Write P patch full n base page a p f → Write P patch full n base page b q g → (a ≡ b) × (p ≡ q) × (f ≡ g)
   one-write patch full n base page a b p q f g x y =
       (written-one a b (x .numbers ∙ sym (y .numbers)), x .patch-bytes ∙ sym (y .patch-bytes), x .full-bytes ∙ sym (y .full-bytes))
+
+  pub one-build : (patch full map : List ℕ) (a b : Built) (p q : List ℕ) → Build P patch full map a p → Build P patch full map b q → (a ≡ b) × (p ≡ q)
+  one-build = build-one P
 
   pub one-look-up : (map : List ℕ) (n b : ℕ) (x y : Looked) → LookUp P map n b x → LookUp P map n b y → x ≡ y
   one-look-up = look-up-one P

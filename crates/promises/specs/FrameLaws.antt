@@ -1,27 +1,25 @@
 -- The refusals that come before any block, from the rows of the definitions to the words of the demands and back.
-use Prim.Native.Nat.{ℕ, zero, suc, _+_, _-_, _*_, _≤_, _<_, min}
+use Prim.Native.Nat.{ℕ, _-_, _≤_}
 use native.Mathlib.Omega.{arith}
-use native.Mathlib.Nat.{mul-le-mul-left}
-use mathlib.Core.Path.{_≡_, refl, sym, ap, _∙_}
-use mathlib.Core.Bool.{Bool, true, false, not, _&&_, _||_, cond, true≢false, false≢true, or-true}
+use mathlib.Core.Path.{_≡_, refl, sym, _∙_}
+use mathlib.Core.Bool.{Bool, true, false, not, _&&_, _||_, cond, true≢false, or-true}
 use mathlib.Core.Logic.{_⊎_, inl, inr, _↔_}
-use mathlib.Core.List.{List, [], _∷_, _++_}
-use lib.Dec.{eqb, leb}
-use lib.ListN.{length, length-append}
-use borrow.Author.Tests.{eq-eqb, ne-eqb, eqb-true, eqb-false, leb-true, le-leb}
-use Rattle.span.specs.Bytes.{zeros, part, same}
-use Rattle.span.specs.Laws.{zeros-length, part-join, part-part, part-short, part-whole, same-is, same-true, same-false, and-left, and-right}
-use Rattle.layout.specs.Sizes.{patchHead, fullHead, slotAt, pageAt, versionAt, restAt, blocksAtMost}
-use Rattle.layout.specs.Numbers.{le}
-use Rattle.layout.specs.Refusals.{Row, _⇐_, firstOf, orElse, first-append, or-some, or-skip}
-use Rattle.layout.specs.Headers.{patchHeader, fullHeader, patchFields, fullFields, header, headRows, patchHeadRows, fullHeadRows, headerRows, headers-none, headers-patch, headers-full}
-use Rattle.layout.specs.Areas.{blocksIn, pagesIn, patchFits, fullFits, lengthRows, patch-fits-is, full-fits-is}
-use Rattle.layout.specs.Meaning.{patch-header-length, full-header-length, head-none, head-like, headers-sound, sound-headers, fits-full}
+use mathlib.Core.List.{List, [], _∷_}
+use lib.Dec.{eqb}
+use lib.ListN.{length}
+use borrow.Author.Tests.{eq-eqb, eqb-true, eqb-false, le-leb}
+use Rattle.span.specs.Bytes.{part, same}
+use Rattle.span.specs.Laws.{same-is, same-true, same-false, and-left, and-right}
+use Rattle.layout.specs.Sizes.{patchHead, fullHead, slotAt, versionAt, restAt, blocksAtMost}
+use Rattle.layout.specs.Refusals.{_⇐_, firstOf, orElse}
+use Rattle.layout.specs.Headers.{patchHeader, fullHeader, headRows, patchHeadRows, fullHeadRows, headerRows, headers-none, headers-patch, headers-full}
+use Rattle.layout.specs.Areas.{patchFits, fullFits, lengthRows, patch-fits-is, full-fits-is}
+use Rattle.layout.specs.Meaning.{patch-header-length, head-none, head-like, headers-sound, sound-headers, fits-full}
 use Rattle.stream.specs.Calls.{pagesFit, pageRows}
 use Rattle.stream.specs.Laws.{page-length, base-length}
 use Rattle.store.specs.Frame.{frameRows}
 use Rattle.promises.specs.Cells.{emptied, emptied-part, emptied-length, emptied-same}
-use Rattle.promises.specs.Words.{blocks, places, PagesFit, LengthsFit, HeadersFit, HeadRefuses, magic, version, rest, FrameRefuses, pages, lengths, patch-head, full-head, FrameFits, SameFrame}
+use Rattle.promises.specs.Words.{blocks, PagesFit, LengthsFit, HeadersFit, HeadRefuses, magic, version, rest, FrameRefuses, pages, lengths, patch-head, full-head, FrameFits, SameFrame}
 
 -- A test that tells whether a statement holds
 
@@ -35,10 +33,10 @@ pub no-tells : {A : Type 0} (t : Bool) → Tells t A → (A → ⊥) → t ≡ f
 no-tells true T h = absurd (h (T .0 refl))
 no-tells false T h = refl
 
-pub tells-same : (xs ys : List ℕ) → Tells (same xs ys) (xs ≡ ys)
+tells-same : (xs ys : List ℕ) → Tells (same xs ys) (xs ≡ ys)
 tells-same xs ys = (same-is xs ys, same-true xs ys)
 
-pub tells-pages : (P : ℕ) (base page : List ℕ) → Tells (pagesFit P base page) (PagesFit P base page)
+tells-pages : (P : ℕ) (base page : List ℕ) → Tells (pagesFit P base page) (PagesFit P base page)
 unfolding pagesFit
 tells-pages P base page = (there, λ h. rw (eq-eqb (length page) P (h .page-length)) (back (h .base-length)))
   where
@@ -157,7 +155,7 @@ module _ (P : ℕ) (patch full base page : List ℕ) where
   unfoldable pub frameNumber : ℕ
   frameNumber = firstOf (frameRows P (pageRows P base page) [] patch full)
 
-  pub frame-number : frameNumber ≡ cond (pagesFit P base page) (cond (lengthsFit P patch full) (firstOf (headerRows P patch full)) 2) 1
+  frame-number : frameNumber ≡ cond (pagesFit P base page) (cond (lengthsFit P patch full) (firstOf (headerRows P patch full)) 2) 1
   unfolding frameNumber frameRows firstOf orElse lengthRows
   frame-number = go (pagesFit P base page) (lengthsFit P patch full)
     where

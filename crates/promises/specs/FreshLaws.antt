@@ -1,29 +1,29 @@
 -- What Format leaves: sound lengths and headers, and every block blank.
-use Prim.Native.Nat.{ℕ, zero, suc, _+_, _-_, _*_, _≤_, _<_}
+use Prim.Native.Nat.{ℕ, _+_, _-_, _*_, _≤_, _<_}
 use native.Mathlib.Omega.{arith}
-use mathlib.Core.Path.{_≡_, refl, sym, ap, _∙_, subst}
+use mathlib.Core.Path.{_≡_, refl, sym, ap, _∙_}
 use mathlib.Core.Bool.{Bool, true, false, cond}
 use mathlib.Core.Logic.{_⊎_, inl, inr}
-use mathlib.Core.List.{List, [], _∷_, _++_}
+use mathlib.Core.List.{List, _++_}
 use lib.Dec.{eqb, ltb}
-use lib.ListN.{length, take, drop}
+use lib.ListN.{length, take}
 use lib.Seq.{drop-append-add}
-use borrow.Author.Tests.{ltb-true, eq-eqb, ne-eqb, eqb-true, eqb-false}
+use borrow.Author.Tests.{ltb-true, ne-eqb, eqb-true, eqb-false}
 use Rattle.span.specs.Bytes.{zeros, part}
-use Rattle.span.specs.Laws.{zeros-length, part-zeros, part-first, part-whole}
+use Rattle.span.specs.Laws.{part-zeros, part-first, part-whole}
 use Rattle.layout.specs.Sizes.{patchHead, fullHead, slotSize, slotAt, pageAt}
 use Rattle.layout.specs.Headers.{patchHeader, fullHeader}
 use Rattle.layout.specs.Slots.{emptySlot}
-use Rattle.layout.specs.Areas.{blocksIn, pagesIn, freshPatch, freshFull, fresh-patch-length, fresh-full-length}
+use Rattle.layout.specs.Areas.{freshPatch, freshFull, fresh-patch-length, fresh-full-length}
 use Rattle.layout.specs.Meaning.{patch-header-length, full-header-length}
 use Rattle.store.specs.Frame.{slotOf, placeOf}
 use Rattle.store.specs.Format.{FormatOutcome, formatOutcome, format-refused, format-done}
-use Rattle.promises.specs.Words.{blocks, places, LengthsFit, HeadersFit, SameFrame}
+use Rattle.promises.specs.Words.{blocks, places, LengthsFit, HeadersFit}
 use Rattle.promises.specs.FrameLaws.{lengthsFit, tells-lengths, lengths-by}
 use Rattle.promises.specs.Cells.{cell-within}
 use Rattle.promises.specs.StoreLaws.{place-cells}
 use Rattle.promises.specs.RunWords.{Areas, FreshAreas}
-use Rattle.promises.specs.RunStore.{Cell, cellAt}
+use Rattle.promises.specs.RunStore.{cellAt}
 
 -- a part of zeros that follow a header
 after-head : (xs : List ℕ) (head at n k : ℕ) → length xs ≡ head → at + n ≤ k → part (head + at) n (xs ++ zeros k) ≡ zeros n
@@ -32,7 +32,7 @@ after-head xs head at n k e h =
     ap (λ (j : ℕ). part (j + at) n (xs ++ zeros k)) (sym e) ∙ ap (take n) (drop-append-add xs (zeros k) at) ∙ part-zeros at n k h
 
 -- Format's number is that of the lengths alone
-pub format-fits : (P : ℕ) (patch full : List ℕ) → formatOutcome P patch full .number ≡ 0 → lengthsFit P patch full ≡ true
+format-fits : (P : ℕ) (patch full : List ℕ) → formatOutcome P patch full .number ≡ 0 → lengthsFit P patch full ≡ true
 format-fits P patch full e = go (lengthsFit P patch full) refl
   where
     go : (t : Bool) → lengthsFit P patch full ≡ t → t ≡ true

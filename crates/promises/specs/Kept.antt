@@ -1,7 +1,7 @@
 -- A refused outcome leaves every lent byte as it was, call by call, over the definitions.
 use Prim.Native.Nat.{ℕ, zero, suc, _+_}
 use native.Mathlib.Omega.{arith}
-use mathlib.Core.Path.{_≡_, refl, sym, ap, _∙_}
+use mathlib.Core.Path.{_≡_, refl, ap, _∙_}
 use mathlib.Core.Bool.{Bool, true, false, not, _&&_}
 use mathlib.Core.Logic.{_⊎_, inl, inr}
 use mathlib.Core.List.{List, [], _∷_}
@@ -9,11 +9,11 @@ use lib.Dec.{eqb, leb, ltb}
 use lib.ListN.{length}
 use Rattle.span.specs.Bytes.{zeros, part, splice, same}
 use Rattle.span.specs.Laws.{part-none}
-use Rattle.layout.specs.Refusals.{Row, _⇐_, firstOf, orElse, decided, ordered, decided-refused}
-use Rattle.layout.specs.Slots.{SlotNumbers, slotNumbers, payloadOf}
+use Rattle.layout.specs.Refusals.{_⇐_, firstOf, orElse, decided, ordered, decided-refused}
+use Rattle.layout.specs.Slots.{slotNumbers, payloadOf}
 use Rattle.layout.specs.Areas.{blocksIn, pagesIn}
 use Rattle.stream.specs.Entries.{sound}
-use Rattle.stream.specs.Calls.{ComparedNumbers, compareRows, compareNumbers, compareBuffer, AppliedNumbers, applyRows, applyNumbers, applyPage}
+use Rattle.stream.specs.Calls.{compareRows, compareNumbers, compareBuffer, AppliedNumbers, applyRows, applyNumbers, applyPage}
 use Rattle.stream.specs.Laws.{compare-not, apply-done, apply-not}
 use Rattle.stream.specs.Kinds.{compare-gives}
 use Rattle.store.specs.Frame.{slotOf, placeOf}
@@ -21,7 +21,7 @@ use Rattle.store.specs.Format.{FormatOutcome, formatRows, formatOutcome}
 use Rattle.store.specs.Show.{showRows, showPlace}
 use Rattle.store.specs.Read.{slotRows, fullRows, payloadRows, ReadOutcome, readRows, readOutcome}
 use Rattle.store.specs.Write.{WriteOutcome, writeOutcome}
-use Rattle.store.specs.Build.{placeRows, blockFault, BlockFault, firstFault, BuildOutcome, buildRows, builtMap, buildOutcome}
+use Rattle.store.specs.Build.{placeRows, blockFault, firstFault, BuildOutcome, buildRows, builtMap, buildOutcome}
 use Rattle.store.specs.declared.Place.{Place}
 use Rattle.promises.specs.Words.{OfBlock, slot-6, payload-7, page-8, place-10}
 use Rattle.promises.specs.StoreLaws.{write-not}

@@ -20,3 +20,5 @@ pub mod Answers
 pub mod Determined
 pub mod Kept
 pub mod DemandOne
+pub mod Sample
+pub mod Wrong

@@ -1,25 +1,23 @@
 -- What Read gives: by the slot, after a write, and at every other block.
-use Prim.Native.Nat.{ℕ, zero, suc, _≤_, _<_}
+use Prim.Native.Nat.{ℕ, _≤_, _<_}
 use native.Mathlib.Omega.{arith}
 use native.Mathlib.Decide.{decLt}
-use mathlib.Core.Path.{_≡_, refl, sym, ap, _∙_, subst}
-use mathlib.Core.Bool.{Bool, true, false, cond}
-use mathlib.Core.Logic.{_⊎_, inl, inr, _↔_}
-use mathlib.Core.List.{List, [], _∷_, _++_}
-use lib.Dec.{eqb}
+use mathlib.Core.Path.{_≡_, refl, sym, ap, _∙_}
+use mathlib.Core.Bool.{Bool, true, false}
+use mathlib.Core.Logic.{_⊎_, inl, inr}
+use mathlib.Core.List.{List, []}
 use lib.ListN.{length}
 use Rattle.span.specs.Bytes.{zeros}
-use Rattle.layout.specs.Sizes.{room}
 use Rattle.layout.specs.Refusals.{firstOf, decided-done, decided-refused}
-use Rattle.layout.specs.Slots.{emptySlot, patchSlot, fullSlot, payloadOf, SlotNumbers, soundSlot, slotNumbers}
+use Rattle.layout.specs.Slots.{emptySlot, fullSlot, SlotNumbers, soundSlot, slotNumbers}
 use Rattle.layout.specs.Meaning.{empty-numbers, full-numbers}
 use Rattle.stream.specs.Entries.{payloadStream, sound, applied}
 use Rattle.stream.specs.Calls.{pageOf}
 use Rattle.stream.specs.Laws.{base-none, base-some}
 use Rattle.stream.specs.ReadBack.{Back, read-back}
 use Rattle.store.specs.Frame.{slotOf, placeOf}
-use Rattle.store.specs.Read.{readRows, contents, ReadOutcome, readOutcome}
-use Rattle.promises.specs.Words.{blocks, places, PagesFit, FrameFits, PatchOf, Large, streamOf, StoredAs, Readable, ReadGives}
+use Rattle.store.specs.Read.{readRows, contents, readOutcome}
+use Rattle.promises.specs.Words.{blocks, places, PagesFit, FrameFits, PatchOf, SoundSlot, Large, streamOf, StoredAs, Readable, ReadGives}
 use Rattle.promises.specs.SlotLaws.{patch-of}
 use Rattle.promises.specs.Tables.{read-number, read-table}
 use Rattle.promises.specs.StoreLaws.{base-page-length}
@@ -32,7 +30,7 @@ module _ (P : ℕ) (patch full : List ℕ) (b : ℕ) (base page : List ℕ) wher
       decided-done _ _ (firstOf (readRows P patch full b base page)) (sym (read-number P patch full b base page) ∙ e)
       ∙ ap (λ (y : SlotNumbers). record { number = 0; kind = y .kind; page = contents P patch full b base }) q
 
-  pub read-not : (k : ℕ) → readOutcome P patch full b base page .number ≡ k → (k ≡ 0 → ⊥)
+  read-not : (k : ℕ) → readOutcome P patch full b base page .number ≡ k → (k ≡ 0 → ⊥)
       → readOutcome P patch full b base page ≡ record { number = k; kind = 0; page = page }
   unfolding readOutcome
   read-not k e h = decided-refused _ _ (firstOf (readRows P patch full b base page)) k (sym (read-number P patch full b base page) ∙ e) h
@@ -66,6 +64,21 @@ module _ (P : ℕ) (patch full : List ℕ) (b : ℕ) (base page : List ℕ) wher
 
     pub reads-missing : slotOf patch b ≡ fullSlot → places P full ≤ b → readOutcome P patch full b base page ≡ record { number = 8; kind = 0; page = page }
     reads-missing e m = read-not 8 (gives 8 (ReadGives.no-room fits below e m)) (λ z. omega arith)
+
+    -- a sound slot is refused for its payload or for its full page alone
+    pub reads-sound : SoundSlot (slotOf patch b) → (readOutcome P patch full b base page .number ≡ 0) ⊎ (readOutcome P patch full b base page .number ≡ 7) ⊎ (readOutcome P patch full b base page .number ≡ 8)
+    reads-sound (SoundSlot.empty e) = inl (gives 0 (ReadGives.done fits below (Readable.empty e)))
+    reads-sound (SoundSlot.patch payload p) = go (sound P payload) refl
+      where
+        go : (t : Bool) → sound P payload ≡ t
+            → (readOutcome P patch full b base page .number ≡ 0) ⊎ (readOutcome P patch full b base page .number ≡ 7) ⊎ (readOutcome P patch full b base page .number ≡ 8)
+        go true u = inl (gives 0 (ReadGives.done fits below (Readable.patch payload p u)))
+        go false u = inr (inl (gives 7 (ReadGives.payload fits below payload p u)))
+    reads-sound (SoundSlot.full e) =
+        elim (decLt b (places P full)) [
+          | yes m ↦ inl (gives 0 (ReadGives.done fits below (Readable.full e m)))
+          | no m ↦ inr (inr (gives 8 (ReadGives.no-room fits below e (omega arith))))
+        ]
 
 -- a block that is stored as a page over a base reads so over that base page, in either form
 pub stored-reads : {k : ℕ} {s c : List ℕ} (P : ℕ) (small : P ≤ 65536) (base page : List ℕ) → PagesFit P base page → StoredAs P base page k s c

@@ -1,17 +1,16 @@
 -- Build accepts areas whose every block is stored as some page over some base.
-use Prim.Native.Nat.{ℕ, zero, suc, _+_, _-_, _≤_, _<_}
+use Prim.Native.Nat.{ℕ, zero, suc, _+_, _≤_, _<_}
 use native.Mathlib.Omega.{arith}
 use native.Mathlib.Decide.{decLt}
-use mathlib.Core.Path.{_≡_, refl, sym, ap, _∙_}
-use mathlib.Core.Bool.{Bool, true, false, not}
-use mathlib.Core.List.{List, []}
-use lib.Dec.{ltb}
+use mathlib.Core.Path.{_≡_, refl, ap, _∙_}
+use mathlib.Core.Bool.{true}
+use mathlib.Core.List.{List}
 use lib.ListN.{length}
 use borrow.Author.Tests.{le-ltb}
 use Rattle.span.specs.Bytes.{zeros, splice}
 use Rattle.span.specs.Laws.{same-true}
-use Rattle.layout.specs.Refusals.{Row, _⇐_, firstOf, orElse, decided-done}
-use Rattle.layout.specs.Slots.{emptySlot, soundSlot, slotNumbers, payloadOf}
+use Rattle.layout.specs.Refusals.{firstOf, orElse, decided-done}
+use Rattle.layout.specs.Slots.{emptySlot, slotNumbers}
 use Rattle.layout.specs.Meaning.{empty-numbers, full-numbers}
 use Rattle.layout.specs.Areas.{lengthRows}
 use Rattle.blockmap.specs.Pairs.{mapBytes}
@@ -19,7 +18,7 @@ use Rattle.stream.specs.Entries.{sound}
 use Rattle.stream.specs.Calls.{pageOf}
 use Rattle.stream.specs.ReadBack.{Back, read-back}
 use Rattle.store.specs.Frame.{slotOf, placeOf, frameRows}
-use Rattle.store.specs.Build.{blockFault, BlockFault, firstFault, buildRows, builtMap, BuildOutcome, buildOutcome}
+use Rattle.store.specs.Build.{blockFault, BlockFault, firstFault, builtMap, buildOutcome}
 use Rattle.store.specs.BuildLaws.{straysIn, no-place, clean-place, block-empty, block-patch, block-full, build-frame, build-done}
 use Rattle.promises.specs.Words.{blocks, places, PagesFit, LengthsFit, HeadersFit, Large, streamOf, StoredAs}
 use Rattle.promises.specs.SlotLaws.{patch-of}

@@ -1,34 +1,32 @@
 -- Demand 3 over any page size to 65,536, from the general theorem over runs.
-use Prim.Native.Nat.{ℕ, zero, suc, _≤_, _<_}
-use native.Mathlib.Omega.{arith}
+use Prim.Native.Nat.{ℕ, _≤_, _<_}
 use mathlib.Core.Path.{_≡_, refl, sym, ap, _∙_, subst}
 use mathlib.Core.Bool.{Bool, true, false, _&&_, cond, true≢false}
 use mathlib.Core.Logic.{_⊎_, inl, inr, _↔_}
 use mathlib.Core.Option.{Option, none, some, Option·elim}
-use mathlib.Core.List.{List, [], _∷_, _++_, List·Memᴰ, List·Memᴰ·head, List·Memᴰ·tail, List·Memᴰ·cases-cons, List·Memᴰ·not-nil}
-use lib.Dec.{eqb, ltb}
+use mathlib.Core.List.{List, [], _∷_, List·Memᴰ, List·Memᴰ·head, List·Memᴰ·tail, List·Memᴰ·cases-cons, List·Memᴰ·not-nil}
+use lib.Dec.{eqb}
 use lib.ListN.{length}
 use borrow.Author.Tests.{lt-ltb, eqb-true}
-use Rattle.span.specs.Bytes.{zeros, part, splice}
+use Rattle.span.specs.Bytes.{zeros, splice}
 use Rattle.span.specs.Laws.{and-left, and-right, zeros-length}
 use Rattle.layout.specs.Sizes.{patchHead, fullHead}
-use Rattle.layout.specs.Slots.{emptySlot, slotNumbers}
 use Rattle.layout.specs.Areas.{freshPatch, freshFull}
 use Rattle.blockmap.specs.Pairs.{mapBytes}
 use Rattle.stream.specs.Calls.{pageOf}
 use Rattle.store.specs.Frame.{slotOf, placeOf}
-use Rattle.store.specs.Read.{ReadOutcome, readOutcome, contents}
-use Rattle.store.specs.Build.{blockFault, BuildOutcome, buildOutcome, builtMap}
+use Rattle.store.specs.Read.{ReadOutcome, readOutcome}
+use Rattle.store.specs.Build.{blockFault, buildOutcome, builtMap}
 use Rattle.store.specs.Write.{decidedKind}
-use Rattle.promises.specs.Words.{blocks, places, PagesFit, LengthsFit, HeadersFit, FrameFits, SameFrame, Large, StoredAs}
+use Rattle.promises.specs.Words.{blocks, places, PagesFit, FrameFits, SameFrame, Large}
 use Rattle.promises.specs.FrameLaws.{lengths-by, lengths-moved, headers-moved}
 use Rattle.promises.specs.Cells.{emptied, emptied-length, emptied-same}
-use Rattle.promises.specs.StoreLaws.{base-page-length, Accepted, imageOf, contentOf, stored-so}
+use Rattle.promises.specs.StoreLaws.{base-page-length, imageOf, contentOf, stored-so}
 use Rattle.promises.specs.StoreLaws.{accepted as acceptedIs}
 use Rattle.promises.specs.ReadLaws.{reads-empty, stored-reads}
 use Rattle.promises.specs.RunBuild.{empty-fine, stored-fine, builds}
-use Rattle.promises.specs.Runs.{Store, write, wipe, run, last, later, Fresh, Taken, writes, lastWrite, LastWrites, lastWrites, NoRepeats, WritesOver, ReadSame, last-writes-are, last-writes-apart, writes-taken, writes-same, writes-at, last-in, writes-frame, writes-same-iff-read-same}
-use Rattle.promises.specs.RunWords.{Areas, Lent, outcome, taken, next, after, accepted, lastTo, JustLasts, OverBases, FreshAreas}
+use Rattle.promises.specs.Runs.{run, last, later, Fresh, Taken, writes, lastWrite, LastWrites, lastWrites, NoRepeats, WritesOver, ReadSame, last-writes-are, last-writes-apart, writes-taken, writes-same, writes-at, last-in, writes-frame, writes-same-iff-read-same}
+use Rattle.promises.specs.RunWords.{Areas, Lent, taken, next, after, accepted, lastTo, JustLasts, OverBases, FreshAreas}
 use Rattle.promises.specs.RunStore.{Cell, cellAt, frameOf, store, store-laws, taken-frame, accepted-write, frame-next}
 use Rattle.promises.specs.RunReads.{pageIn, reading, reading-laws}
 use Rattle.promises.specs.FreshLaws.{fresh-is, fresh-lengths, fresh-headers, fresh-cell}
@@ -254,7 +252,7 @@ module _ (P : ℕ) where
 
 -- Fresh areas of the same lengths are the same bytes
 
-pub fresh-one : (P : ℕ) (s t : Areas) → FreshAreas P s → FreshAreas P t → length (s .patch) ≡ length (t .patch) → length (s .full) ≡ length (t .full) → s ≡ t
+fresh-one : (P : ℕ) (s t : Areas) → FreshAreas P s → FreshAreas P t → length (s .patch) ≡ length (t .patch) → length (s .full) ≡ length (t .full) → s ≡ t
 fresh-one P s t h k p f =
     fresh-is P s h ∙ (λ i. record { patch = freshPatch P (p i); full = freshFull P (f i) }) ∙ sym (fresh-is P t k)
 

@@ -1,15 +1,12 @@
 -- How a cell is read over a base page, and which cell a page makes over it.
-use Prim.Native.Nat.{ℕ, zero, suc, _≤_, _<_}
-use native.Mathlib.Omega.{arith}
-use mathlib.Core.Path.{_≡_, refl, sym, ap, _∙_}
-use mathlib.Core.Bool.{Bool, true, false, cond}
-use mathlib.Core.Logic.{_↔_}
+use Prim.Native.Nat.{ℕ, _≤_}
+use mathlib.Core.Path.{_≡_, refl, sym}
+use mathlib.Core.Bool.{cond}
 use mathlib.Core.List.{List}
-use lib.Dec.{eqb, ltb}
+use lib.Dec.{eqb}
 use lib.ListN.{length}
-use borrow.Author.Tests.{lt-ltb}
 use Rattle.span.specs.Bytes.{zeros}
-use Rattle.layout.specs.Slots.{emptySlot, patchSlot, fullSlot, payloadOf, SlotNumbers, slotNumbers, slotImage}
+use Rattle.layout.specs.Slots.{emptySlot, patchSlot, payloadOf, slotNumbers, slotImage}
 use Rattle.layout.specs.Meaning.{empty-numbers, full-numbers}
 use Rattle.stream.specs.Entries.{payloadStream, applied}
 use Rattle.stream.specs.Differences.{written}
@@ -17,11 +14,10 @@ use Rattle.stream.specs.Calls.{pageOf, kindFor}
 use Rattle.stream.specs.Kinds.{same-iff, kind-0}
 use Rattle.stream.specs.ReadBack.{Back, read-back}
 use Rattle.store.specs.Write.{decidedStream, decidedKind}
-use Rattle.promises.specs.Words.{PagesFit, PatchOf, StoredAs, streamOf}
+use Rattle.promises.specs.Words.{PagesFit, StoredAs, streamOf}
 use Rattle.promises.specs.SlotLaws.{patch-of, image-empty}
-use Rattle.promises.specs.StoreLaws.{base-page-length, Accepted, accepted, imageOf, contentOf, stored-so}
-use Rattle.promises.specs.Runs.{Store, write, wipe, Reading, ReadLaws}
-use Rattle.promises.specs.RunWords.{Areas, Lent}
+use Rattle.promises.specs.StoreLaws.{base-page-length, accepted, imageOf, contentOf, stored-so}
+use Rattle.promises.specs.Runs.{Reading, ReadLaws}
 use Rattle.promises.specs.RunStore.{Cell, store, accepted-write}
 
 -- what a cell holds over a base page, by its slot's kind

@@ -1,29 +1,26 @@
 -- Both areas as a store of blocks, in the sense of `Runs`: the frame is the lengths and the headers, a cell is a slot and a place.
-use Prim.Native.Nat.{ℕ, zero, suc, _+_, _-_, _*_, _≤_, _<_}
+use Prim.Native.Nat.{ℕ, _≤_, _<_}
 use native.Mathlib.Omega.{arith}
-use native.Mathlib.Decide.{decLt}
-use mathlib.Core.Path.{_≡_, refl, sym, ap, _∙_, subst}
-use mathlib.Core.Bool.{Bool, true, false, _&&_, cond, true≢false}
-use mathlib.Core.Logic.{_⊎_, inl, inr, _↔_}
-use mathlib.Core.Option.{Option, none, some}
-use mathlib.Core.List.{List, [], _∷_, _++_}
+use mathlib.Core.Path.{_≡_, refl, sym, ap, _∙_}
+use mathlib.Core.Bool.{Bool, true, false, _&&_, cond}
+use mathlib.Core.Logic.{_⊎_, inl, inr}
+use mathlib.Core.List.{List}
 use lib.Dec.{eqb, leb, ltb}
 use lib.ListN.{length}
-use borrow.Author.Tests.{lt-ltb, le-ltb, ltb-true, ltb-false, eq-eqb, ne-eqb, eqb-true, eqb-false}
-use Rattle.span.specs.Bytes.{zeros, part, splice}
-use Rattle.span.specs.Laws.{zeros-length, part-none}
-use Rattle.layout.specs.Sizes.{room, patchHead, fullHead, slotSize, slotAt, pageAt}
-use Rattle.layout.specs.Refusals.{firstOf, orElse}
-use Rattle.layout.specs.Slots.{emptySlot, slotImage}
-use Rattle.layout.specs.Areas.{blocksIn, pagesIn}
+use borrow.Author.Tests.{lt-ltb, ltb-true, ltb-false, eqb-true, eqb-false}
+use Rattle.span.specs.Bytes.{zeros, part}
+use Rattle.span.specs.Laws.{part-none}
+use Rattle.layout.specs.Sizes.{patchHead, fullHead, slotSize, pageAt}
+use Rattle.layout.specs.Refusals.{orElse}
+use Rattle.layout.specs.Slots.{emptySlot}
 use Rattle.store.specs.Frame.{slotOf, placeOf}
-use Rattle.store.specs.Write.{carriedPatch, carriedFull, decidedStream, decidedKind, writeRows, WriteOutcome, writeOutcome}
-use Rattle.promises.specs.Words.{blocks, places, PagesFit, LengthsFit, HeadersFit, FrameFits, SameFrame, Large, StoredAs, Stored}
+use Rattle.store.specs.Write.{decidedKind, WriteOutcome}
+use Rattle.promises.specs.Words.{blocks, places, LengthsFit, SameFrame, Stored}
 use Rattle.promises.specs.FrameLaws.{frameNumber, frame-emptied, lengths-moved}
-use Rattle.promises.specs.Tables.{write-number, write-rows, tells-large}
+use Rattle.promises.specs.Tables.{write-number, write-rows}
 use Rattle.promises.specs.Cells.{cells-ext, emptied, emptied-length, emptied-part, emptied-same}
 use Rattle.promises.specs.StoreLaws.{write-done, write-not, Accepted, accepted, write-stored, imageOf, contentOf, carried-slot, carried-place, content-none}
-use Rattle.promises.specs.Runs.{Store, Op, write, wipe, Laws}
+use Rattle.promises.specs.Runs.{Store, write, wipe, Laws}
 use Rattle.promises.specs.RunWords.{Areas, Lent, outcome, taken, next}
 
 -- a block's slot and its place; a missing place as zeros
@@ -124,7 +121,7 @@ module _ (P : ℕ) (s : Areas) (w : Lent) where
       go false e = ap frameOf (not-taken e)
 
 -- the frame has the lengths and the headers
-pub unemptied : (patch full : List ℕ) → SameFrame (emptied patchHead patch) (emptied fullHead full) patch full
+unemptied : (patch full : List ℕ) → SameFrame (emptied patchHead patch) (emptied fullHead full) patch full
 unemptied patch full =
     record {
       patch-length = sym (emptied-length patchHead patch);

@@ -1,32 +1,31 @@
 -- What Write leaves, block by block.
-use Prim.Native.Nat.{ℕ, zero, suc, _+_, _-_, _*_, _/_, _≤_, _<_}
+use Prim.Native.Nat.{ℕ, _≤_, _<_}
 use native.Mathlib.Omega.{arith}
 use native.Mathlib.Nat.{zero-div}
 use native.Mathlib.Decide.{decLt}
-use mathlib.Core.Path.{_≡_, refl, sym, ap, _∙_, subst}
-use mathlib.Core.Bool.{Bool, true, false, _&&_, cond}
-use mathlib.Core.Logic.{_⊎_, inl, inr, _↔_}
-use mathlib.Core.List.{List, [], _∷_, _++_}
-use lib.Dec.{eqb, leb, ltb}
+use mathlib.Core.Path.{_≡_, refl, sym, ap, _∙_}
+use mathlib.Core.Bool.{Bool, true, false, cond}
+use mathlib.Core.Logic.{_⊎_, inl, inr}
+use mathlib.Core.List.{List}
+use lib.Dec.{eqb, ltb}
 use lib.ListN.{length}
-use borrow.Author.Tests.{lt-ltb, le-ltb, ltb-true, ltb-false}
+use borrow.Author.Tests.{lt-ltb, ltb-true}
 use Rattle.span.specs.Bytes.{zeros, part, splice}
 use Rattle.span.specs.Laws.{zeros-length}
 use Rattle.layout.specs.Sizes.{room, patchHead, fullHead, slotSize, slotAt, pageAt}
 use Rattle.layout.specs.Refusals.{firstOf, decided-done, decided-refused}
-use Rattle.layout.specs.Slots.{emptySlot, patchSlot, fullSlot, slotImage, patch-slot-length}
-use Rattle.layout.specs.Areas.{blocksIn, pagesIn}
-use Rattle.stream.specs.Calls.{pageOf, kindFor}
+use Rattle.layout.specs.Slots.{slotImage, patch-slot-length}
+use Rattle.layout.specs.Areas.{pagesIn}
+use Rattle.stream.specs.Calls.{pageOf}
 use Rattle.stream.specs.Laws.{base-none, base-some}
 use Rattle.stream.specs.Kinds.{same-iff, kind-0, kind-1, kind-2}
-use Rattle.stream.specs.ReadBack.{Back, read-back}
 use Rattle.store.specs.Frame.{slotOf, placeOf}
-use Rattle.store.specs.Write.{carriedPatch, carriedFull, decidedStream, decidedKind, writeRows, WriteOutcome, writeOutcome}
-use Rattle.promises.specs.Words.{blocks, places, PagesFit, LengthsFit, HeadersFit, FrameFits, Large, streamOf, StoredAs, Stored, WriteGives}
+use Rattle.store.specs.Write.{carriedPatch, carriedFull, decidedStream, decidedKind, writeRows, writeOutcome}
+use Rattle.promises.specs.Words.{blocks, places, PagesFit, LengthsFit, FrameFits, Large, streamOf, StoredAs, Stored, WriteGives}
 use Rattle.promises.specs.SlotLaws.{empty-length, full-length, image-empty, image-patch, image-full}
 use Rattle.promises.specs.Tables.{write-number, write-table, tells-large}
 use Rattle.promises.specs.FrameLaws.{no-tells, frame-some}
-use Rattle.promises.specs.Cells.{cell-past, put-length, put-here, put-head, put-other}
+use Rattle.promises.specs.Cells.{put-length, put-here, put-head, put-other}
 
 -- The outcome by its number
 
@@ -63,7 +62,7 @@ base-page-length P base page h = go (h .base-length)
 
 -- Kind, slot and place
 
-pub stored-as : (P : ℕ) (base page : List ℕ) → PagesFit P base page
+stored-as : (P : ℕ) (base page : List ℕ) → PagesFit P base page
     → StoredAs P base page (decidedKind P base page) (slotImage (decidedKind P base page) (decidedStream P base page)) (cond (eqb (decidedKind P base page) 2) page (zeros P))
 unfolding decidedKind decidedStream
 stored-as P base page h =
@@ -89,7 +88,7 @@ stored-lengths P base page l (StoredAs.patch e f) = (patch-slot-length (streamOf
 stored-lengths P base page l (StoredAs.full e) = (full-length, l)
 
 -- m is 0 where there is no full area
-pub places-none : (P : ℕ) (full : List ℕ) → length full ≡ 0 → places P full ≡ 0
+places-none : (P : ℕ) (full : List ℕ) → length full ≡ 0 → places P full ≡ 0
 unfolding pagesIn
 places-none P full e = rw e (zero-div P)
 
@@ -132,7 +131,7 @@ module _ (P : ℕ) (patch full : List ℕ) (b : ℕ) (base page : List ℕ) (fit
       rw (lt-ltb b (places P full) h)
       (put-here full fullHead P (places P full) (place-cells P patch full (fits .lengths) b h) b h (contentOf P base page) (sizes .1))
 
-  pub carried : Stored P patch full b base page (decidedKind P base page) (carriedPatch patch b (decidedKind P base page) (decidedStream P base page)) (carriedFull P full b (decidedKind P base page) page)
+  carried : Stored P patch full b base page (decidedKind P base page) (carriedPatch patch b (decidedKind P base page) (decidedStream P base page)) (carriedFull P full b (decidedKind P base page) page)
   unfolding carriedPatch carriedFull slotOf placeOf imageOf contentOf m
   carried =
       let f = at-place (ltb b m) refl in

@@ -1,33 +1,27 @@
 -- The number that Write gives and the number that Read gives, from the rows of the definitions to the words of the demands and back.
-use Prim.Native.Nat.{ℕ, zero, suc, _+_, _-_, _*_, _≤_, _<_}
-use native.Mathlib.Omega.{arith}
+use Prim.Native.Nat.{ℕ, zero, suc, _<_}
 use mathlib.Core.Path.{_≡_, refl, sym, ap, _∙_, subst}
-use mathlib.Core.Bool.{Bool, true, false, not, _&&_, cond, true≢false, false≢true}
-use mathlib.Core.Logic.{_⊎_, inl, inr, _↔_}
-use mathlib.Core.List.{List, [], _∷_, _++_}
+use mathlib.Core.Bool.{Bool, true, false, not, _&&_, cond}
+use mathlib.Core.Logic.{_↔_}
+use mathlib.Core.List.{List, [], _∷_}
 use lib.Dec.{eqb, leb}
 use lib.ListN.{length}
-use borrow.Author.Tests.{eq-eqb, ne-eqb, eqb-true, eqb-false, leb-true, leb-false, le-leb, lt-leb}
-use Rattle.span.specs.Bytes.{zeros, part, same}
-use Rattle.layout.specs.Sizes.{room}
-use Rattle.layout.specs.Refusals.{Row, _⇐_, firstOf, orElse, decided, or-some, or-skip}
-use Rattle.layout.specs.Headers.{headerRows}
-use Rattle.layout.specs.Areas.{lengthRows}
-use Rattle.layout.specs.Slots.{emptySlot, patchSlot, fullSlot, payloadOf, SlotNumbers, soundSlot, unsoundSlot, slotNumbers}
+use borrow.Author.Tests.{eq-eqb, eqb-true, leb-true, leb-false, le-leb, lt-leb}
+use Rattle.layout.specs.Refusals.{_⇐_, firstOf, orElse, decided, or-some, or-skip}
+use Rattle.layout.specs.Slots.{payloadOf, SlotNumbers, soundSlot, unsoundSlot, slotNumbers}
 use Rattle.layout.specs.Meaning.{empty-numbers, full-numbers}
 use Rattle.stream.specs.Entries.{sound}
-use Rattle.stream.specs.Calls.{pageRows, kindFor}
 use Rattle.stream.specs.Kinds.{kind-2}
-use Rattle.store.specs.Frame.{slotOf, placeOf, blockRows, frameRows, ordered-frame}
+use Rattle.store.specs.Frame.{slotOf, placeOf, ordered-frame}
 use Rattle.store.specs.Read.{slotRows, fullRows, payloadRows, readRows, contents, ReadOutcome, readOutcome}
 use Rattle.store.specs.Write.{decidedStream, decidedKind, writeRows, WriteOutcome, writeOutcome}
-use Rattle.promises.specs.Words.{blocks, places, FrameFits, FrameRefuses, PatchOf, SoundSlot, Large, WriteGives, ReadGives, Readable}
-use Rattle.promises.specs.FrameLaws.{Tells, tells-no, no-tells, frameNumber, FrameIs, frame-refused, frame-right, frame-is, frame-gives, frame-zero, frame-some}
+use Rattle.promises.specs.Words.{blocks, places, FrameFits, SoundSlot, Large, WriteGives, ReadGives, Readable}
+use Rattle.promises.specs.FrameLaws.{Tells, tells-no, frameNumber, FrameIs, frame-refused, frame-right, frame-is, frame-gives, frame-zero, frame-some}
 use Rattle.promises.specs.SlotLaws.{patch-of, Sort, of-empty, of-patch, of-full, of-none, sort-of}
 
 -- The number of an outcome is that of its rows
 
-pub decided-number : {A : Type 0} (number : A → ℕ) (d : A) (r : ℕ → A) → number d ≡ 0 → ((k : ℕ) → number (r k) ≡ k) → (k : ℕ) → number (decided k d r) ≡ k
+decided-number : {A : Type 0} (number : A → ℕ) (d : A) (r : ℕ → A) → number d ≡ 0 → ((k : ℕ) → number (r k) ≡ k) → (k : ℕ) → number (decided k d r) ≡ k
 unfolding decided
 decided-number number d r e f zero = e
 decided-number number d r e f (suc k) = f (suc k)

@@ -5,14 +5,12 @@ use mathlib.Core.Path.{_≡_, refl, sym, ap, _∙_}
 use mathlib.Core.Logic.{_↔_}
 use mathlib.Core.List.{List}
 use lib.ListN.{length}
-use Rattle.span.specs.Bytes.{zeros}
 use Rattle.layout.specs.Sizes.{room}
 use Rattle.stream.specs.Calls.{pageOf, kindFor}
 use Rattle.stream.specs.Kinds.{same-iff, kind-0, kind-1, kind-2}
-use Rattle.store.specs.Frame.{slotOf, placeOf}
-use Rattle.store.specs.Read.{ReadOutcome, readOutcome}
+use Rattle.store.specs.Read.{readOutcome}
 use Rattle.store.specs.Write.{decidedStream, decidedKind, WriteOutcome, writeOutcome}
-use Rattle.promises.specs.Words.{blocks, places, FrameFits, Large, streamOf, Stored, WriteGives}
+use Rattle.promises.specs.Words.{blocks, places, FrameFits, Large, streamOf, WriteGives}
 use Rattle.promises.specs.FrameLaws.{frame-gives, frame-zero, frame-same, lengths-moved, headers-moved}
 use Rattle.promises.specs.Tables.{write-table, read-same}
 use Rattle.promises.specs.StoreLaws.{write-done, write-not, base-page-length, Accepted, accepted, write-stored}

@@ -1,7 +1,7 @@
 // The C interface. Each exported function calls the proved call beneath it and gives its answer as the paper's numbers.
-mod areas;
-mod map;
-mod pages;
+pub mod areas;
+pub mod map;
+pub mod pages;
 
 use layout::Kind;
 use layout::Refusal;

@@ -1,0 +1,26 @@
+-- What the answers of the slot's and the payload's checks tell, over plain lists and numbers.
+use Prim.Native.Nat.{ℕ}
+use mathlib.Core.Path.{_≡_, refl, sym, ap, _∙_, subst}
+use mathlib.Core.Bool.{true, false}
+use mathlib.Core.List.{List}
+use lib.ListN.{length as lengthOf}
+use lib.IntN.{ℤ}
+use Rattle.span.specs.Bytes.{part}
+use Rattle.layout.specs.Sizes.{slotSize, payloadAt}
+use Rattle.layout.specs.Slots.{slotNumbers, soundSlot}
+use Rattle.stream.specs.Entries.{sound}
+use Rattle.stream.specs.Steps.{Judges, SoundAs}
+use Rattle.stream.specs.declared.Checked.{Checked}
+use Rattle.stream.specs.declared.Checked.the-variants.{Unsound, Sound}
+use Rattle.info.specs.Info.{InfoNumbers, infoNumbers, refusedInfo, info-broken, info-patch}
+
+module _ (P : ℕ) (bytes payload : List ℕ) (n : ℕ) (r : Checked) (l : lengthOf bytes ≡ slotSize) (e : slotNumbers bytes ≡ soundSlot 1 n)
+    (p : payload ≡ part payloadAt n bytes) (j : Judges P payload r) where
+  pub broken-told : r ≡ Unsound → infoNumbers P bytes ≡ refusedInfo 7
+  broken-told t =
+      info-broken P bytes l n e (sym (ap (λ (x : List ℕ). sound P x) p) ∙ subst (λ (x : Checked). Judges P payload x) t j)
+
+  pub patch-told : (count : ℕ) (at at′ : ℤ) → r ≡ Sound count at → at′ ≡ at → infoNumbers P bytes ≡ record { number = 0; kind = 1; length = n; entries = count; last = at′ }
+  patch-told count at at′ t q =
+      let s : SoundAs P (part payloadAt n bytes) count at = subst (λ (x : List ℕ). SoundAs P x count at) p (subst (λ (x : Checked). Judges P payload x) t j) in
+      info-patch P bytes l n e (s .is) ∙ (λ i. record { number = 0; kind = 1; length = n; entries = sym (s .entries) i; last = (sym (s .last) ∙ sym q) i })

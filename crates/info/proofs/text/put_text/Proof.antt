@@ -1,0 +1,84 @@
+use Rattle.info.proofs.Words.{refused-put, slot-put}
+use mir.ValLaws.{toZ-ofZ}
+use mir.Val.{toZ, ofZ}
+use mir.Syntax.{w32}
+use lib.IntN.{ℤ}
+use Rattle.info.proofs.Words.{put-then}
+use Rattle.info.specs.Text.{text, lengthWord, entriesWord, refusedWord, numberLine, kindLine, lastLine}
+use Rattle.stream.specs.Steps.{Put}
+use lib.ListN.{length, take}
+use mathlib.Core.List.{List, [], _∷_, _++_}
+use mathlib.Core.Path.{_≡_, refl, sym, ap, _∙_, subst}
+use native.Mathlib.Omega.{arith}
+use Prim.Native.Nat.{ℕ, _+_, _-_, _≤_, _<_}
+use borrow.Author.Needs.{needs}
+use Rattle.info.proofs.text.put_text.Statement.{statement}
+use Rattle.info.proofs.text.put_text.Tie as tie
+
+enum-known-info : tie.Need-enum-known-info
+enum-known-info c = search needs
+
+slice-aggregate-put-line : tie.Need-slice-aggregate-put-line
+slice-aggregate-put-line c = search needs
+
+refusal-number-requires : tie.Need-refusal-number-requires
+refusal-number-requires c κs = search needs
+
+put-line-requires : tie.Need-put-line-requires
+put-line-requires c κs = search needs
+
+enum-known-info-2 : tie.Need-enum-known-info-2
+enum-known-info-2 c = search needs
+
+put-kind-requires : tie.Need-put-kind-requires
+put-kind-requires c κs = search needs
+
+slice-aggregate-put-line-2 : tie.Need-slice-aggregate-put-line-2
+slice-aggregate-put-line-2 c = search needs
+
+put-line-requires-2 : tie.Need-put-line-requires-2
+put-line-requires-2 c κs = search needs
+
+slice-aggregate-put-line-3 : tie.Need-slice-aggregate-put-line-3
+slice-aggregate-put-line-3 c = search needs
+
+put-line-requires-3 : tie.Need-put-line-requires-3
+put-line-requires-3 c κs = search needs
+
+put-last-requires : tie.Need-put-last-requires
+put-last-requires c κs = search needs
+
+same-length : tie.Need-same-length
+same-length c = search needs
+
+returns : tie.Need-returns
+returns c =
+    (refused-put (c .before .before .before .before .before .before .before .info .given .1) (c .before .before .before .refusal-number .ensures) (c .before .before .put-line .ensures .0), omega (arith, c .before .before .put-line .ensures .1))
+
+same-length-2 : tie.Need-same-length-2
+same-length-2 c = search needs
+
+returns-2 : tie.Need-returns-2
+returns-2 c =
+    let l : ℤ = c .before .before .before .before .before .before .before .before .before .before .before .before .before .before .before .before .before .before .before .info2 .given .0 .1 .1 .1 .0 in
+    (slot-put (c .before .before .before .before .before .before .before .before .before .before .before .before .before .before .before .before .before .before .before .info2 .given .1) (toZ-ofZ w32 l (record { sfits = c .before .before .before .before .before .before .before .before .before .before .before .before .before .before .before .before .before .before .known-told2 .given .1 .1 .1 .0 .1 })) (c .before .before .before .before .before .before .before .before .before .before .before .before .before .before .before .before .put-kind .ensures .0) (c .before .before .before .before .before .before .before .before .before .before .before .put-line2 .ensures .0) (c .before .before .before .before .before .before .put-line3 .ensures .0) (c .before .before .put-last .ensures .0), omega (arith, c .before .before .put-last .ensures .1))
+
+pub put-text-spec : {M : Type 1} → statement M
+put-text-spec =
+    tie.close
+    (tie.spec
+    enum-known-info
+    slice-aggregate-put-line
+    refusal-number-requires
+    put-line-requires
+    enum-known-info-2
+    put-kind-requires
+    slice-aggregate-put-line-2
+    put-line-requires-2
+    slice-aggregate-put-line-3
+    put-line-requires-3
+    put-last-requires
+    same-length
+    returns
+    same-length-2
+    returns-2)

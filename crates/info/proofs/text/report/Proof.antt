@@ -1,0 +1,28 @@
+use Rattle.info.specs.Text.{text}
+use Rattle.info.specs.Info.{InfoNumbers}
+use Rattle.stream.specs.Steps.{Put}
+use lib.ListN.{length, take}
+use mathlib.Core.List.{List, [], _∷_, _++_}
+use mathlib.Core.Path.{_≡_, refl, sym, ap, _∙_, subst}
+use native.Mathlib.Omega.{arith}
+use Prim.Native.Nat.{ℕ, _+_, _-_, _≤_, _<_}
+use borrow.Author.Needs.{needs}
+use Rattle.info.proofs.text.report.Statement.{statement}
+use Rattle.info.proofs.text.report.Tie as tie
+
+inspect-requires : tie.Need-inspect-requires
+inspect-requires c κs = search needs
+
+put-text-requires : tie.Need-put-text-requires
+put-text-requires c κs = search needs
+
+same-length : tie.Need-same-length
+same-length c = search needs
+
+returns : tie.Need-returns
+returns c =
+    let a = c .before .before .before .before .before .before .before .args in
+    (subst (λ (i : InfoNumbers). Put (a .out .now) 0 (text i) (c .before .before .put-text .result) (c .before .before .put-text .last .0)) (c .before .before .before .inspect .ensures .numbers) (c .before .before .put-text .ensures .0), omega (arith, c .before .before .put-text .ensures .1))
+
+pub report-spec : {M : Type 1} → statement M
+report-spec = tie.close (tie.spec inspect-requires put-text-requires same-length returns)
