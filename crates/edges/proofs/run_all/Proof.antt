@@ -1,0 +1,63 @@
+use lib.ListN.{length}
+use mathlib.Core.Path.{_≡_}
+use Prim.Native.Nat.{_+_, _-_, _≤_}
+use borrow.Author.Needs.{needs}
+use Rattle.edges.proofs.run_all.Statement.{statement}
+use Rattle.edges.proofs.run_all.Tie as tie
+
+abbrev Inv-loop : tie.InvT-loop
+Inv-loop text patch₀ full₀ lengths₀ at₀ patch full lengths at = Unit {0}
+
+abbrev μ-loop : tie.MeasureT-loop
+μ-loop text patch₀ full₀ lengths₀ at₀ patch full lengths at = length text - at
+
+slice-aggregate-patch : tie.Need-slice-aggregate-patch Inv-loop μ-loop
+slice-aggregate-patch c = search needs
+
+slice-aggregate-full : tie.Need-slice-aggregate-full Inv-loop μ-loop
+slice-aggregate-full c = search needs
+
+loop-holds : tie.Need-loop-holds Inv-loop μ-loop
+loop-holds c = search needs
+
+run-to-requires : tie.Need-run-to-requires Inv-loop μ-loop
+run-to-requires c κs = search needs
+
+part-requires : tie.Need-part-requires Inv-loop μ-loop
+part-requires c κs = search needs
+
+run-requires : tie.Need-run-requires Inv-loop μ-loop
+run-requires c κs = search needs
+
+add-at : tie.Need-add-at Inv-loop μ-loop
+add-at c = search needs
+
+add-at-2 : tie.Need-add-at-2 Inv-loop μ-loop
+add-at-2 c = search needs
+
+loop-less : tie.Need-loop-less Inv-loop μ-loop
+loop-less c = search needs
+
+loop-again : tie.Need-loop-again Inv-loop μ-loop
+loop-again c = search needs
+
+returns : tie.Need-returns Inv-loop μ-loop
+returns c = search needs
+
+pub run-all-spec : {M : Type 1} → statement M
+run-all-spec =
+    tie.close
+    (tie.spec
+    Inv-loop
+    μ-loop
+    slice-aggregate-patch
+    slice-aggregate-full
+    loop-holds
+    run-to-requires
+    part-requires
+    run-requires
+    add-at
+    add-at-2
+    loop-less
+    loop-again
+    returns)
