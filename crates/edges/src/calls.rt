@@ -111,7 +111,7 @@ fn write_in(
 }
 
 // compare | name | base | page | buffer
-pub fn compare(line: &[u8]) {
+pub(crate) fn compare(line: &[u8]) {
     let mut a = [0u8; PAGE_ROOM];
     let base: &mut [u8] = &mut a;
     let base_length = make(base, field(line, 2));
@@ -134,7 +134,7 @@ pub fn compare(line: &[u8]) {
 }
 
 // apply | name | base | payload | page
-pub fn apply(line: &[u8]) {
+pub(crate) fn apply(line: &[u8]) {
     let mut a = [0u8; PAGE_ROOM];
     let base: &mut [u8] = &mut a;
     let base_length = make(base, field(line, 2));
@@ -157,7 +157,7 @@ pub fn apply(line: &[u8]) {
 }
 
 // judge | name | slot
-pub fn judge(line: &[u8]) {
+pub(crate) fn judge(line: &[u8]) {
     let mut a = [0u8; SLOT_ROOM];
     let slot: &mut [u8] = &mut a;
     let length = make(slot, field(line, 2));
@@ -165,7 +165,7 @@ pub fn judge(line: &[u8]) {
 }
 
 // slotinfo | name | slot
-pub fn slotinfo(line: &[u8]) {
+pub(crate) fn slotinfo(line: &[u8]) {
     let mut a = [0u8; SLOT_ROOM];
     let slot: &mut [u8] = &mut a;
     let length = make(slot, field(line, 2));
@@ -177,7 +177,7 @@ pub fn slotinfo(line: &[u8]) {
 }
 
 // look up | name | map | n | block
-pub fn look_up(line: &[u8]) {
+pub(crate) fn look_up(line: &[u8]) {
     let mut a = [0u8; MAP_ROOM];
     let map: &mut [u8] = &mut a;
     let length = make(map, field(line, 2));
@@ -189,7 +189,7 @@ pub fn look_up(line: &[u8]) {
 }
 
 // tally | name | map | n
-pub fn tally(line: &[u8]) {
+pub(crate) fn tally(line: &[u8]) {
     let mut a = [0u8; MAP_ROOM];
     let map: &mut [u8] = &mut a;
     let length = make(map, field(line, 2));
@@ -218,7 +218,7 @@ fn show_on(line: &[u8], patch: &[u8]) {
     say::first_bytes(part);
 }
 
-pub fn show(line: &[u8], patch: &mut [u8], full: &mut [u8], lengths: Lengths) -> Lengths {
+pub(crate) fn show(line: &[u8], patch: &mut [u8], full: &mut [u8], lengths: Lengths) -> Lengths {
     let here = areas(line, patch, full, lengths);
     show_on(line, span::part(patch, 0, here.patch));
     here
@@ -246,7 +246,7 @@ fn read_on(line: &[u8], patch: &[u8], full: &[u8]) {
     delta(b"page", before, page);
 }
 
-pub fn read(line: &[u8], patch: &mut [u8], full: &mut [u8], lengths: Lengths) -> Lengths {
+pub(crate) fn read(line: &[u8], patch: &mut [u8], full: &mut [u8], lengths: Lengths) -> Lengths {
     let here = areas(line, patch, full, lengths);
     read_on(
         line,
@@ -268,7 +268,7 @@ fn build_on(line: &[u8], patch: &[u8], full: &[u8]) {
     delta(b"map", before, map);
 }
 
-pub fn build(line: &[u8], patch: &mut [u8], full: &mut [u8], lengths: Lengths) -> Lengths {
+pub(crate) fn build(line: &[u8], patch: &mut [u8], full: &mut [u8], lengths: Lengths) -> Lengths {
     let here = areas(line, patch, full, lengths);
     build_on(
         line,
@@ -279,7 +279,7 @@ pub fn build(line: &[u8], patch: &mut [u8], full: &mut [u8], lengths: Lengths) -
 }
 
 // format | name | patch | full
-pub fn format(line: &[u8], patch: &mut [u8], full: &mut [u8], lengths: Lengths) -> Lengths {
+pub(crate) fn format(line: &[u8], patch: &mut [u8], full: &mut [u8], lengths: Lengths) -> Lengths {
     let here = areas(line, patch, full, lengths);
     let mut a = [0u8; PATCH_ROOM];
     let patch_before: &mut [u8] = &mut a;
@@ -312,7 +312,7 @@ fn write_on(line: &[u8], patch: &mut [u8], full: &mut [u8], lengths: Lengths) {
     ));
 }
 
-pub fn write(line: &[u8], patch: &mut [u8], full: &mut [u8], lengths: Lengths) -> Lengths {
+pub(crate) fn write(line: &[u8], patch: &mut [u8], full: &mut [u8], lengths: Lengths) -> Lengths {
     let here = areas(line, patch, full, lengths);
     let mut a = [0u8; PATCH_ROOM];
     let patch_before: &mut [u8] = &mut a;

@@ -90,7 +90,7 @@ fn step(r: Run, at: usize, old: u8, new: u8) -> Run {
 }
 
 // All that changed.
-pub fn delta(name: &[u8], before: &[u8], after: &[u8]) {
+pub(crate) fn delta(name: &[u8], before: &[u8], after: &[u8]) {
     say::word(name);
     let mut r = none(0);
     let mut at = 0;

@@ -11,7 +11,7 @@ pub const LINE_END: u8 = b'\n';
 const TOP: usize = (usize::MAX - 9) / 10;
 
 // How many bytes there are from a place to the next of this value, or to the end.
-pub fn run_to(text: &[u8], from: usize, stop: u8) -> usize
+pub(crate) fn run_to(text: &[u8], from: usize, stop: u8) -> usize
     ensures { λ r. ⌜ r ≤ length (now (text .entry)) ⌝ }
 {
     let mut n = 0;
@@ -43,7 +43,7 @@ fn field_start(line: &[u8], k: usize) -> usize {
 }
 
 // The k-th field of a line, counted from 0.
-pub fn field(line: &[u8], k: usize) -> &[u8] {
+pub(crate) fn field(line: &[u8], k: usize) -> &[u8] {
     let at = field_start(line, k);
     let n = run_to(line, at, BAR);
     span::part(line, at, n)
@@ -56,7 +56,7 @@ fn wide(byte: u8) -> usize
 }
 
 // A number with one more decimal digit. Any other byte, and a digit that does not fit, leaves it.
-pub fn grown(value: usize, digit: u8) -> usize {
+pub(crate) fn grown(value: usize, digit: u8) -> usize {
     if digit < b'0' {
         return value;
     }
@@ -69,7 +69,7 @@ pub fn grown(value: usize, digit: u8) -> usize {
     value * 10 + wide(digit - b'0')
 }
 
-pub fn number(text: &[u8]) -> usize {
+pub(crate) fn number(text: &[u8]) -> usize {
     let mut value = 0;
     let mut at = 0;
     while at < text.len() {

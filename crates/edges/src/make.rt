@@ -197,7 +197,7 @@ fn step(dst: &mut [u8], m: Making, c: u8) -> Making {
 }
 
 // Makes a buffer, and answers its length.
-pub fn make(dst: &mut [u8], description: &[u8]) -> usize {
+pub(crate) fn make(dst: &mut [u8], description: &[u8]) -> usize {
     span::fill(dst);
     let mut m = Making {
         length: 0,
@@ -215,7 +215,7 @@ pub fn make(dst: &mut [u8], description: &[u8]) -> usize {
 }
 
 // The same, but `=` leaves the buffer and its length as they are.
-pub fn make_or_keep(dst: &mut [u8], description: &[u8], length: usize) -> usize {
+pub(crate) fn make_or_keep(dst: &mut [u8], description: &[u8], length: usize) -> usize {
     if span::same(description, b"=") {
         return length;
     }

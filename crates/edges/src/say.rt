@@ -15,29 +15,29 @@ use stream::Compared;
 const OUT: i32 = libc::STDOUT_FILENO;
 
 // Text as it is.
-pub fn text(bytes: &[u8]) {
+pub(crate) fn text(bytes: &[u8]) {
     io::write_all(OUT, bytes);
 }
 
-pub fn name(bytes: &[u8]) {
+pub(crate) fn name(bytes: &[u8]) {
     text(bytes);
     text(b":");
 }
 
-pub fn end() {
+pub(crate) fn end() {
     text(b"\n");
 }
 
-pub fn word(bytes: &[u8]) {
+pub(crate) fn word(bytes: &[u8]) {
     text(b" ");
     text(bytes);
 }
 
-pub fn digits(n: u64) {
+pub(crate) fn digits(n: u64) {
     io::print_decimal(OUT, n);
 }
 
-pub fn number(n: u64) {
+pub(crate) fn number(n: u64) {
     text(b" ");
     digits(n);
 }
@@ -55,12 +55,12 @@ fn wide(byte: u8) -> u64 {
     byte as u64
 }
 
-pub fn hex(byte: u8) {
+pub(crate) fn hex(byte: u8) {
     io::print_hex(OUT, wide(byte), 2);
 }
 
 // The first bytes, at most eight, in hexadecimal.
-pub fn first_bytes(bytes: &[u8]) {
+pub(crate) fn first_bytes(bytes: &[u8]) {
     text(b" ");
     let mut i = 0;
     while i < 8 {
@@ -89,7 +89,7 @@ fn done(kind: Kind) {
     number(kind_number(kind));
 }
 
-pub fn compared(answer: Compared) {
+pub(crate) fn compared(answer: Compared) {
     match answer {
         Compared::Done {
             kind,
@@ -106,7 +106,7 @@ pub fn compared(answer: Compared) {
     }
 }
 
-pub fn applied(answer: Applied) {
+pub(crate) fn applied(answer: Applied) {
     match answer {
         Applied::Done { entries, last } => {
             number(0);
@@ -117,7 +117,7 @@ pub fn applied(answer: Applied) {
     }
 }
 
-pub fn judged(answer: Judged) {
+pub(crate) fn judged(answer: Judged) {
     match answer {
         Judged::Done { kind, length } => {
             done(kind);
@@ -127,21 +127,21 @@ pub fn judged(answer: Judged) {
     }
 }
 
-pub fn formatted(answer: Formatted) {
+pub(crate) fn formatted(answer: Formatted) {
     match answer {
         Formatted::Done => number(0),
         Formatted::Refused(r) => refused(r),
     }
 }
 
-pub fn reading(answer: Reading) {
+pub(crate) fn reading(answer: Reading) {
     match answer {
         Reading::Done { kind } => done(kind),
         Reading::Refused(r) => refused(r),
     }
 }
 
-pub fn written(answer: Written) {
+pub(crate) fn written(answer: Written) {
     match answer {
         Written::Done { kind, length } => {
             done(kind);
@@ -151,7 +151,7 @@ pub fn written(answer: Written) {
     }
 }
 
-pub fn built(answer: Built) {
+pub(crate) fn built(answer: Built) {
     match answer {
         Built::Done => {
             number(0);
@@ -164,7 +164,7 @@ pub fn built(answer: Built) {
     }
 }
 
-pub fn looked(answer: Looked) {
+pub(crate) fn looked(answer: Looked) {
     match answer {
         Looked::Done { pair } => {
             number(0);
@@ -174,7 +174,7 @@ pub fn looked(answer: Looked) {
     }
 }
 
-pub fn tallied(answer: Tallied) {
+pub(crate) fn tallied(answer: Tallied) {
     match answer {
         Tallied::Done { patch, full } => {
             number(0);
