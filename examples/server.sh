@@ -2,6 +2,7 @@
 # Sourced by run and make-pages, after tests/common.sh: a PostgreSQL server of our own, on a private
 # socket in a temporary folder, gone again however the script ends.
 #
+#   choose_user         who the server runs as; to be called before start_workplace
 #   start_workplace     makes $WORK, a temporary folder, and sees to its removal
 #   new_folder DATA     initdb with data checksums
 #   start DATA, stop    a server on that folder; stop is a clean one
@@ -29,13 +30,14 @@ choose_user() {
 
 # Runs a command as the server's user, with no settings of somebody else's server.
 as_user() {
+    set -- env -i PATH="$PATH" HOME="$WORK" LC_ALL=C \
+        ${QEMU_LD_PREFIX:+QEMU_LD_PREFIX="$QEMU_LD_PREFIX"} "$@"
     if [ -z "$SERVER_USER" ]; then
-        env -u PGDATA -u PGHOST -u PGPORT -u PGUSER -u PGDATABASE -u PGOPTIONS LC_ALL=C "$@"
+        "$@"
     elif have runuser; then
-        runuser -u "$SERVER_USER" -- env -i PATH="$PATH" HOME="$WORK" LC_ALL=C "$@"
+        runuser -u "$SERVER_USER" -- "$@"
     else
-        setpriv --reuid="$SERVER_USER" --regid="$(id -g "$SERVER_USER")" --clear-groups -- \
-            env -i PATH="$PATH" HOME="$WORK" LC_ALL=C "$@"
+        setpriv --reuid="$SERVER_USER" --regid="$(id -g "$SERVER_USER")" --clear-groups -- "$@"
     fi
 }
 
@@ -52,7 +54,6 @@ clean_up() {
 }
 
 start_workplace() {
-    choose_user
     trap clean_up EXIT
     trap 'exit 130' INT
     trap 'exit 143' TERM HUP
@@ -76,7 +77,7 @@ must() {
 new_folder() {
     must "$PG/initdb" -D "$1" -U courier --data-checksums --no-sync --no-locale -E UTF8 \
         --auth=trust --wal-segsize=1
-    as_user tee -a "$1/postgresql.conf" >/dev/null <<CONF
+    as_user tee -a "$1/postgresql.conf" >/dev/null <<CONF || exit 1
 listen_addresses = ''
 unix_socket_directories = '$WORK'
 unix_socket_permissions = 0700
@@ -92,7 +93,10 @@ CONF
 
 start() {
     SERVER_DATA=$1
-    must "$PG/pg_ctl" -D "$1" -l "$WORK/server.log" -w -t 120 start
+    if ! as_user "$PG/pg_ctl" -D "$1" -l "$WORK/server.log" -w -t 120 start >"$WORK/log" 2>&1; then
+        cat "$WORK/log" "$WORK/server.log" >&2
+        exit 1
+    fi
 }
 
 stop() {

@@ -1,14 +1,17 @@
 # shellcheck shell=sh disable=SC2034 # sourced; its variables are used by others
-# Sourced by the scripts here and in ../examples and ../rust. Sets what depends on the machine:
+# Sourced by the scripts here and in ../examples and ../rust. Sets what depends on the machines:
 #
 #   ROOT         the root of the repository
-#   MACHINE      x86-64, aarch64 or what uname says
+#   MACHINE      the machine this runs on: x86-64, aarch64 or what uname says
+#   TARGET       the machine that programs are built for. THX_TARGET names it: x86-64 (the default,
+#                since the archive is for it), aarch64, or own for the machine this runs on
+#   TRIPLE       the target's name among compilers
 #   TARGET_CC, TARGET_CXX
-#                compilers for x86-64, which is what the archive is for
-#   RUN          a command to put before an x86-64 program, or nothing
-#   CARGO_TARGET the folder below cargo's target folder where x86-64 programs are put
+#                compilers for the target
+#   RUN          a command to put before a program of the target, or nothing
+#   CARGO_TARGET the folder below cargo's target folder where programs are put
 #
-# and the variables by which cargo builds for x86-64 and runs the result.
+# and the variables by which cargo builds for the target and runs the result.
 
 ROOT=$(cd "$(dirname "$0")/.." && pwd)
 : "${THX_LIB_DIR:=}"
@@ -19,70 +22,92 @@ case $(uname -m) in
     *) MACHINE=$(uname -m) ;;
 esac
 
+TARGET=${THX_TARGET:-x86-64}
+[ "$TARGET" = own ] && TARGET=$MACHINE
+case $TARGET in
+    x86-64)
+        CPU=x86_64
+        LOADER=/lib64/ld-linux-x86-64.so.2
+        ;;
+    aarch64)
+        CPU=aarch64
+        LOADER=/lib/ld-linux-aarch64.so.1
+        ;;
+    *)
+        echo "programs are built for x86-64 or aarch64, not for $TARGET" >&2
+        exit 2
+        ;;
+esac
+TRIPLE=$CPU-unknown-linux-gnu
+
 have() {
     command -v "$1" >/dev/null 2>&1
 }
 
-if [ "$MACHINE" = x86-64 ]; then
+if [ "$MACHINE" = "$TARGET" ]; then
     TARGET_CC=${CC:-cc}
     TARGET_CXX=${CXX:-c++}
     RUN=
     CARGO_TARGET=
 else
-    TARGET_CC=x86_64-linux-gnu-gcc
-    TARGET_CXX=x86_64-linux-gnu-g++
-    RUN=qemu-x86_64
-    CARGO_TARGET=x86_64-unknown-linux-gnu/
-    CARGO_BUILD_TARGET=x86_64-unknown-linux-gnu
-    CARGO_TARGET_X86_64_UNKNOWN_LINUX_GNU_LINKER=$TARGET_CC
-    CARGO_TARGET_X86_64_UNKNOWN_LINUX_GNU_RUNNER=$RUN
-    export CARGO_BUILD_TARGET CARGO_TARGET_X86_64_UNKNOWN_LINUX_GNU_LINKER
-    export CARGO_TARGET_X86_64_UNKNOWN_LINUX_GNU_RUNNER
+    TARGET_CC=$CPU-linux-gnu-gcc
+    TARGET_CXX=$CPU-linux-gnu-g++
+    RUN=qemu-$CPU
+    # Where Debian's cross packages have the target's C library.
+    QEMU_LD_PREFIX=/usr/$CPU-linux-gnu
+    CARGO_TARGET=$TRIPLE/
+    CARGO_BUILD_TARGET=$TRIPLE
+    export QEMU_LD_PREFIX CARGO_BUILD_TARGET
+    setting=CARGO_TARGET_$(echo "$TRIPLE" | tr 'a-z-' 'A-Z_')
+    export "${setting}_LINKER=$TARGET_CC" "${setting}_RUNNER=$RUN"
 fi
 
-# Whether the Rust compiler found first has a standard library for x86-64.
+# Whether the Rust compiler found first has a standard library for the target.
 have_rust_std() {
-    have rustc && libdir=$(rustc --target x86_64-unknown-linux-gnu --print target-libdir 2>/dev/null) \
+    have rustc && libdir=$(rustc --target "$TRIPLE" --print target-libdir 2>/dev/null) \
         && ls "$libdir"/libstd-*.rlib >/dev/null 2>&1
 }
 
-# Debian's own compiler, if the first one cannot build for x86-64.
-if [ "$MACHINE" != x86-64 ] && ! have_rust_std && [ -x /usr/bin/rustc ]; then
+# Debian's own compiler, if the first one cannot build for the target.
+if [ "$MACHINE" != "$TARGET" ] && ! have_rust_std && [ -x /usr/bin/rustc ]; then
     PATH=/usr/bin:$PATH
     export PATH
 fi
 
-# What stands between this machine and x86-64 programs in C; nothing if all is there.
+# compiles COMPILER LANGUAGE: whether it makes a program, which takes a C library for the target.
+compiles() {
+    have "$1" && echo 'int main(void) { return 0; }' | "$1" -x "$2" -o /dev/null - 2>/dev/null
+}
+
+# What stands between this machine and programs of the target; nothing if all is there.
+missing_to_run() {
+    [ -n "$RUN" ] || return 0
+    have "$RUN" || echo "an emulator ($RUN)"
+    [ -e "$QEMU_LD_PREFIX$LOADER" ] || [ -e "$LOADER" ] || echo "the C library of $TARGET"
+}
+
 missing_for_c() {
-    have "$TARGET_CC" || echo "a C compiler ($TARGET_CC)"
-    if [ -n "$RUN" ]; then
-        have "$RUN" || echo "an emulator ($RUN)"
-    fi
+    compiles "$TARGET_CC" c || echo "a C compiler ($TARGET_CC)"
+    missing_to_run
 }
 
 missing_for_cxx() {
-    have "$TARGET_CXX" || echo "a C++ compiler ($TARGET_CXX)"
-    if [ -n "$RUN" ]; then
-        have "$RUN" || echo "an emulator ($RUN)"
-    fi
+    compiles "$TARGET_CXX" c++ || echo "a C++ compiler ($TARGET_CXX)"
+    missing_to_run
 }
 
 missing_for_rust() {
     have cargo || echo "cargo"
-    have_rust_std || echo "Rust's standard library for x86-64"
+    have_rust_std || echo "Rust's standard library for $TARGET"
     missing_for_c
 }
 
-# Settles THX_LIB_DIR, the folder of the archive: as given, or target/staticlib, brought up to date
-# where the kit is there. Gives 1 and sets PROBLEM if there is no archive.
+# Settles THX_LIB_DIR, the folder of the archive: as given, or below target/, brought up to date where
+# the kit is there. Gives 1 and sets PROBLEM if there is no archive.
 find_archive() {
     PROBLEM=
     if [ -z "$THX_LIB_DIR" ]; then
-        THX_LIB_DIR=$ROOT/target/staticlib
-        if have rt && ! (cd "$ROOT" && rt staticlib thonxiliko); then
-            PROBLEM="'rt staticlib thonxiliko' failed"
-            return 1
-        fi
+        make_archive || return 1
     fi
     if [ ! -f "$THX_LIB_DIR/libthonxiliko.a" ]; then
         PROBLEM="no libthonxiliko.a in $THX_LIB_DIR; 'rt staticlib thonxiliko' makes it"
@@ -92,16 +117,28 @@ find_archive() {
     export THX_LIB_DIR
 }
 
+make_archive() {
+    if [ "$TARGET" = x86-64 ]; then
+        THX_LIB_DIR=$ROOT/target/staticlib
+        set -- rt staticlib thonxiliko
+    else
+        THX_LIB_DIR=$ROOT/target/native/$TRIPLE
+        set -- rust/native "$TRIPLE"
+    fi
+    if have rt && ! (cd "$ROOT" && "$@"); then
+        PROBLEM="'$*' failed"
+        return 1
+    fi
+}
+
 # The folder of PostgreSQL's server programs, or nothing.
 postgresql_bin() {
-    if have initdb && have pg_ctl && have pg_checksums && have pg_amcheck; then
-        dirname "$(command -v pg_checksums)"
-        return
-    fi
+    in_path=$(command -v pg_checksums) && in_path=$(dirname "$in_path")
     # Debian keeps them beside each other by version; the newest comes first.
-    for dir in $(find /usr/lib/postgresql -maxdepth 2 -name bin 2>/dev/null | sort -t/ -k5,5Vr); do
-        if [ -x "$dir/initdb" ] && [ -x "$dir/pg_ctl" ] && [ -x "$dir/pg_checksums" ] \
-            && [ -x "$dir/pg_amcheck" ]; then
+    for dir in $in_path \
+        $(find /usr/lib/postgresql -maxdepth 2 -name bin 2>/dev/null | sort -t/ -k5,5Vr); do
+        if [ -x "$dir/postgres" ] && [ -x "$dir/initdb" ] && [ -x "$dir/pg_ctl" ] \
+            && [ -x "$dir/psql" ] && [ -x "$dir/pg_checksums" ] && [ -x "$dir/pg_amcheck" ]; then
             echo "$dir"
             return
         fi
