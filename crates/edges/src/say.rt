@@ -1,7 +1,6 @@
 // What the program prints: a line a case, its name and what the call answered.
 use blockmap::Looked;
 use blockmap::Tallied;
-use info::text::refusal_number;
 use layout::Kind;
 use layout::Refusal;
 use store::Built;
@@ -72,21 +71,13 @@ pub(crate) fn first_bytes(bytes: &[u8]) {
 }
 
 fn refused(refusal: Refusal) {
-    number(refusal_number(refusal));
-}
-
-fn kind_number(kind: Kind) -> u64 {
-    match kind {
-        Kind::Empty => 0,
-        Kind::Patch => 1,
-        Kind::Full => 2,
-    }
+    number(layout::number::refusal_number(refusal) as u64);
 }
 
 // Done, and the kind.
 fn done(kind: Kind) {
     number(0);
-    number(kind_number(kind));
+    number(layout::number::kind_number(kind) as u64);
 }
 
 pub(crate) fn compared(answer: Compared) {

@@ -1,38 +1,18 @@
 // The lines that `slotinfo` prints.
 use crate::Info;
 use layout::Kind;
-use layout::Refusal;
 ghost use mathlib.Core.Path.{_≡_};
 ghost use mathlib.Core.List.{[], _∷_, _++_};
 ghost use Prim.Native.Nat.{_+_, _≤_};
 ghost use lib.ListN.{length, set};
 ghost use Rattle.layout.specs.Sizes.{pageSize};
-ghost use Rattle.layout.specs.Numbers.{kindNumber, refusalNumber};
+ghost use Rattle.layout.specs.Numbers.{kindNumber};
 ghost use Rattle.stream.specs.Steps.{Put};
 ghost use Rattle.info.specs.Info.{toldNumbers, infoNumbers};
 ghost use Rattle.info.specs.Text.{widest, decimal, numberLine, kindLine, lastLine, longest, text};
 
 // The most bytes that the text can have.
 pub const LONGEST: usize = 100;
-
-// The paper's number of a refusal.
-pub fn refusal_number(refusal: Refusal) -> u64
-    ensures { λ r. ⌜ r ≡ refusalNumber refusal ⌝ }
-{
-    match refusal {
-        Refusal::Page => 1,
-        Refusal::Length => 2,
-        Refusal::Header => 3,
-        Refusal::Version => 4,
-        Refusal::Block => 5,
-        Refusal::Slot => 6,
-        Refusal::Payload => 7,
-        Refusal::Room => 8,
-        Refusal::Buffer => 9,
-        Refusal::Place => 10,
-        Refusal::Pair => 11,
-    }
-}
 
 // Stores a byte, if there is room for it.
 fn put(out: &mut [u8], at: usize, value: u8)
@@ -108,7 +88,12 @@ pub fn put_text(out: &mut [u8], info: Info) -> usize
     ensures short { λ r. ⌜ r ≤ longest ⌝ }
 {
     match info {
-        Info::Refused(refusal) => put_line(out, 0, b"refused ", refusal_number(refusal)),
+        Info::Refused(refusal) => put_line(
+            out,
+            0,
+            b"refused ",
+            layout::number::refusal_number(refusal) as u64,
+        ),
         Info::Slot {
             kind,
             length,

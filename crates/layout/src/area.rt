@@ -36,7 +36,7 @@ pub fn patch_fits(patch_length: usize) -> bool
     if Layout::BLOCKS < n {
         return false;
     }
-    patch_length == Layout::PATCH_HEAD + Layout::SLOT * n
+    patch_length == Layout::slot_at(n as u32)
 }
 
 // Whether a full area may have this length beside a patch area of n blocks.

@@ -6,7 +6,7 @@ ghost use mathlib.Core.Path.{_≡_};
 ghost use Prim.Native.Nat.{_≤_};
 ghost use lib.ListN.{length, take};
 ghost use Rattle.span.specs.Bytes.{zeros, splice};
-ghost use Rattle.layout.specs.Sizes.{pageSize};
+ghost use Rattle.layout.specs.Sizes.{pageSize, restAt};
 ghost use Rattle.layout.specs.Numbers.{faultNumber};
 ghost use Rattle.layout.specs.Refusals.{firstOf};
 ghost use Rattle.layout.specs.Headers.{patchFields, fullFields, header, headRows, patchHeadRows, headerRows};
@@ -71,7 +71,7 @@ fn full_fields(size: u64) -> [u8; Layout::FULL_FIELDS]
 
 // Magic, version, then the rest: what is wrong first with the header of `size` bytes that begins with these fields.
 fn head_fault(area: &[u8], fields: &[u8], size: usize) -> Fault
-    requires { ⌜ (10 ≤ length (now fields)) × (length (now fields) ≤ size) ⌝ }
+    requires { ⌜ (restAt ≤ length (now fields)) × (length (now fields) ≤ size) ⌝ }
     ensures { λ r. ⌜ faultNumber r ≡ firstOf (headRows (header (now (fields .entry)) size) size (now (area .entry))) ⌝ }
 {
     let n = fields.len();

@@ -1,11 +1,11 @@
 // The bytes of both areas: sizes, places, headers, slots, and the numbers that all calls share.
 pub mod area;
 pub mod head;
+pub mod number;
 pub mod slot;
 
 ghost use mathlib.Core.Path.{_≡_};
 ghost use Rattle.layout.specs.Sizes.{pageSize, segment, blocksAtMost, patchHead, fullHead, slotSize, versionAt, restAt, lengthAt, payloadAt, room, slotAt, pageAt};
-ghost use Rattle.layout.specs.Headers.{patchMagic, fullMagic};
 
 // What a slot holds, and what a comparison finds.
 pub enum Kind {
@@ -68,9 +68,9 @@ impl Layout {
 
     pub const SLOT_SIZE_AT: usize = 16;
 
-    pub const PATCH_FIELDS: usize = 20;
+    pub const PATCH_FIELDS: usize = Self::SLOT_SIZE_AT + 4;
 
-    pub const FULL_FIELDS: usize = 16;
+    pub const FULL_FIELDS: usize = Self::PAGE_SIZE_AT + 4;
 
     pub const PATCH_MAGIC: [u8; 8] = [80, 66, 75, 80, 65, 84, 67, 72];
 
@@ -123,6 +123,10 @@ impl Layout {
         ensures patch { λ _. do ⌜ (← ⟦Layout::PATCH_HEAD⟧ .entry) ≡ patchHead ⌝ }
         ensures full { λ _. do ⌜ (← ⟦Layout::FULL_HEAD⟧ .entry) ≡ fullHead ⌝ }
         ensures slots { λ _. do ⌜ (← ⟦Layout::SLOT⟧ .entry) ≡ slotSize ⌝ }
+        ensures versions { λ _. do ⌜ (← ⟦Layout::VERSION_AT⟧ .entry) ≡ versionAt ⌝ }
+        ensures rests { λ _. do ⌜ (← ⟦Layout::FLAGS_AT⟧ .entry) ≡ restAt ⌝ }
+        ensures lengths { λ _. do ⌜ (← ⟦Layout::LENGTH_AT⟧ .entry) ≡ lengthAt ⌝ }
+        ensures payloads { λ _. do ⌜ (← ⟦Layout::PAYLOAD_AT⟧ .entry) ≡ payloadAt ⌝ }
         ensures rooms { λ _. do ⌜ (← ⟦Layout::ROOM⟧ .entry) ≡ room ⌝ }
     {}
 }

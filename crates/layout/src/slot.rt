@@ -53,7 +53,11 @@ pub fn slot_state(slot: &[u8]) -> SlotState
         }
         return SlotState::Patch(n);
     }
-    if !span::zero_part(slot, 1, Layout::SLOT - 1) {
+    if !span::zero_part(
+        slot,
+        Layout::SLOT_FLAGS_AT,
+        Layout::SLOT - Layout::SLOT_FLAGS_AT,
+    ) {
         return SlotState::Unsound;
     }
     if kind == Layout::EMPTY_KIND {

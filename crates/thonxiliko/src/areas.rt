@@ -20,7 +20,7 @@ pub extern "C" fn thx_format(patch: &mut [u8], full: &mut [u8]) -> thx_done
     match store::format::format(patch, full) {
         Formatted::Done => thx_done { number: 0 },
         Formatted::Refused(refusal) => thx_done {
-            number: crate::refusal_number(refusal),
+            number: layout::number::refusal_number(refusal),
         },
     }
 }
@@ -32,11 +32,11 @@ pub extern "C" fn thx_judge(slot: &[u8]) -> thx_judged
     match store::judge::judge(slot) {
         Judged::Done { kind, length } => thx_judged {
             number: 0,
-            kind: crate::kind_number(kind),
+            kind: layout::number::kind_number(kind),
             length: length as u32,
         },
         Judged::Refused(refusal) => thx_judged {
-            number: crate::refusal_number(refusal),
+            number: layout::number::refusal_number(refusal),
             kind: 0,
             length: 0,
         },
@@ -68,10 +68,10 @@ pub extern "C" fn thx_read(
     match store::read::read(patch, full, block as usize, base, page) {
         Reading::Done { kind } => thx_reading {
             number: 0,
-            kind: crate::kind_number(kind),
+            kind: layout::number::kind_number(kind),
         },
         Reading::Refused(refusal) => thx_reading {
-            number: crate::refusal_number(refusal),
+            number: layout::number::refusal_number(refusal),
             kind: 0,
         },
     }
@@ -90,11 +90,11 @@ pub extern "C" fn thx_write(
     match store::write::write(patch, full, block as usize, base, page) {
         Written::Done { kind, length } => thx_written {
             number: 0,
-            kind: crate::kind_number(kind),
+            kind: layout::number::kind_number(kind),
             length: length as u32,
         },
         Written::Refused(refusal) => thx_written {
-            number: crate::refusal_number(refusal),
+            number: layout::number::refusal_number(refusal),
             kind: 0,
             length: 0,
         },
@@ -111,7 +111,7 @@ pub extern "C" fn thx_build(patch: &[u8], full: &[u8], map: &mut [u8]) -> thx_bu
             block: 0,
         },
         Built::Refused { refusal, block } => thx_built {
-            number: crate::refusal_number(refusal),
+            number: layout::number::refusal_number(refusal),
             block: block as u64,
         },
     }

@@ -3,11 +3,6 @@ pub mod areas;
 pub mod map;
 pub mod pages;
 
-use layout::Kind;
-use layout::Refusal;
-ghost use mathlib.Core.Path.{_≡_};
-ghost use Rattle.layout.specs.Numbers.{kindNumber, refusalNumber};
-
 // What Format answers.
 #[repr(C)]
 pub struct thx_done {
@@ -82,34 +77,4 @@ pub struct thx_tallied {
     pub number: u32,
     pub patch: u64,
     pub full: u64,
-}
-
-// The paper's number for a kind.
-fn kind_number(kind: Kind) -> u32
-    ensures { λ r. ⌜ r ≡ kindNumber kind ⌝ }
-{
-    match kind {
-        Kind::Empty => 0,
-        Kind::Patch => 1,
-        Kind::Full => 2,
-    }
-}
-
-// The paper's number for a refusal.
-fn refusal_number(refusal: Refusal) -> u32
-    ensures { λ r. ⌜ r ≡ refusalNumber refusal ⌝ }
-{
-    match refusal {
-        Refusal::Page => 1,
-        Refusal::Length => 2,
-        Refusal::Header => 3,
-        Refusal::Version => 4,
-        Refusal::Block => 5,
-        Refusal::Slot => 6,
-        Refusal::Payload => 7,
-        Refusal::Room => 8,
-        Refusal::Buffer => 9,
-        Refusal::Place => 10,
-        Refusal::Pair => 11,
-    }
 }

@@ -16,7 +16,7 @@ pub extern "C" fn thx_look_up(map: &[u8], n: u64, block: u64) -> thx_pair
             pair: pair as u32,
         },
         Looked::Refused(refusal) => thx_pair {
-            number: crate::refusal_number(refusal),
+            number: layout::number::refusal_number(refusal),
             pair: 0,
         },
     }
@@ -33,7 +33,7 @@ pub extern "C" fn thx_tally(map: &[u8], n: u64) -> thx_tallied
             full: full as u64,
         },
         Tallied::Refused(refusal) => thx_tallied {
-            number: crate::refusal_number(refusal),
+            number: layout::number::refusal_number(refusal),
             patch: 0,
             full: 0,
         },

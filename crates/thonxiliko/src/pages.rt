@@ -18,13 +18,13 @@ pub extern "C" fn thx_compare(base: &[u8], page: &[u8], payload: &mut [u8]) -> t
             last,
         } => thx_compared {
             number: 0,
-            kind: crate::kind_number(kind),
+            kind: layout::number::kind_number(kind),
             length: length as u32,
             entries: entries as u32,
             last: last,
         },
         Compared::Refused(refusal) => thx_compared {
-            number: crate::refusal_number(refusal),
+            number: layout::number::refusal_number(refusal),
             kind: 0,
             length: 0,
             entries: 0,
@@ -44,7 +44,7 @@ pub extern "C" fn thx_apply(base: &[u8], payload: &[u8], page: &mut [u8]) -> thx
             last: last,
         },
         Applied::Refused(refusal) => thx_applied {
-            number: crate::refusal_number(refusal),
+            number: layout::number::refusal_number(refusal),
             entries: 0,
             last: 0,
         },

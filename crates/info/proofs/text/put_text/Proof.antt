@@ -24,6 +24,9 @@ slice-aggregate-put-line c = search needs
 refusal-number-requires : tie.Need-refusal-number-requires
 refusal-number-requires c κs = search needs
 
+cast-put-line : tie.Need-cast-put-line
+cast-put-line c = search needs
+
 put-line-requires : tie.Need-put-line-requires
 put-line-requires c κs = search needs
 
@@ -70,6 +73,7 @@ put-text-spec =
     enum-known-info
     slice-aggregate-put-line
     refusal-number-requires
+    cast-put-line
     put-line-requires
     enum-known-info-2
     put-kind-requires

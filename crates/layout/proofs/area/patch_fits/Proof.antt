@@ -27,20 +27,21 @@ returns-2 c =
     let f : leb (blocksIn l) (blocksAtMost pageSize) ≡ false = lt-leb (blocksIn l) (blocksAtMost pageSize) (omega arith) in
     sym (ap (λ (t : Bool). eqb l (slotAt (blocksIn l)) && t) f ∙ and-false (eqb l (slotAt (blocksIn l))))
 
-mul-result : tie.Need-mul-result
-mul-result c = search needs
+cast-slot-at : tie.Need-cast-slot-at
+cast-slot-at c = search needs
 
-add-result : tie.Need-add-result
-add-result c = search needs
+slot-at-requires : tie.Need-slot-at-requires
+slot-at-requires c κs = search needs
 
 returns-3 : tie.Need-returns-3
 unfolding patchFits
 returns-3 c =
-    let l : ℕ = c .before .before .before .args .patch-length in
+    let l : ℕ = c .before .before .before .before .args .patch-length in
     let f : leb (blocksIn l) (blocksAtMost pageSize) ≡ true = le-leb (blocksIn l) (blocksAtMost pageSize) (omega arith) in
-    ap (λ (n : ℕ). eqb l (slotAt n)) (c .before .blocks2 .ensures)
+    ap (λ (n : ℕ). eqb l n) (c .slot-at .ensures)
+    ∙ ap (λ (n : ℕ). eqb l (slotAt n)) (c .before .before .blocks2 .ensures)
     ∙ sym (ap (λ (t : Bool). eqb l (slotAt (blocksIn l)) && t) f ∙ and-true (eqb l (slotAt (blocksIn l))))
 
 pub patch-fits-spec : {M : Type 1} → statement M
 patch-fits-spec =
-    tie.close (tie.spec returns blocks-requires returns-2 mul-result add-result returns-3)
+    tie.close (tie.spec returns blocks-requires returns-2 cast-slot-at slot-at-requires returns-3)
