@@ -40,7 +40,7 @@ pub fn patch_fits(patch_length: usize) -> bool
 }
 
 // Whether a full area may have this length beside a patch area of n blocks.
-pub fn full_fits(n: usize, full_length: usize) -> bool
+pub fn full_fits(n: u32, full_length: usize) -> bool
     ensures { λ r. ⌜ r ≡ fullFits pageSize n «full_length» ⌝ }
 {
     if full_length == 0 {
@@ -50,10 +50,10 @@ pub fn full_fits(n: usize, full_length: usize) -> bool
         return false;
     }
     let m = pages(full_length);
-    if n < m {
+    if (n as usize) < m {
         return false;
     }
-    full_length == Layout::FULL_HEAD + Layout::PAGE * m
+    full_length == Layout::page_at(m as u32)
 }
 
 // Whether two areas may have these lengths.
@@ -63,5 +63,5 @@ pub fn lengths_fit(patch_length: usize, full_length: usize) -> bool
     if !patch_fits(patch_length) {
         return false;
     }
-    full_fits(blocks(patch_length), full_length)
+    full_fits(blocks(patch_length) as u32, full_length)
 }

@@ -34,27 +34,24 @@ returns-3 c =
     let f : leb m (a .n) ≡ false = lt-leb m (a .n) (omega arith) in
     rw (ne-eqb l 0 (c .before .before .before .if1 .left)) (sym (ap (λ (t : Bool). eqb l (pageAt pageSize m) && t) f ∙ and-false (eqb l (pageAt pageSize m))))
 
-mul-result : tie.Need-mul-result
-unfolding pagesIn
-mul-result c =
-    omega arith
+cast-page-at : tie.Need-cast-page-at
+cast-page-at c = search needs
 
-add-result : tie.Need-add-result
-unfolding pagesIn
-add-result c =
-    omega arith
+page-at-requires : tie.Need-page-at-requires
+page-at-requires c κs = search needs
 
 returns-4 : tie.Need-returns-4
 unfolding fullFits
 returns-4 c =
-    let a = c .before .before .before .before .args in
+    let a = c .before .before .before .before .before .args in
     let l : ℕ = a .full-length in
     let m : ℕ = pagesIn pageSize l in
     let f : leb m (a .n) ≡ true = le-leb m (a .n) (omega arith) in
-    rw (ne-eqb l 0 (c .before .before .before .if1 .left))
-    (ap (λ (k : ℕ). eqb l (pageAt pageSize k)) (c .before .pages .ensures)
+    rw (ne-eqb l 0 (c .before .before .before .before .if1 .left))
+    (ap (λ (k : ℕ). eqb l k) (c .page-at .ensures)
+    ∙ ap (λ (k : ℕ). eqb l (pageAt pageSize k)) (c .before .before .pages .ensures)
     ∙ sym (ap (λ (t : Bool). eqb l (pageAt pageSize m) && t) f ∙ and-true (eqb l (pageAt pageSize m))))
 
 pub full-fits-spec : {M : Type 1} → statement M
 full-fits-spec =
-    tie.close (tie.spec returns returns-2 pages-requires returns-3 mul-result add-result returns-4)
+    tie.close (tie.spec returns returns-2 pages-requires returns-3 cast-page-at page-at-requires returns-4)

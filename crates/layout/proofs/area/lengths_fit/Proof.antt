@@ -1,14 +1,10 @@
-use Rattle.layout.specs.Areas.{patchFits, fullFits, blocksIn}
-use Rattle.layout.specs.Sizes.{pageSize}
-use mathlib.Core.Bool.{Bool, true, false, _&&_}
-use borrow.Author.Tests.{not-true, not-false}
-use borrow.Author.Tests.{eq-eqb, ne-eqb, le-leb, lt-leb}
-use lib.Dec.{eqb, leb}
-use mathlib.Core.Bool.{Bool, _&&_, _||_, and-true, and-false}
+use Rattle.layout.specs.Areas.{patchFits, fullFits, blocksIn, patch-fits-is}
+use Rattle.layout.specs.Sizes.{pageSize, blocksAtMost}
+use mathlib.Core.Bool.{true, false, _&&_}
 use mathlib.Core.Path.{_≡_, sym, ap, _∙_}
-use Prim.Native.Nat.{ℕ, _+_, _-_, _*_, _/_}
+use Prim.Native.Nat.{ℕ, _≤_}
 use native.Mathlib.Omega.{arith}
-use Rattle.span.specs.Tests.{tests}
+use borrow.Author.Tests.{not-true, not-false}
 use borrow.Author.Needs.{needs}
 use Rattle.layout.proofs.area.lengths_fit.Statement.{statement}
 use Rattle.layout.proofs.area.lengths_fit.Tie as tie
@@ -25,6 +21,14 @@ returns c =
 blocks-requires : tie.Need-blocks-requires
 blocks-requires c κs = search needs
 
+cast-full-fits : tie.Need-cast-full-fits
+cast-full-fits c =
+    let a = c .before .before .before .args in
+    let p = c .before .before .patch-fits in
+    let f : patchFits pageSize (a .patch-length) ≡ true = sym (p .ensures) ∙ not-false (p .result) (c .before .if1 .left) in
+    let w : blocksIn (a .patch-length) ≤ blocksAtMost pageSize = patch-fits-is pageSize (a .patch-length) f .1 in
+    omega (arith, c .blocks2 .ensures)
+
 full-fits-requires : tie.Need-full-fits-requires
 full-fits-requires c κs = search needs
 
@@ -37,4 +41,4 @@ returns-2 c =
 
 pub lengths-fit-spec : {M : Type 1} → statement M
 lengths-fit-spec =
-    tie.close (tie.spec patch-fits-requires returns blocks-requires full-fits-requires returns-2)
+    tie.close (tie.spec patch-fits-requires returns blocks-requires cast-full-fits full-fits-requires returns-2)
