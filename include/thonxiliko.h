@@ -10,9 +10,22 @@
  *   the patch area   one slot of 512 bytes for each block: nothing, or the few bytes that differ;
  *   the full area    whole pages, for blocks that differ in more than a slot can hold.
  *
- * A page is written with thx_write and read back with thx_read, always together with its page in
- * the base. Both areas and all pages are the caller's memory. The library opens no file, keeps
- * nothing between two calls and takes no lock; calls on different buffers may run at the same time.
+ * thx_format makes both areas empty. A page is written with thx_write and read back with thx_read,
+ * always together with its page in the base. thx_build checks a whole store and makes a map that
+ * tells for each block where its page is. Both areas and all pages are the caller's memory. The
+ * library opens no file, allocates nothing and keeps nothing between two calls.
+ *
+ *
+ * LINKING
+ *
+ * The archive libthonxiliko.a is for x86-64 Linux (`rt staticlib thonxiliko` makes it). It needs
+ * memcpy, memmove and memset and nothing else. It links into C and C++ programs and into shared
+ * libraries:
+ *
+ *   cc -I include program.c target/staticlib/libthonxiliko.a -o program
+ *
+ * A call takes less than 10 KiB of stack. thx_compare, thx_apply, thx_read and thx_write keep room
+ * for a page of zeros there; the others take less than 1 KiB.
  *
  *
  * SIZES (bytes)
@@ -29,7 +42,7 @@
  *   block map            n / 4, rounded up
  *
  * The slot of block b starts at byte 512 + 512 * b of the patch area, its page at byte
- * 4,096 + 8,192 * b of the full area. All numbers in the areas are little endian.
+ * 4,096 + 8,192 * b of the full area. All numbers in areas and payloads are little endian.
  *
  *
  * WHAT THE AREAS HOLD
@@ -49,19 +62,24 @@
  *   kind 1  PATCH      flags 1, payload length 1 to 504, zero after the payload.
  *   kind 2  FULL_REF   the page stands in the full area. Every other byte is zero.
  *
+ * In the full area the place of a block that is not FULL_REF is all zeros.
+ *
  * A payload is a row of entries, each a jump and a value byte. A jump of 0 to 254 is one byte; the
- * byte 255 is followed by a jump of 16 bits. A position starts at -1, grows by jump + 1 with each
- * entry, must stay at or below 8,191, and the value replaces the base's byte there. A payload is
- * sound if it has 1 to 504 bytes and is used up by whole entries that stay in the page. The stream
- * that the library itself makes has one entry for each byte that differs, in rising order, and no
- * other; jumps of 255 and more take the long form. An entry takes 2 or 4 bytes, so a page with up
- * to 221 differences always fits a slot and one with more than 252 never does.
+ * byte 255 is followed by a jump of 16 bits, which may be any number. A position starts at -1 and
+ * grows by jump + 1 with each entry. It must stay at or below 8,191, and the value replaces the
+ * base's byte there. A payload is sound if it has 1 to 504 bytes and is used up by whole entries
+ * that stay in the page.
+ *
+ * The stream of a page is what the library itself makes of it: one entry for each byte that differs
+ * from the base, in rising order, and no other; jumps below 255 in one byte, others in the long
+ * form. An entry takes 2 or 4 bytes, so a page with up to 221 differences always fits a slot and
+ * one with more than 252 never does.
  *
  *
  * ANSWERS
  *
- * Every function but thx_show answers with a struct whose first member `number` is 0 if the call
- * was done, else the refusal:
+ * Every function but thx_show, which has no number, answers with a struct whose first member
+ * `number` is 0 if the call was done, else the refusal:
  *
  *    0  THX_DONE              done
  *    1  THX_BAD_PAGE_LENGTH   a base is not 0 or 8,192 bytes, or another page is not 8,192 bytes
@@ -82,6 +100,7 @@
  *   1, 2, 9, headers, 5, 6, 8, 7, 10, 11.
  * "Headers" is six steps: patch magic (3), patch version (4), the rest of the patch header (3),
  * then the same three for the full header. A full area of length 0 has no header to check.
+ * thx_build takes blocks in rising order and stops at the first that is at fault.
  *
  * On every refusal all buffers keep every byte they had, and every other member of the answer is 0
  * (`last` too), except that thx_build gives the block with 6, 7, 8 and 10. A refusal is given
@@ -96,6 +115,11 @@
  *
  * Overlap. A buffer that a call writes (one without const) must not overlap any other buffer of
  * that call. Two buffers that a call only reads may be the same or overlap.
+ *
+ * Threads. Two calls may run at the same time if no buffer that one of them writes is lent to the
+ * other, not even a part of it. So calls that only read the same buffers may: for instance two of
+ * thx_read on one store, into two pages. Two of thx_write on one store may not, even for different
+ * blocks. The library takes no lock.
  *
  * Numbers may be anything up to 2^64 - 1: a block or an n that is too large is refused.
  */
@@ -138,12 +162,12 @@ extern "C" {
 #define THX_KIND_PATCH 1
 #define THX_KIND_FULL 2
 
-/* Kinds of a difference, in the answer of thx_compare. */
-#define THX_SAME 0
-#define THX_PATCH 1
-#define THX_LARGE 2
+/* Kinds of a difference, in the answer of thx_compare; thx_write makes the slot of that number. */
+#define THX_DIFFERENCE_SAME 0
+#define THX_DIFFERENCE_PATCH 1
+#define THX_DIFFERENCE_LARGE 2
 
-/* Pairs of a block map. They are not numbered as the kinds are. */
+/* Pairs of a block map. They are not numbered as the kinds are; 3 is never a sound pair. */
 #define THX_PAIR_EMPTY 0
 #define THX_PAIR_FULL 1
 #define THX_PAIR_PATCH 2
@@ -174,11 +198,12 @@ thx_done thx_format(uint8_t *patch, size_t patch_len, uint8_t *full, size_t full
  *
  * Refuses, in this order: 1 if base_len is not 0 or 8,192 or page_len is not 8,192; 9 if
  * payload_len is below 504, whatever the stream's length.
- * Writes: for THX_PATCH the first `length` bytes of `payload`; later bytes stay. For THX_SAME and
- * THX_LARGE nothing.
- * Answers: kind    THX_SAME if there is no difference, THX_PATCH if the stream takes at most 504
- *                  bytes, else THX_LARGE;
- *          length  of the whole stream in bytes, for THX_LARGE too (506 to 16,384);
+ * Writes: for THX_DIFFERENCE_PATCH the first `length` bytes of `payload`; later bytes stay. For the
+ * other kinds nothing.
+ * Answers: kind    THX_DIFFERENCE_SAME if no byte differs, THX_DIFFERENCE_PATCH if the stream takes
+ *                  at most 504 bytes, else THX_DIFFERENCE_LARGE;
+ *          length  of the whole stream in bytes: 0 for SAME, 2 to 504 for PATCH, 506 to 16,384 for
+ *                  LARGE;
  *          entries the number of entries in the stream, that is of bytes that differ;
  *          last    the last position that differs, -1 if there is none.
  */
@@ -208,7 +233,7 @@ thx_judged thx_judge(const uint8_t *slot, size_t slot_len);
 /*
  * Show: where a block's payload lies in the patch area.
  *
- * Refuses by an empty part (at 0, len 0) if patch_len is wrong, the patch header is wrong, the
+ * Refuses, by an empty part (at 0, len 0), if patch_len is wrong, the patch header is wrong, the
  * block is not below n, or its slot is not a sound PATCH slot. The entries are not looked at.
  * Writes: nothing.
  * Answers: the payload is patch[at] to patch[at + len - 1].
@@ -223,7 +248,8 @@ thx_part thx_show(const uint8_t *patch, size_t patch_len, uint64_t block);
  * of an area is wrong; 3 or 4 for the headers; 5 if the block is not below n; 6 if its slot is not
  * sound; 8 if the slot is FULL_REF and the block is not below m; 7 if its payload is not sound.
  * Other blocks are not looked at.
- * Writes: all 8,192 bytes of `page`.
+ * Writes: all 8,192 bytes of `page`: the base for EMPTY, the base with the payload's entries for
+ * PATCH, the page in the full area for FULL_REF.
  * Answers: the kind of the block's slot.
  */
 thx_reading thx_read(const uint8_t *patch, size_t patch_len, const uint8_t *full, size_t full_len,
@@ -251,7 +277,7 @@ thx_written thx_write(uint8_t *patch, size_t patch_len, uint8_t *full, size_t fu
 /*
  * Build: check every block and make the block map.
  *
- * The map has two bits for each block: block b in bits 2 * (b mod 4) and up of byte b / 4.
+ * The map has two bits for each block, a pair: block b in bits 2 * (b mod 4) and up of byte b / 4.
  * Refuses, in this order: 2 if the length of an area is wrong; 9 if map_len is below n / 4, rounded
  * up; 3 or 4 for the headers; then block by block in rising order, stopping at the first fault, and
  * for one block 6 if its slot is not sound, 8 if it is FULL_REF and not below m, 7 if its payload
@@ -264,7 +290,7 @@ thx_built thx_build(const uint8_t *patch, size_t patch_len, const uint8_t *full,
                     uint8_t *map, size_t map_len);
 
 /*
- * Look up: one pair of a map of n blocks.
+ * Look up: one pair of a map of n blocks. n is that of the patch area from which the map was built.
  *
  * Refuses, in this order: 2 if n is over 131,072; 9 if map_len is below n / 4, rounded up; 5 if the
  * block is not below n; 11 if the block's own pair is 3. Other pairs are not looked at.

@@ -1,24 +1,51 @@
 /*
- * The header and the archive as a C program sees them. It is compiled as C11 and as C++, so it keeps
- * to what both have. Prints one line and gives status 1 if anything is not as the header says.
+ * The header and the archive as a C program sees them: the header's names, the structs, an example
+ * through every call, the largest area. Prints a line at the end, with status 1 if anything is not
+ * as the header and document 01 say.
  */
-#include "thonxiliko.h"
+#include "check.h"
 
 #include <stdio.h>
 #include <stdlib.h>
 #include <string.h>
 
-static unsigned checks;
-static unsigned failures;
+static unsigned long checks;
+static unsigned long failures;
 
-static void check(int holds, const char *what, int line) {
+void check(int holds, const char *what, const char *file, int line) {
     checks++;
     if (!holds) {
         failures++;
-        printf("interface.c:%d: not so: %s\n", line, what);
+        if (failures <= 20) {
+            printf("%s:%d: not so: %s\n", file, line, what);
+        }
     }
 }
-#define CHECK(condition) check((condition) ? 1 : 0, #condition, __LINE__)
+
+/* Each name in the header is the number that document 01 writes. */
+static void names(void) {
+    CHECK(THX_PAGE_SIZE == 8192);
+    CHECK(THX_SLOT_SIZE == 512);
+    CHECK(THX_PAYLOAD_SIZE == 504);
+    CHECK(THX_PATCH_HEADER_SIZE == 512);
+    CHECK(THX_FULL_HEADER_SIZE == 4096);
+    CHECK(THX_MAX_BLOCKS == 131072);
+    CHECK(THX_DONE == 0);
+    CHECK(THX_BAD_PAGE_LENGTH == 1);
+    CHECK(THX_BAD_AREA_LENGTH == 2);
+    CHECK(THX_BAD_HEADER == 3);
+    CHECK(THX_BAD_VERSION == 4);
+    CHECK(THX_BAD_BLOCK == 5);
+    CHECK(THX_BAD_SLOT == 6);
+    CHECK(THX_BAD_PAYLOAD == 7);
+    CHECK(THX_NO_FULL_PAGE == 8);
+    CHECK(THX_SHORT_BUFFER == 9);
+    CHECK(THX_STRAY_PAGE == 10);
+    CHECK(THX_BAD_PAIR == 11);
+    CHECK(THX_KIND_EMPTY == 0 && THX_KIND_PATCH == 1 && THX_KIND_FULL == 2);
+    CHECK(THX_DIFFERENCE_SAME == 0 && THX_DIFFERENCE_PATCH == 1 && THX_DIFFERENCE_LARGE == 2);
+    CHECK(THX_PAIR_EMPTY == 0 && THX_PAIR_FULL == 1 && THX_PAIR_PATCH == 2);
+}
 
 static uint8_t base[THX_PAGE_SIZE];
 static uint8_t page[THX_PAGE_SIZE];
@@ -42,43 +69,43 @@ static void structs(void) {
     CHECK(sizeof(thx_tallied) == 24 && offsetof(thx_tallied, full) == 16);
 }
 
+static const uint8_t stream[2] = {0x00, 0x07};
+
 /* Byte 0 of a page of zeros becomes 07: through every call, each member of each answer. */
-static void first_example(void) {
-    static const uint8_t stream[2] = {0x00, 0x07};
-    thx_done formatted;
+static void example_page(void) {
     thx_compared compared;
     thx_applied applied;
-    thx_judged judged;
-    thx_part part;
-    thx_reading reading;
-    thx_written written;
-    thx_built built;
-    thx_pair pair;
-    thx_tallied tallied;
 
     page[0] = 7;
     memset(payload, 0xEE, sizeof payload);
     compared = thx_compare(NULL, 0, page, sizeof page, payload, sizeof payload);
-    CHECK(compared.number == THX_DONE && compared.kind == THX_PATCH);
+    CHECK(compared.number == THX_DONE && compared.kind == THX_DIFFERENCE_PATCH);
     CHECK(compared.length == 2 && compared.entries == 1 && compared.last == 0);
     CHECK(memcmp(payload, stream, 2) == 0 && payload[2] == 0xEE);
 
     compared = thx_compare(base, sizeof base, base, sizeof base, payload, sizeof payload);
-    CHECK(compared.number == THX_DONE && compared.kind == THX_SAME);
+    CHECK(compared.number == THX_DONE && compared.kind == THX_DIFFERENCE_SAME);
     CHECK(compared.length == 0 && compared.entries == 0 && compared.last == -1);
 
     memset(again, 0xEE, sizeof again);
     applied = thx_apply(base, sizeof base, stream, sizeof stream, again, sizeof again);
     CHECK(applied.number == THX_DONE && applied.entries == 1 && applied.last == 0);
     CHECK(memcmp(again, page, sizeof page) == 0);
+}
+
+static void example_block(void) {
+    thx_judged judged;
+    thx_part part;
+    thx_reading reading;
+    thx_written written;
 
     memset(patch, 0xEE, sizeof patch);
     memset(full, 0xEE, sizeof full);
-    formatted = thx_format(patch, sizeof patch, full, sizeof full);
-    CHECK(formatted.number == THX_DONE);
+    CHECK(thx_format(patch, sizeof patch, full, sizeof full).number == THX_DONE);
     CHECK(memcmp(patch, "PBKPATCH\2", 9) == 0 && memcmp(full, "PBKFULL\0\1", 9) == 0);
 
-    written = thx_write(patch, sizeof patch, full, sizeof full, 1, base, sizeof base, page, sizeof page);
+    written = thx_write(patch, sizeof patch, full, sizeof full, 1, base, sizeof base, page,
+                        sizeof page);
     CHECK(written.number == THX_DONE && written.kind == THX_KIND_PATCH && written.length == 2);
 
     judged = thx_judge(patch + 1024, THX_SLOT_SIZE);
@@ -93,9 +120,18 @@ static void first_example(void) {
     reading = thx_read(patch, sizeof patch, full, sizeof full, 1, NULL, 0, again, sizeof again);
     CHECK(reading.number == THX_DONE && reading.kind == THX_KIND_PATCH);
     CHECK(memcmp(again, page, sizeof page) == 0);
+}
+
+/* Block 0 becomes a full page, then the map. */
+static void example_map(void) {
+    thx_written written;
+    thx_built built;
+    thx_pair pair;
+    thx_tallied tallied;
 
     memset(page, 9, sizeof page);
-    written = thx_write(patch, sizeof patch, full, sizeof full, 0, base, sizeof base, page, sizeof page);
+    written = thx_write(patch, sizeof patch, full, sizeof full, 0, base, sizeof base, page,
+                        sizeof page);
     CHECK(written.number == THX_DONE && written.kind == THX_KIND_FULL && written.length == 16384);
     CHECK(memcmp(full + THX_FULL_HEADER_SIZE, page, sizeof page) == 0);
 
@@ -107,84 +143,6 @@ static void first_example(void) {
     CHECK(pair.number == THX_DONE && pair.pair == THX_PAIR_PATCH);
     tallied = thx_tally(map, sizeof map, 2);
     CHECK(tallied.number == THX_DONE && tallied.patch == 1 && tallied.full == 1);
-
-    full[THX_FULL_HEADER_SIZE + THX_PAGE_SIZE] = 1;
-    built = thx_build(patch, sizeof patch, full, sizeof full, map, sizeof map);
-    CHECK(built.number == THX_STRAY_PAGE && built.block == 1 && map[0] == 0x09);
-    full[THX_FULL_HEADER_SIZE + THX_PAGE_SIZE] = 0;
-}
-
-/* NULL with length 0 for every buffer, and numbers near 2^64. */
-static void nothing(void) {
-    thx_compared compared = thx_compare(NULL, 0, NULL, 0, NULL, 0);
-    thx_applied applied = thx_apply(NULL, 0, NULL, 0, NULL, 0);
-    thx_judged judged = thx_judge(NULL, 0);
-    thx_part part = thx_show(NULL, 0, UINT64_MAX);
-    thx_reading reading = thx_read(NULL, 0, NULL, 0, UINT64_MAX, NULL, 0, NULL, 0);
-    thx_written written = thx_write(NULL, 0, NULL, 0, UINT64_MAX, NULL, 0, NULL, 0);
-    thx_built built = thx_build(NULL, 0, NULL, 0, NULL, 0);
-    thx_pair pair = thx_look_up(NULL, 0, UINT64_MAX, UINT64_MAX);
-    thx_tallied tallied = thx_tally(NULL, 0, UINT64_MAX);
-
-    CHECK(thx_format(NULL, 0, NULL, 0).number == THX_BAD_AREA_LENGTH);
-    CHECK(compared.number == THX_BAD_PAGE_LENGTH && compared.kind == 0 && compared.length == 0);
-    CHECK(compared.entries == 0 && compared.last == 0);
-    CHECK(applied.number == THX_BAD_PAGE_LENGTH && applied.entries == 0 && applied.last == 0);
-    CHECK(judged.number == THX_BAD_AREA_LENGTH && judged.kind == 0 && judged.length == 0);
-    CHECK(part.at == 0 && part.len == 0);
-    CHECK(reading.number == THX_BAD_PAGE_LENGTH && reading.kind == 0);
-    CHECK(written.number == THX_BAD_PAGE_LENGTH && written.kind == 0 && written.length == 0);
-    CHECK(built.number == THX_BAD_AREA_LENGTH && built.block == 0);
-    CHECK(pair.number == THX_BAD_AREA_LENGTH && pair.pair == 0);
-    CHECK(tallied.number == THX_BAD_AREA_LENGTH && tallied.patch == 0 && tallied.full == 0);
-
-    pair = thx_look_up(NULL, 0, 0, UINT64_MAX);
-    CHECK(pair.number == THX_BAD_BLOCK && pair.pair == 0);
-    pair = thx_look_up(NULL, 0, 1, 0);
-    CHECK(pair.number == THX_SHORT_BUFFER);
-    tallied = thx_tally(NULL, 0, 0);
-    CHECK(tallied.number == THX_DONE && tallied.patch == 0 && tallied.full == 0);
-    applied = thx_apply(NULL, 0, NULL, 0, again, sizeof again);
-    CHECK(applied.number == THX_BAD_PAYLOAD && applied.last == 0);
-    reading = thx_read(patch, sizeof patch, NULL, 0, UINT64_MAX, NULL, 0, again, sizeof again);
-    CHECK(reading.number == THX_BAD_BLOCK);
-    reading = thx_read(patch, sizeof patch, NULL, 0, (uint64_t)1 << 55, NULL, 0, again, sizeof again);
-    CHECK(reading.number == THX_BAD_BLOCK);
-    /* Block 0 is a full page, and there is no full area now. */
-    reading = thx_read(patch, sizeof patch, NULL, 0, 0, NULL, 0, again, sizeof again);
-    CHECK(reading.number == THX_NO_FULL_PAGE && reading.kind == 0);
-}
-
-static int all_are(const uint8_t *bytes, size_t length, uint8_t value) {
-    size_t at;
-    for (at = 0; at < length; at++) {
-        if (bytes[at] != value) {
-            return 0;
-        }
-    }
-    return 1;
-}
-
-/* Each length from 0 to 1,024 for a slot of zeros and for a base; a refusal changes nothing. */
-static void lengths(void) {
-    static const uint8_t stream[2] = {0x00, 0x07};
-    static uint8_t bytes[1024];
-    size_t length;
-    for (length = 0; length <= sizeof bytes; length++) {
-        thx_judged judged = thx_judge(bytes, length);
-        thx_applied applied;
-        memset(again, 0xEE, sizeof again);
-        applied = thx_apply(bytes, length, stream, sizeof stream, again, sizeof again);
-        CHECK(judged.number == (length == THX_SLOT_SIZE ? THX_DONE : THX_BAD_AREA_LENGTH));
-        CHECK(judged.kind == 0 && judged.length == 0);
-        if (length == 0) {
-            CHECK(applied.number == THX_DONE && applied.entries == 1 && applied.last == 0);
-            CHECK(again[0] == 7 && all_are(again + 1, sizeof again - 1, 0));
-        } else {
-            CHECK(applied.number == THX_BAD_PAGE_LENGTH && applied.entries == 0);
-            CHECK(all_are(again, sizeof again, 0xEE));
-        }
-    }
 }
 
 /* Buffers that a call only reads may be the same or overlap. */
@@ -198,12 +156,100 @@ static void overlap(void) {
     CHECK(memcmp(again, inside, sizeof again) == 0);
 }
 
+/* The archive takes each size of the header, and neither a byte less nor a byte more. */
+static void sizes(void) {
+    static uint8_t room[THX_PAGE_SIZE + 1], result[THX_PAGE_SIZE + 1], map_room[32769];
+    int more;
+    for (more = -1; more <= 1; more++) {
+        uint32_t page_number = more == 0 ? THX_DONE : THX_BAD_PAGE_LENGTH;
+        uint32_t area_number = more == 0 ? THX_DONE : THX_BAD_AREA_LENGTH;
+        CHECK(thx_compare(NULL, 0, room, THX_PAGE_SIZE + more, result, THX_PAYLOAD_SIZE).number
+              == page_number);
+        CHECK(thx_compare(room, THX_PAGE_SIZE + more, base, THX_PAGE_SIZE, result, THX_PAYLOAD_SIZE)
+                  .number == page_number);
+        CHECK(thx_judge(room, THX_SLOT_SIZE + more).number == area_number);
+        CHECK(thx_format(result, THX_PATCH_HEADER_SIZE + more, NULL, 0).number == area_number);
+        CHECK(thx_format(patch, THX_PATCH_HEADER_SIZE + THX_SLOT_SIZE + more, NULL, 0).number
+              == area_number);
+        CHECK(thx_format(patch, sizeof patch, result, THX_FULL_HEADER_SIZE + more).number
+              == area_number);
+        CHECK(thx_format(patch, sizeof patch, full, THX_FULL_HEADER_SIZE + THX_PAGE_SIZE + more)
+                  .number == area_number);
+        /* A longer payload buffer and a smaller n are as good. */
+        CHECK(thx_compare(NULL, 0, page, THX_PAGE_SIZE, result, THX_PAYLOAD_SIZE + more).number
+              == (more < 0 ? THX_SHORT_BUFFER : THX_DONE));
+        CHECK(thx_tally(map_room, sizeof map_room, THX_MAX_BLOCKS + more).number
+              == (more > 0 ? THX_BAD_AREA_LENGTH : THX_DONE));
+        CHECK(thx_look_up(map_room, sizeof map_room, THX_MAX_BLOCKS + more, 0).number
+              == (more > 0 ? THX_BAD_AREA_LENGTH : THX_DONE));
+    }
+}
+
+/* A patch area of 131,072 blocks, the last of them written; a map of it. */
+static void largest_area(uint8_t *area, size_t length, uint8_t *bits) {
+    thx_part part;
+    thx_tallied tallied;
+    memset(again, 0, sizeof again);
+    again[8191] = 1;
+    CHECK(thx_format(area, length, NULL, 0).number == THX_DONE);
+    CHECK(thx_write(area, length, NULL, 0, 131072, NULL, 0, again, 8192).number == THX_BAD_BLOCK);
+    CHECK(thx_write(area, length, NULL, 0, 131071, NULL, 0, again, 8192).length == 4);
+    CHECK(memcmp(area + 67108864, "\1\1\4\0\0\0\0\0\xFF\xFF\x1F\1", 12) == 0);
+    part = thx_show(area, length, 131071);
+    CHECK(part.at == 67108872 && part.len == 4);
+    CHECK(thx_read(area, length, NULL, 0, 131071, NULL, 0, page, 8192).kind == THX_KIND_PATCH);
+    CHECK(memcmp(page, again, sizeof page) == 0);
+    CHECK(thx_build(area, length, NULL, 0, bits, 32767).number == THX_SHORT_BUFFER);
+    CHECK(bits[0] == 0xEE && memcmp(bits, bits + 1, 32767) == 0);
+    CHECK(thx_build(area, length, NULL, 0, bits, 32768).number == THX_DONE);
+    CHECK(bits[0] == 0 && memcmp(bits, bits + 1, 32766) == 0 && bits[32767] == 0x80);
+    CHECK(thx_look_up(bits, 32768, 131072, 131071).pair == THX_PAIR_PATCH);
+    tallied = thx_tally(bits, 32768, 131072);
+    CHECK(tallied.number == THX_DONE && tallied.patch == 1 && tallied.full == 0);
+}
+
+/* The same area with a block more is refused by every call that takes it. */
+static void too_large_area(uint8_t *area, size_t length, uint8_t *bits) {
+    thx_part part = thx_show(area, length, 131071);
+    CHECK(part.at == 0 && part.len == 0);
+    CHECK(thx_read(area, length, NULL, 0, 131071, NULL, 0, page, 8192).number
+          == THX_BAD_AREA_LENGTH);
+    CHECK(thx_write(area, length, NULL, 0, 131071, NULL, 0, page, 8192).number
+          == THX_BAD_AREA_LENGTH);
+    CHECK(thx_build(area, length, NULL, 0, bits, 32768).number == THX_BAD_AREA_LENGTH);
+    CHECK(thx_format(area, length, NULL, 0).number == THX_BAD_AREA_LENGTH);
+    CHECK(memcmp(area, "PBKPATCH\2", 9) == 0 && area[67108864] == 1);
+}
+
+static void largest(void) {
+    const size_t length = 512 + 512 * (size_t)131072;
+    uint8_t *area = (uint8_t *)calloc(length + 512, 1);
+    uint8_t *bits = (uint8_t *)malloc(32768);
+    if (area == NULL || bits == NULL) {
+        printf("out of memory\n");
+        exit(2);
+    }
+    memset(bits, 0xEE, 32768);
+    largest_area(area, length, bits);
+    too_large_area(area, length + 512, bits);
+    free(area);
+    free(bits);
+}
+
 int main(void) {
-    structs();
-    first_example();
-    nothing();
-    lengths();
-    overlap();
-    printf("%u checks, %u failed\n", checks, failures);
+    names();
+    if (failures == 0) { /* the tests lend buffers of these sizes */
+        structs();
+        example_page();
+        example_block();
+        example_map();
+        overlap();
+        sizes();
+        largest();
+        every_refusal();
+        every_length();
+        every_number();
+    }
+    printf("%lu checks, %lu failed\n", checks, failures);
     return failures == 0 ? EXIT_SUCCESS : EXIT_FAILURE;
 }

@@ -1,0 +1,58 @@
+/*
+ * What the files here share. They are compiled as C11 and as C++11, so they keep to what both have.
+ *
+ * Most calls are made on one scene, a sound store of three blocks with pages and a map (calls.c).
+ * An ask is a call with its lengths and numbers, perhaps with a byte or two made wrong. What an ask
+ * without wrong bytes must give is in rules.c, written from document 01.
+ */
+#ifndef CHECK_H
+#define CHECK_H
+
+#include "thonxiliko.h"
+
+/* Counts a check and prints it if it does not hold; CHECK does so for a condition. */
+void check(int holds, const char *what, const char *file, int line);
+#define CHECK(condition) check((condition) ? 1 : 0, #condition, __FILE__, __LINE__)
+
+enum { FORMAT, COMPARE, APPLY, JUDGE, SHOW, READ, WRITE, BUILD, LOOK_UP, TALLY, CALLS };
+enum { PATCH, FULL, BASE, PAGE, PAYLOAD, MAP, SLOT, ROLES };
+#define BIT(number) (1u << (number))
+
+/* A byte of a buffer that is made wrong before the call. */
+typedef struct {
+    int role;
+    size_t at;
+    uint8_t value;
+} poke;
+
+typedef struct {
+    int call;
+    size_t length[ROLES]; /* those of buffers that the call does not take are not used */
+    uint64_t n;           /* for Look up and Tally; the others see n in the patch area */
+    uint64_t block;       /* it also chooses Compare's and Write's page and Judge's slot */
+    uint8_t *nowhere;     /* the pointer lent for a buffer of length 0 */
+    int pokes;
+    poke wrong[2];
+} ask;
+
+/* The number and the other members of the struct, in their order. Show has no number: 0. */
+typedef struct {
+    uint32_t number;
+    int64_t rest[4];
+} answer;
+
+/* calls.c: whether a call takes a buffer; a sound ask; a call made, everything about it checked. */
+int takes(int call, int role);
+ask sound_ask(int call);
+void try_call(const ask *asked, const answer *wanted);
+
+/* rules.c: the answer, and what a call that is done makes of its buffers. */
+answer answer_of(const ask *asked);
+void change(const ask *asked, uint8_t *const bytes[ROLES]);
+
+/* refusals.c and lengths.c: tests. */
+void every_refusal(void);
+void every_length(void);
+void every_number(void);
+
+#endif

@@ -1,0 +1,124 @@
+/* Any lengths and any numbers: each call gives what rules.c says and changes nothing else. */
+#include "check.h"
+
+#include <string.h>
+
+static void try_by_rules(const ask *a) {
+    answer wanted = answer_of(a);
+    try_call(a, &wanted);
+}
+
+/* Every length from 0 to 1,024 for one buffer, then both sides of every length that is right. */
+static void sweep(ask a, int role) {
+    static const size_t longer[] = {1536,  2047,  2048,  2049,  2560,  4095,  4096,  4097,
+                                    8191,  8192,  8193,  12287, 12288, 12289, 16384, 20479,
+                                    20480, 20481, 28671, 28672, 28673, 36864};
+    size_t at;
+    a.length[role] = 0;
+    a.nowhere = (uint8_t *)1; /* it may be anything */
+    try_by_rules(&a);
+    a.nowhere = NULL;
+    for (at = 0; at <= 1024; at++) {
+        a.length[role] = at;
+        try_by_rules(&a);
+    }
+    for (at = 0; at < sizeof longer / sizeof longer[0]; at++) {
+        a.length[role] = longer[at];
+        try_by_rules(&a);
+    }
+}
+
+/* Each buffer of each call in turn, the others being right, with the full area and without it. */
+void every_length(void) {
+    int call, role;
+    for (call = 0; call < CALLS; call++) {
+        for (role = 0; role < ROLES; role++) {
+            ask a = sound_ask(call);
+            a.n = 2000; /* so Look up and Tally want a map of 500 bytes */
+            if (!takes(call, role)) {
+                continue;
+            }
+            for (a.block = 0; a.block < 3; a.block++) {
+                sweep(a, role);
+                if (takes(call, FULL) && role != FULL) {
+                    ask without = a;
+                    without.length[FULL] = 0;
+                    sweep(without, role);
+                }
+            }
+        }
+    }
+}
+
+/* Where a number could be cut to 31 or 32 bits, or a product with 512 or 8,192 could wrap. */
+static const uint64_t numbers[] = {
+    0, 1, 2, 3, 4, 5, 1999, 2000, 131071, 131072, 131073,
+    UINT64_C(0x7FFFFFFF), UINT64_C(0x80000000), UINT64_C(0xFFFFFFFF),
+    UINT64_C(0x100000000), UINT64_C(0x100000001), UINT64_C(0x100000002),
+    UINT64_C(1) << 51, UINT64_C(1) << 55, (UINT64_C(1) << 55) + 1,
+    UINT64_C(0x7FFFFFFFFFFFFFFF), UINT64_C(0x8000000000000000),
+    UINT64_C(0xFFFFFFFFFFFFFFFD), UINT64_C(0xFFFFFFFFFFFFFFFE), UINT64_C(0xFFFFFFFFFFFFFFFF),
+};
+#define NUMBERS (sizeof numbers / sizeof numbers[0])
+
+/* Every buffer is NULL. */
+static void no_buffers(int call) {
+    ask a = sound_ask(call);
+    size_t n, block;
+    memset(a.length, 0, sizeof a.length);
+    for (n = 0; n < NUMBERS; n++) {
+        for (block = 0; block < NUMBERS; block++) {
+            a.n = numbers[n];
+            a.block = numbers[block];
+            try_by_rules(&a);
+        }
+    }
+}
+
+/* Every n, every block, and maps that are long enough or not. */
+static void blocks_of_a_map(ask a) {
+    static const size_t lengths[] = {0, 1, 499, 500, 32767, 32768, 32769};
+    size_t n, block, length;
+    for (n = 0; n < NUMBERS; n++) {
+        for (length = 0; length < sizeof lengths / sizeof lengths[0]; length++) {
+            for (block = 0; block < (a.call == TALLY ? 1 : NUMBERS); block++) {
+                a.n = numbers[n];
+                a.length[MAP] = lengths[length];
+                a.block = numbers[block];
+                try_by_rules(&a);
+            }
+        }
+    }
+}
+
+/* Every block in areas of few blocks and few full pages. */
+static void blocks_of_a_store(ask a) {
+    static const size_t patches[] = {512, 1024, 1536, 2048, 2560};
+    static const size_t fulls[] = {0, 4096, 12288, 20480, 28672};
+    size_t block, patch, full;
+    for (block = 0; block < NUMBERS; block++) {
+        for (patch = 0; patch < 5; patch++) {
+            for (full = 0; full < (a.call == SHOW ? 1 : 5); full++) {
+                a.block = numbers[block];
+                a.length[PATCH] = patches[patch];
+                a.length[FULL] = fulls[full];
+                try_by_rules(&a);
+            }
+        }
+    }
+}
+
+void every_number(void) {
+    int call;
+    for (call = 0; call < CALLS; call++) {
+        ask a = sound_ask(call);
+        no_buffers(call);
+        if (call == LOOK_UP || call == TALLY) {
+            blocks_of_a_map(a);
+        } else if (call == SHOW || call == READ || call == WRITE) {
+            blocks_of_a_store(a);
+            a.length[BASE] = 0;
+            blocks_of_a_store(a);
+        }
+    }
+}

@@ -1,0 +1,204 @@
+/*
+ * Document 01 for the asks of the scene in calls.c: the number, the other members of the answer and
+ * the bytes after a call that is done. Lengths are as document 01 writes them. Numbers, kinds and
+ * pairs are by the header's names, so that the archive is held against the names.
+ */
+#include "check.h"
+
+#include <string.h>
+
+/* How a page differs from the base, or from zeros. */
+typedef struct {
+    uint32_t kind, length, entries;
+    int32_t last;
+    uint8_t stream[4];
+} difference;
+
+static const difference from_base[3] = {
+    {THX_DIFFERENCE_SAME, 0, 0, -1, {0, 0, 0, 0}},
+    {THX_DIFFERENCE_PATCH, 2, 1, 0, {0x00, 7, 0, 0}},
+    {THX_DIFFERENCE_LARGE, 16384, 8192, 8191, {0, 0, 0, 0}},
+};
+static const difference from_zeros[3] = {
+    {THX_DIFFERENCE_PATCH, 2, 1, 100, {0x64, 9, 0, 0}},
+    {THX_DIFFERENCE_PATCH, 4, 2, 100, {0x00, 7, 0x63, 9}},
+    {THX_DIFFERENCE_LARGE, 16384, 8192, 8191, {0, 0, 0, 0}},
+};
+
+static const difference *page_difference(const ask *a) {
+    return a->length[BASE] == 0 ? &from_zeros[a->block % 3] : &from_base[a->block % 3];
+}
+
+/* The kind of the scene's slot of a block. */
+static uint32_t slot_kind(uint64_t block) {
+    return block == 0 ? THX_KIND_PATCH : block == 1 ? THX_KIND_FULL : THX_KIND_EMPTY;
+}
+
+/* How many blocks there are: as told, or seen in the patch area. */
+static uint64_t blocks(const ask *a) {
+    return takes(a->call, PATCH) ? (a->length[PATCH] - 512) / 512 : a->n;
+}
+
+/* How many full pages there is room for. */
+static uint64_t places(const ask *a) {
+    return a->length[FULL] == 0 ? 0 : (a->length[FULL] - 4096) / 8192;
+}
+
+/* 1, 2 and 9: all about lengths. */
+static uint32_t length_refusal(const ask *a) {
+    const size_t *len = a->length;
+    if (takes(a->call, BASE) && len[BASE] != 0 && len[BASE] != 8192) {
+        return THX_BAD_PAGE_LENGTH;
+    }
+    if (takes(a->call, PAGE) && len[PAGE] != 8192) {
+        return THX_BAD_PAGE_LENGTH;
+    }
+    if (takes(a->call, PATCH) && (len[PATCH] < 512 || len[PATCH] % 512 != 0)) {
+        return THX_BAD_AREA_LENGTH;
+    }
+    if (takes(a->call, FULL) && len[FULL] != 0
+        && (len[FULL] < 4096 || len[FULL] % 8192 != 4096 || places(a) > blocks(a))) {
+        return THX_BAD_AREA_LENGTH;
+    }
+    if (takes(a->call, SLOT) && len[SLOT] != 512) {
+        return THX_BAD_AREA_LENGTH;
+    }
+    if (takes(a->call, MAP) && blocks(a) > 131072) {
+        return THX_BAD_AREA_LENGTH;
+    }
+    if (takes(a->call, MAP) && len[MAP] < (blocks(a) + 3) / 4) {
+        return THX_SHORT_BUFFER;
+    }
+    if (a->call == COMPARE && len[PAYLOAD] < 504) {
+        return THX_SHORT_BUFFER;
+    }
+    return THX_DONE;
+}
+
+/* 5, 8, 7 and 11, once the lengths are right. The headers and slots of the scene are sound. */
+static uint32_t later_refusal(const ask *a) {
+    size_t payload = a->length[PAYLOAD];
+    int has_block = a->call == SHOW || a->call == READ || a->call == WRITE || a->call == LOOK_UP;
+    if (has_block && a->block >= blocks(a)) {
+        return THX_BAD_BLOCK;
+    }
+    if (a->call == READ && slot_kind(a->block) == THX_KIND_FULL && a->block >= places(a)) {
+        return THX_NO_FULL_PAGE;
+    }
+    if (a->call == WRITE && a->block % 3 == 2 && a->block >= places(a)) {
+        return THX_NO_FULL_PAGE;
+    }
+    if (a->call == BUILD && blocks(a) > 1 && places(a) < 2) {
+        return THX_NO_FULL_PAGE;
+    }
+    /* Every entry is 00 07, so an odd payload ends inside one. */
+    if (a->call == APPLY && (payload == 0 || payload > 504 || payload % 2 != 0)) {
+        return THX_BAD_PAYLOAD;
+    }
+    /* In each byte of the map the second pair is not 0. */
+    if (a->call == TALLY && a->n % 4 == 1) {
+        return THX_BAD_PAIR;
+    }
+    return THX_DONE;
+}
+
+/* The other members of the answer of a call that is done. */
+static void set_members(const ask *a, int64_t rest[4]) {
+    static const uint32_t pairs[4] = {THX_PAIR_PATCH, THX_PAIR_FULL, THX_PAIR_EMPTY,
+                                      THX_PAIR_EMPTY};
+    const difference *differs = page_difference(a);
+    uint32_t kind = slot_kind(a->block);
+    if (a->call == COMPARE || a->call == WRITE) {
+        rest[0] = differs->kind;
+        rest[1] = differs->length;
+        rest[2] = a->call == COMPARE ? differs->entries : 0;
+        rest[3] = a->call == COMPARE ? differs->last : 0;
+    } else if (a->call == APPLY) {
+        rest[0] = (int64_t)a->length[PAYLOAD] / 2;
+        rest[1] = rest[0] - 1;
+    } else if (a->call == JUDGE) {
+        rest[0] = kind;
+        rest[1] = kind == THX_KIND_PATCH ? 2 : 0;
+    } else if (a->call == SHOW && kind == THX_KIND_PATCH) {
+        rest[0] = 520;
+        rest[1] = 2;
+    } else if (a->call == READ) {
+        rest[0] = kind;
+    } else if (a->call == LOOK_UP) {
+        rest[0] = pairs[a->block % 4];
+    } else if (a->call == TALLY) {
+        rest[0] = (int64_t)(a->n + 3) / 4;
+        rest[1] = (int64_t)(a->n + 2) / 4;
+    }
+}
+
+answer answer_of(const ask *a) {
+    answer r;
+    memset(&r, 0, sizeof r);
+    r.number = length_refusal(a);
+    if (r.number == THX_DONE) {
+        r.number = later_refusal(a);
+    }
+    if (r.number == THX_DONE) {
+        set_members(a, r.rest);
+    } else if (a->call == BUILD && r.number == THX_NO_FULL_PAGE) {
+        r.rest[0] = 1; /* the block */
+    }
+    return r;
+}
+
+static void format_bytes(const ask *a, uint8_t *const bytes[ROLES]) {
+    memset(bytes[PATCH], 0, a->length[PATCH]);
+    memcpy(bytes[PATCH], "PBKPATCH\2\0\0\0\0\x20\0\0\0\2\0\0", 20);
+    if (a->length[FULL] != 0) {
+        memset(bytes[FULL], 0, a->length[FULL]);
+        memcpy(bytes[FULL], "PBKFULL\0\1\0\0\0\0\x20\0\0", 16);
+    }
+}
+
+/* The base or zeros, with sevens from the payload's entries; or the page in the full area. */
+static void page_bytes(const ask *a, uint8_t *const bytes[ROLES]) {
+    uint32_t kind = a->call == APPLY ? THX_KIND_PATCH : slot_kind(a->block);
+    memset(bytes[PAGE], 0, 8192);
+    if (a->length[BASE] != 0) {
+        memcpy(bytes[PAGE], bytes[BASE], 8192);
+    }
+    if (kind == THX_KIND_PATCH) {
+        memset(bytes[PAGE], 7, a->call == APPLY ? a->length[PAYLOAD] / 2 : 1);
+    } else if (kind == THX_KIND_FULL) {
+        memcpy(bytes[PAGE], bytes[FULL] + 4096 + 8192 * a->block, 8192);
+    }
+}
+
+static void write_bytes(const ask *a, uint8_t *const bytes[ROLES]) {
+    const difference *differs = page_difference(a);
+    uint8_t *slot = bytes[PATCH] + 512 + 512 * a->block;
+    memset(slot, 0, 512);
+    slot[0] = (uint8_t)differs->kind;
+    if (differs->kind == THX_KIND_PATCH) {
+        slot[1] = 1;
+        slot[2] = (uint8_t)differs->length;
+        memcpy(slot + 8, differs->stream, 4);
+    }
+    if (a->block < places(a)) {
+        uint8_t *place = bytes[FULL] + 4096 + 8192 * a->block;
+        memset(place, differs->kind == THX_KIND_FULL ? 5 : 0, 8192);
+    }
+}
+
+void change(const ask *a, uint8_t *const bytes[ROLES]) {
+    if (a->call == FORMAT) {
+        format_bytes(a, bytes);
+    } else if (a->call == COMPARE && page_difference(a)->kind == THX_DIFFERENCE_PATCH) {
+        memcpy(bytes[PAYLOAD], page_difference(a)->stream, page_difference(a)->length);
+    } else if (a->call == APPLY || a->call == READ) {
+        page_bytes(a, bytes);
+    } else if (a->call == WRITE) {
+        write_bytes(a, bytes);
+    } else if (a->call == BUILD) {
+        memset(bytes[MAP], 0, (blocks(a) + 3) / 4);
+        if (blocks(a) > 0) {
+            bytes[MAP][0] = blocks(a) == 1 ? 0x02 : 0x06;
+        }
+    }
+}
