@@ -9,6 +9,7 @@ use lib.Dec.{eqb}
 use lib.ListN.{length, drop, getD, length-drop}
 use lib.Seq.{getD-drop}
 use borrow.Author.Tests.{eqb-true, eqb-false}
+use Rattle.span.specs.declared.Cluster.{Cluster}
 use Rattle.span.specs.Bytes.{same}
 use Rattle.span.specs.Laws.{ext, same-true, same-false}
 
@@ -143,6 +144,26 @@ pub next-here : (a b : List ℕ) (r : ℕ) → (r < length a → r < length b �
 unfolding Same
 next-here a b r d =
     next-is a b r r (record { on = omega arith; within = λ h. absurd (omega arith); alike = λ i h k. absurd (omega arith); differ = d })
+
+-- how many of the n places from `from` on differ
+pub diffsIn : List ℕ → List ℕ → ℕ → ℕ → ℕ
+diffsIn a b from zero = 0
+diffsIn a b from (suc n) = diffsIn a b from n + elim (eqb (getD a (from + n) 0) (getD b (from + n) 0)) [ true ↦ 0 | false ↦ 1 ]
+
+-- the place after the last difference between `from` and `to`, or `from`
+pub record Lasts (a b : List ℕ) (from to r : ℕ) : Type 0 where
+  pub on : from ≤ r
+  pub within : r ≤ to
+  pub alike : Same a b r to
+  pub differ : from < r → getD a (r - 1) 0 ≡ getD b (r - 1) 0 → ⊥
+
+-- differences that stand within a byte's reach of `from`: their number, and the place after the last of them
+pub record Clusters (a b : List ℕ) (from : ℕ) (c : Cluster) : Type 0 where
+  pub on : from ≤ c .next
+  pub near : c .next ≤ from + 255
+  pub within : from < c .next → (c .next ≤ length a) × (c .next ≤ length b)
+  pub count : c .count ≡ diffsIn a b from (c .next - from)
+  pub differ : from < c .next → getD a (c .next - 1) 0 ≡ getD b (c .next - 1) 0 → ⊥
 
 -- what passing over equal bytes up to r gives: r lies on the way to `end`, and the next difference is still ahead
 pub record Skipped (a b : List ℕ) (from end r : ℕ) : Type 0 where
