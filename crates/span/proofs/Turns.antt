@@ -15,7 +15,6 @@ use mir.Val.{boolByte}
 use borrow.Author.Tests.{eqb-true, eqb-false, eq-eqb, ne-eqb}
 use Rattle.span.specs.Bytes.{zeros, splice, same}
 use Rattle.span.specs.Laws.{zeros-length, zeros-more, splice-more, splice-join, same-more}
-use Rattle.span.specs.declared.Cluster.{Cluster}
 use Rattle.span.specs.Differ.{Same, nextDiff, next-skip, differsAt, diffsIn, diffs-none, diffs-next, diffs-alike, Lasts, Clusters}
 
 -- a loop that stores a list from the front has stored one byte more

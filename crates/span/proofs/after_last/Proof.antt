@@ -1,4 +1,4 @@
-use Prim.Native.Nat.{ℕ, _-_, _≤_}
+use Prim.Native.Nat.{_≤_}
 use native.Mathlib.Omega.{arith}
 use Rattle.span.specs.Differ.{Same}
 use Rattle.span.proofs.Turns.{same-none, same-before}
