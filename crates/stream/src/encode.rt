@@ -37,10 +37,10 @@ fn put_entry(room: &mut [u8], used: usize, jump: usize, value: u8) -> usize
 fn entry_width(jump: usize) -> usize
     ensures { λ r. ⌜ r ≡ widthOf jump ⌝ }
 {
-    if jump < Code::LONG as usize {
-        return Code::SHORT_WIDTH;
+    if Code::LONG as usize <= jump {
+        return Code::LONG_WIDTH;
     }
-    Code::LONG_WIDTH
+    Code::SHORT_WIDTH
 }
 
 // What is known where the last difference before `next` was the last of all.
