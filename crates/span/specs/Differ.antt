@@ -1,4 +1,4 @@
--- Where two lists differ next.
+-- Where two lists differ next, and in how many places.
 use Prim.Native.Nat.{ℕ, zero, suc, _+_, _-_, _≤_, _<_}
 use native.Mathlib.Omega.{arith}
 use native.Mathlib.Decide.{decLt}
@@ -155,21 +155,6 @@ pub diffsIn : List ℕ → List ℕ → ℕ → ℕ → ℕ
 diffsIn a b from zero = 0
 diffsIn a b from (suc n) = diffsIn a b from n + differsAt a b (from + n)
 
--- the place after the last difference between `from` and `to`, or `from`
-pub record Lasts (a b : List ℕ) (from to r : ℕ) : Type 0 where
-  pub on : from ≤ r
-  pub within : r ≤ to
-  pub alike : Same a b r to
-  pub differ : from < r → getD a (r - 1) 0 ≡ getD b (r - 1) 0 → ⊥
-
--- differences that stand within a byte's reach of `from`: their number, and the place after the last of them
-pub record Clusters (a b : List ℕ) (from : ℕ) (c : Cluster) : Type 0 where
-  pub on : from ≤ c .next
-  pub near : c .next ≤ from + 255
-  pub within : from < c .next → (c .next ≤ length a) × (c .next ≤ length b)
-  pub count : c .count ≡ diffsIn a b from (c .next - from)
-  pub differ : from < c .next → getD a (c .next - 1) 0 ≡ getD b (c .next - 1) 0 → ⊥
-
 -- The laws of that number
 
 pub alike-at : (a b : List ℕ) (i : ℕ) → getD a i 0 ≡ getD b i 0 → differsAt a b i ≡ 0
@@ -224,6 +209,21 @@ diffs-alike a b from k (suc n) s =
     let q : k + suc n ≡ suc (k + n) = omega arith in
     let e : diffsIn a b from (k + suc n) ≡ diffsIn a b from (k + n) + differsAt a b (from + (k + n)) = ap (λ (i : ℕ). diffsIn a b from i) q in
     omega (arith, alike-at a b (from + (k + n)) (s (from + (k + n)) (omega arith) (omega arith)), diffs-alike a b from k n (λ i h l. s i h (omega arith)))
+
+-- the place after the last difference between `from` and `to`, or `from`
+pub record Lasts (a b : List ℕ) (from to r : ℕ) : Type 0 where
+  pub on : from ≤ r
+  pub within : r ≤ to
+  pub alike : Same a b r to
+  pub differ : from < r → getD a (r - 1) 0 ≡ getD b (r - 1) 0 → ⊥
+
+-- differences that stand within a byte's reach of `from`: their number, and the place after the last of them
+pub record Clusters (a b : List ℕ) (from : ℕ) (c : Cluster) : Type 0 where
+  pub on : from ≤ c .next
+  pub near : c .next ≤ from + 255
+  pub within : from < c .next → (c .next ≤ length a) × (c .next ≤ length b)
+  pub count : c .count ≡ diffsIn a b from (c .next - from)
+  pub differ : from < c .next → getD a (c .next - 1) 0 ≡ getD b (c .next - 1) 0 → ⊥
 
 -- what passing over equal bytes up to r gives: r lies on the way to `end`, and the next difference is still ahead
 pub record Skipped (a b : List ℕ) (from end r : ℕ) : Type 0 where

@@ -1,6 +1,6 @@
 // Bytes in a slice: fill, copy, test, compare. Every public function takes the part that it works on, so none asks anything of its
 // caller. The loops are shaped so that the compiler turns them into wide instructions: no loop leaves early at a byte, but
-// `next_byte`, which looks at fewer than eight.
+// `next_byte`, which looks at fewer than eight, and `after_last`, which looks at one chunk.
 ghost use mathlib.Core.Path.{_≡_};
 ghost use mathlib.Core.Bool.{false};
 ghost use Prim.Native.Nat.{_+_, _≤_, min};
