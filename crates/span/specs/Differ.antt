@@ -1,14 +1,16 @@
--- Where two lists differ next.
+-- Where two lists differ next, and in how many places.
 use Prim.Native.Nat.{ℕ, zero, suc, _+_, _-_, _≤_, _<_}
 use native.Mathlib.Omega.{arith}
 use native.Mathlib.Decide.{decLt}
+use native.Mathlib.Numerals.{add-one}
 use mathlib.Core.Path.{_≡_, refl, sym, ap, _∙_}
 use mathlib.Core.Bool.{Bool, true, false}
 use mathlib.Core.List.{List, [], _∷_}
 use lib.Dec.{eqb}
 use lib.ListN.{length, drop, getD, length-drop}
 use lib.Seq.{getD-drop}
-use borrow.Author.Tests.{eqb-true, eqb-false}
+use borrow.Author.Tests.{eq-eqb, ne-eqb, eqb-true, eqb-false}
+use Rattle.span.specs.declared.Cluster.{Cluster}
 use Rattle.span.specs.Bytes.{same}
 use Rattle.span.specs.Laws.{ext, same-true, same-false}
 
@@ -143,6 +145,85 @@ pub next-here : (a b : List ℕ) (r : ℕ) → (r < length a → r < length b �
 unfolding Same
 next-here a b r d =
     next-is a b r r (record { on = omega arith; within = λ h. absurd (omega arith); alike = λ i h k. absurd (omega arith); differ = d })
+
+-- one where a and b differ at a place, or none
+unfoldable pub differsAt : List ℕ → List ℕ → ℕ → ℕ
+differsAt a b i = elim (eqb (getD a i 0) (getD b i 0)) [ true ↦ 0 | false ↦ 1 ]
+
+-- how many of the n places from `from` on differ
+pub diffsIn : List ℕ → List ℕ → ℕ → ℕ → ℕ
+diffsIn a b from zero = 0
+diffsIn a b from (suc n) = diffsIn a b from n + differsAt a b (from + n)
+
+-- The laws of that number
+
+pub alike-at : (a b : List ℕ) (i : ℕ) → getD a i 0 ≡ getD b i 0 → differsAt a b i ≡ 0
+unfolding differsAt
+alike-at a b i e = ap (λ (t : Bool). elim t as (λ _. ℕ) [ true ↦ 0 | false ↦ 1 ]) (eq-eqb (getD a i 0) (getD b i 0) e)
+
+pub unlike-at : (a b : List ℕ) (i : ℕ) → (getD a i 0 ≡ getD b i 0 → ⊥) → differsAt a b i ≡ 1
+unfolding differsAt
+unlike-at a b i d = ap (λ (t : Bool). elim t as (λ _. ℕ) [ true ↦ 0 | false ↦ 1 ]) (ne-eqb (getD a i 0) (getD b i 0) d)
+
+at-most-one : (a b : List ℕ) (i : ℕ) → differsAt a b i ≤ 1
+unfolding differsAt
+at-most-one a b i = go (eqb (getD a i 0) (getD b i 0))
+  where
+    go : (t : Bool) → elim t as (λ _. ℕ) [ true ↦ 0 | false ↦ 1 ] ≤ 1
+    go true = omega arith
+    go false = omega arith
+
+pub diffs-none : (a b : List ℕ) (from : ℕ) → diffsIn a b from 0 ≡ 0
+unfolding diffsIn
+diffs-none a b from = refl
+
+pub diffs-few : (a b : List ℕ) (from n : ℕ) → diffsIn a b from n ≤ n
+unfolding diffsIn
+diffs-few a b from zero = omega arith
+diffs-few a b from (suc n) = omega (arith, diffs-few a b from n, at-most-one a b (from + n))
+
+-- a place more at the end
+pub diffs-next : (a b : List ℕ) (from n : ℕ) → diffsIn a b from (n + 1) ≡ diffsIn a b from n + differsAt a b (from + n)
+unfolding diffsIn
+diffs-next a b from n = ap (λ (k : ℕ). diffsIn a b from k) (add-one n)
+
+-- a place more at the start
+pub diffs-first : (a b : List ℕ) (from n : ℕ) → diffsIn a b from (suc n) ≡ differsAt a b from + diffsIn a b (from + 1) n
+unfolding diffsIn
+diffs-first a b from zero =
+    let q : from + 0 ≡ from = omega arith in
+    let e : differsAt a b (from + 0) ≡ differsAt a b from = ap (λ (i : ℕ). differsAt a b i) q in
+    omega arith
+diffs-first a b from (suc n) =
+    let q : from + suc n ≡ from + 1 + n = omega arith in
+    let e : differsAt a b (from + suc n) ≡ differsAt a b (from + 1 + n) = ap (λ (i : ℕ). differsAt a b i) q in
+    omega (arith, diffs-first a b from n)
+
+-- equal places at the end count for nothing
+pub diffs-alike : (a b : List ℕ) (from k n : ℕ) → Same a b (from + k) (from + (k + n)) → diffsIn a b from (k + n) ≡ diffsIn a b from k
+unfolding Same diffsIn
+diffs-alike a b from k zero s =
+    let q : k + 0 ≡ k = omega arith in
+    ap (λ (i : ℕ). diffsIn a b from i) q
+diffs-alike a b from k (suc n) s =
+    let q : k + suc n ≡ suc (k + n) = omega arith in
+    let e : diffsIn a b from (k + suc n) ≡ diffsIn a b from (k + n) + differsAt a b (from + (k + n)) = ap (λ (i : ℕ). diffsIn a b from i) q in
+    omega (arith, alike-at a b (from + (k + n)) (s (from + (k + n)) (omega arith) (omega arith)), diffs-alike a b from k n (λ i h l. s i h (omega arith)))
+
+-- the place after the last difference between `from` and `to`, or `from`
+pub record Lasts (a b : List ℕ) (from to r : ℕ) : Type 0 where
+  pub on : from ≤ r
+  pub within : r ≤ to
+  pub alike : Same a b r to
+  pub differ : from < r → getD a (r - 1) 0 ≡ getD b (r - 1) 0 → ⊥
+
+-- differences that stand within a byte's reach of `from`: their number, and the place after the last of them
+pub record Clusters (a b : List ℕ) (from : ℕ) (c : Cluster) : Type 0 where
+  pub on : from ≤ c .next
+  pub near : c .next ≤ from + 255
+  pub within : from < c .next → (c .next ≤ length a) × (c .next ≤ length b)
+  pub count : c .count ≡ diffsIn a b from (c .next - from)
+  pub differ : from < c .next → getD a (c .next - 1) 0 ≡ getD b (c .next - 1) 0 → ⊥
 
 -- what passing over equal bytes up to r gives: r lies on the way to `end`, and the next difference is still ahead
 pub record Skipped (a b : List ℕ) (from end r : ℕ) : Type 0 where

@@ -1,12 +1,18 @@
 // Bytes in a slice: fill, copy, test, compare. Every public function takes the part that it works on, so none asks anything of its
 // caller. The loops are shaped so that the compiler turns them into wide instructions: no loop leaves early at a byte, but
-// `next_byte`, which looks at fewer than eight.
+// `next_byte`, which looks at fewer than eight, and `after_last`, which looks at one chunk.
 ghost use mathlib.Core.Path.{_≡_};
 ghost use mathlib.Core.Bool.{false};
 ghost use Prim.Native.Nat.{_+_, _≤_, min};
 ghost use lib.ListN.{length, take};
 ghost use Rattle.span.specs.Bytes.{zeros, splice, part as partOf, same as sameBytes};
-ghost use Rattle.span.specs.Differ.{nextDiff, Same, Skipped};
+ghost use Rattle.span.specs.Differ.{nextDiff, diffsIn, Same, Skipped, Lasts, Clusters};
+
+// Differences that stand close together: how many they are, and the place after the last of them.
+pub struct Cluster {
+    pub count: usize,
+    pub next: usize,
+}
 
 // How many bytes are compared at one go where pages are alike, and next to a difference.
 const CHUNK: usize = 64;
@@ -149,6 +155,65 @@ pub fn next_diff(a: &[u8], b: &[u8], from: usize) -> usize
     let wide = skip_equal(a, b, from + WORD, end, CHUNK);
     let near = skip_equal(a, b, wide, end, WORD);
     next_byte(a, b, near, end)
+}
+
+// How many of the next chunk's places differ. The count is a byte, so that sixteen are added at one go.
+fn count_chunk(a: &[u8], b: &[u8], at: usize) -> u8
+    requires { ⌜ (at + 64 ≤ length (now a)) × (at + 64 ≤ length (now b)) ⌝ }
+    ensures { λ r. ⌜ r ≡ diffsIn (now (a .entry)) (now (b .entry)) at 64 ⌝ }
+{
+    let mut count: u8 = 0;
+    let mut i = 0;
+    while i < CHUNK {
+        count += (a[at + i] != b[at + i]) as u8;
+        i += 1;
+    }
+    count
+}
+
+// The place after the last difference between `from` and `to`, or `from`: for a chunk that has one, looked for from its end.
+fn after_last(a: &[u8], b: &[u8], from: usize, to: usize) -> usize
+    requires { ⌜ (from ≤ to) × (to ≤ length (now a)) × (to ≤ length (now b)) ⌝ }
+    ensures { λ r. ⌜ Lasts (now (a .entry)) (now (b .entry)) from to r ⌝ }
+{
+    let mut at = to;
+    while from < at {
+        if a[at - 1] != b[at - 1] {
+            return at;
+        }
+        at -= 1;
+    }
+    at
+}
+
+// The differences in the chunk from `from` on. None are told of a chunk that a or b does not have whole.
+pub fn cluster_at(a: &[u8], b: &[u8], from: usize) -> Cluster
+    ensures { λ r. ⌜ Clusters (now (a .entry)) (now (b .entry)) from r ⌝ }
+{
+    let end = shorter(a.len(), b.len());
+    if end <= from {
+        return Cluster {
+            count: 0,
+            next: from,
+        };
+    }
+    if end - from < CHUNK {
+        return Cluster {
+            count: 0,
+            next: from,
+        };
+    }
+    let count = count_chunk(a, b, from) as usize;
+    if count == 0 {
+        return Cluster {
+            count: 0,
+            next: from,
+        };
+    }
+    Cluster {
+        count: count,
+        next: after_last(a, b, from, from + CHUNK),
+    }
 }
 
 // Whether a and b hold the same bytes.

@@ -40,7 +40,7 @@ module _ (base page room₀ room₁ : List ℕ) (d : Difference) (k : ℕ) (lb :
   stream-is = ap (λ (l : List ℕ). written l page) (base-some pageSize base (λ q. omega arith))
 
   pub length-is : d .length ≡ length (decidedStream pageSize base page)
-  length-is = w .length ∙ ap (λ (l : List ℕ). length (written base l)) (near-page page lp) ∙ ap (λ (l : List ℕ). length l) (sym stream-is)
+  length-is = w .numbers .length ∙ ap (λ (l : List ℕ). length (written base l)) (near-page page lp) ∙ ap (λ (l : List ℕ). length l) (sym stream-is)
 
   pub kind-is : k ≡ decidedKind pageSize base page
   unfolding decidedKind

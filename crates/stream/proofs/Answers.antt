@@ -93,14 +93,14 @@ module _ (base page room₀ room₁ buffer : List ℕ) (d : Difference) (l : ℤ
   unfolding comparison written
   done-numbers k q = λ i. record {
     number = 0;
-    kind = (q ∙ ap kindFor (w′ .length)) i;
-    length = w′ .length i;
-    entries = w′ .entries i;
-    last = (e ∙ w′ .last) i;
+    kind = (q ∙ ap kindFor (w′ .numbers .length)) i;
+    length = w′ .numbers .length i;
+    entries = w′ .numbers .entries i;
+    last = (e ∙ w′ .numbers .last) i;
   }
 
   done-kind : (k : Kind) → kindNumber k ≡ kindFor (d .length) → kindFor (length (written base page)) ≡ kindNumber k
-  done-kind k q = sym (q ∙ ap kindFor (w′ .length))
+  done-kind k q = sym (q ∙ ap kindFor (w′ .numbers .length))
 
   -- same or large: the buffer stays
   pub compares-kept : (k : Kind) → kindNumber k ≡ kindFor (d .length) → (kindNumber k ≡ 1 → ⊥) → Compares base page buffer (ComparedDone k (d .length) (d .entries) l) buffer
@@ -118,7 +118,7 @@ module _ (base page room₀ room₁ buffer : List ℕ) (d : Difference) (l : ℤ
       → Compares base page buffer (ComparedDone Patch (d .length) (d .entries) l) after
   compares-patch after k r b q o f =
       let n : d .length ≤ room = patch-fits (d .length) q in
-      let m : d .length ≡ length (written base page) = w′ .length in
+      let m : d .length ≡ length (written base page) = w′ .numbers .length in
       let t : take (length room₀) (written base page) ≡ written base page = take-all (length room₀) (written base page) (omega arith) in
       let g : part 0 (d .length) room₁ ≡ written base page =
       ap (λ (x : List ℕ). part 0 (d .length) x) (w′ .bytes ∙ ap (λ (x : List ℕ). splice room₀ 0 x) t)

@@ -142,7 +142,7 @@ differs-near base page room₀ after d h w = subst (λ (l : List ℕ). Differs b
 -- where there is room for the whole stream, it is there
 pub differs-fits : (base page room₀ after : List ℕ) (d : Difference) → Differs base page room₀ d after → d .length ≤ length room₀ → after ≡ splice room₀ 0 (written base page)
 differs-fits base page room₀ after d w h =
-    let e : d .length ≡ length (written base page) = w .length in
+    let e : d .length ≡ length (written base page) = w .numbers .length in
     w .bytes ∙ ap (λ (l : List ℕ). splice room₀ 0 l) (take-all (length room₀) (written base page) (omega arith))
 
 -- Compare

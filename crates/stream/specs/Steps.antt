@@ -1,6 +1,6 @@
 -- What the pieces of the reader and of the writer say: the contracts of the functions that Compare and Apply, and the store's calls, are
 -- made of.
-use Prim.Native.Nat.{ℕ, _+_, _-_, _<_, _≤_, min}
+use Prim.Native.Nat.{ℕ, _+_, _-_, _*_, _<_, _≤_, min}
 use mathlib.Core.Path.{_≡_}
 use mathlib.Core.Bool.{Bool, true, false, cond}
 use mathlib.Core.List.{List}
@@ -11,7 +11,7 @@ use lib.ListN.{length as lengthOf}
 use lib.Seq.{sets}
 use lib.IntN.{ℤ, pos, subℕ}
 use Rattle.span.specs.Bytes.{part, splice}
-use Rattle.stream.specs.Differences.{diffs, written, lastPlace}
+use Rattle.stream.specs.Differences.{Change, diffs, spelled, coded, written, lastPlace}
 use Rattle.stream.specs.Entries.{Stream, done, cut, out, entry, Next, code, inPage, stream, start, payloadStream, sound, entries as entriesOf, last as lastOf, applied}
 use Rattle.stream.specs.Calls.{kindFor, comparison, comparedNumbers, AppliedNumbers, appliedNumbers}
 use Rattle.stream.specs.declared.Compared.{Compared}
@@ -84,11 +84,32 @@ pub record Put (room : List ℕ) (at : ℕ) (ys : List ℕ) (r : ℕ) (after : L
   pub next : r ≡ at + length ys
   pub bytes : after ≡ sets room at ys
 
--- the writer's stream of two pages: its numbers, and its bytes as far as there is room for them
-pub record Differs (base page room : List ℕ) (d : Difference) (after : List ℕ) : Type 0 where
+-- how many bytes the entry of a jump takes
+abbrev pub widthOf : ℕ → ℕ
+widthOf jump = lengthOf (spelled jump 0)
+
+-- the differences from a place on
+abbrev pub rest : List ℕ → List ℕ → ℕ → List Change
+rest base page from = diffs from (drop from base) (drop from page)
+
+-- what is known of the stream's numbers after the differences before `next`
+pub record Counted (base page : List ℕ) (next used count : ℕ) : Type 0 where
+  pub on : next ≤ lengthOf page
+  pub few : count ≤ next
+  pub short : used ≤ 2 * next
+  pub size : lengthOf (written base page) ≡ used + lengthOf (coded next (rest base page next))
+  pub many : lengthOf (diffs 0 base page) ≡ count + lengthOf (rest base page next)
+  pub final : lastPlace start (diffs 0 base page) ≡ lastPlace (before next) (rest base page next)
+
+-- the numbers of the writer's stream of two pages
+pub record Numbers (base page : List ℕ) (d : Difference) : Type 0 where
   pub length : d .length ≡ lengthOf (written base page)
   pub entries : d .entries ≡ lengthOf (diffs 0 base page)
   pub last : d .last ≡ lastPlace start (diffs 0 base page)
+
+-- the writer's stream of two pages: its numbers, and its bytes as far as there is room for them
+pub record Differs (base page room : List ℕ) (d : Difference) (after : List ℕ) : Type 0 where
+  pub numbers : Numbers base page d
   pub bytes : after ≡ splice room 0 (take (lengthOf room) (written base page))
 
 -- Compare with a base that is there

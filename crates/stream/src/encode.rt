@@ -3,9 +3,9 @@ use crate::Code;
 use crate::Difference;
 ghost use mathlib.Core.Path.{_≡_};
 ghost use Prim.Native.Nat.{_*_, _≤_};
-ghost use lib.ListN.{length, set};
+ghost use lib.ListN.{length as lengthOf, set};
 ghost use Rattle.stream.specs.Differences.{spelled};
-ghost use Rattle.stream.specs.Steps.{farthest, before, near, Differs, Put};
+ghost use Rattle.stream.specs.Steps.{farthest, before, near, widthOf, Counted, Numbers, Differs, Put};
 
 // Stores a byte, if there is room for it.
 fn put(room: &mut [u8], at: usize, value: u8)
@@ -33,6 +33,16 @@ fn put_entry(room: &mut [u8], used: usize, jump: usize, value: u8) -> usize
     used + Code::LONG_WIDTH
 }
 
+// How many bytes an entry takes.
+fn entry_width(jump: usize) -> usize
+    ensures { λ r. ⌜ r ≡ widthOf jump ⌝ }
+{
+    if Code::LONG as usize <= jump {
+        return Code::LONG_WIDTH;
+    }
+    Code::SHORT_WIDTH
+}
+
 // What is known where the last difference before `next` was the last of all.
 fn found(length: usize, entries: usize, next: usize) -> Difference
     requires { ⌜ next ≤ farthest ⌝ }
@@ -45,15 +55,42 @@ fn found(length: usize, entries: usize, next: usize) -> Difference
     }
 }
 
+// The numbers of a stream of which so much is known before `from`. Nothing is stored, so differences that stand close together are
+// counted at one go: their entries are short.
+fn count_rest(base: &[u8], page: &[u8], from: usize, length: usize, entries: usize) -> Difference
+    requires { ⌜ (lengthOf (now page) ≤ farthest) × Counted (now base) (now page) from length entries ⌝ }
+    ensures { λ r. ⌜ Numbers (now (base .entry)) (now (page .entry)) r ⌝ }
+{
+    let mut next = from;
+    let mut used = length;
+    let mut many = entries;
+    loop {
+        let at = span::next_diff(base, page, next);
+        if base.len() <= at {
+            return found(used, many, next);
+        }
+        if page.len() <= at {
+            return found(used, many, next);
+        }
+        let more = span::cluster_at(base, page, at + 1);
+        used += entry_width(at - next) + Code::SHORT_WIDTH * more.count;
+        many += 1 + more.count;
+        next = more.next;
+    }
+}
+
 // One pass over both pages. Equal bytes go by in `next_diff`.
 fn encode(base: &[u8], page: &[u8], room: &mut [u8]) -> Difference
-    requires { ⌜ length (now page) ≤ farthest ⌝ }
+    requires { ⌜ lengthOf (now page) ≤ farthest ⌝ }
     ensures { λ r. ⌜ Differs (now (base .entry)) (now (page .entry)) (now (room .entry)) r (now (room .exit)) ⌝ }
 {
     let mut next = 0;
     let mut used = 0;
     let mut entries = 0;
     loop {
+        if room.len() <= used {
+            return count_rest(base, page, next, used, entries);
+        }
         let at = span::next_diff(base, page, next);
         if base.len() <= at {
             return found(used, entries, next);
