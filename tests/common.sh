@@ -57,7 +57,9 @@ else
     QEMU_LD_PREFIX=/usr/$CPU-linux-gnu
     CARGO_TARGET=$TRIPLE/
     CARGO_BUILD_TARGET=$TRIPLE
-    export QEMU_LD_PREFIX CARGO_BUILD_TARGET
+    # The emulator may hang where two threads change mappings at once.
+    RUST_TEST_THREADS=1
+    export QEMU_LD_PREFIX CARGO_BUILD_TARGET RUST_TEST_THREADS
     setting=CARGO_TARGET_$(echo "$TRIPLE" | tr 'a-z-' 'A-Z_')
     export "${setting}_LINKER=$TARGET_CC" "${setting}_RUNNER=$RUN"
 fi
