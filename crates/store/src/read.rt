@@ -1,4 +1,4 @@
-// Read.
+// Read: a block's page, as it stands now.
 use crate::Reading;
 use crate::frame;
 use layout::Fault;
@@ -6,28 +6,24 @@ use layout::Kind;
 use layout::Layout;
 use layout::Refusal;
 use layout::SlotState;
-use stream::Checked;
+use stream::Applied;
 ghost use mathlib.Core.Path.{_≡_};
 ghost use lib.ListN.{length};
 ghost use Rattle.layout.specs.Sizes.{pageSize};
 ghost use Rattle.store.specs.Frame.{Places};
 ghost use Rattle.store.specs.Read.{BlockRead, PatchRead, Read};
 
-// A patched block: the whole payload is checked before the page's first byte is written.
+// A patched block is what Apply makes of its payload, which is checked whole before the page's first byte is written.
 fn read_patch(base: &[u8], payload: &[u8], page: &mut [u8]) -> Reading
     requires { ⌜ (length (now base) ≡ pageSize) × (length (now page) ≡ pageSize) ⌝ }
     ensures { λ r. ⌜ PatchRead pageSize (now (base .entry)) (now (payload .entry)) (now (page .entry)) r (now (page .exit)) ⌝ }
 {
-    match stream::payload::check(payload, page.len()) {
-        Checked::Unsound => Reading::Refused(Refusal::Payload),
-        Checked::Sound {
+    match stream::apply(base, payload, page) {
+        Applied::Refused(refusal) => Reading::Refused(refusal),
+        Applied::Done {
             entries: _,
             last: _,
-        } => {
-            span::copy(page, base);
-            stream::payload::overlay(page, payload);
-            Reading::Done { kind: Kind::Patch }
-        }
+        } => Reading::Done { kind: Kind::Patch },
     }
 }
 

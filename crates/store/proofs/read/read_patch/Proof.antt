@@ -1,61 +1,38 @@
-use Rattle.store.proofs.Pages.{unsound-told, sound-told, laid-page}
-use Rattle.store.proofs.Told.{on, off}
-use Rattle.store.specs.Frame.{slotOf, placeOf}
-use Rattle.stream.specs.Entries.{payloadStream, sound, applied}
-use Rattle.layout.specs.Sizes.{pageSize, slotSize, slotAt, pageAt, payloadAt, blocksAtMost}
-use lib.ListN.{length}
-use mathlib.Core.Bool.{Bool, true, false, cond}
-use mathlib.Core.List.{List}
-use mathlib.Core.Path.{_≡_, refl, sym, ap, _∙_}
-use native.Mathlib.Omega.{arith}
-use Prim.Native.Nat.{ℕ, _+_, _≤_, _<_}
+use Rattle.store.proofs.Pages.{apply-reads, apply-refuses}
 use borrow.Author.Needs.{needs}
 use Rattle.store.proofs.read.read_patch.Statement.{statement}
 use Rattle.store.proofs.read.read_patch.Tie as tie
 
-check-requires : tie.Need-check-requires
-check-requires c κs = search needs
+apply-requires : tie.Need-apply-requires
+apply-requires c κs = search needs
+
+enum-known-refusal : tie.Need-enum-known-refusal
+enum-known-refusal c = search needs
 
 enum-told : tie.Need-enum-told
 enum-told c = search needs
 
-enum-told-2 : tie.Need-enum-told-2
-enum-told-2 c = search needs
-
-copy-requires : tie.Need-copy-requires
-copy-requires c κs = search needs
-
-overlay-requires : tie.Need-overlay-requires
-overlay-requires c κs = search needs
-
-returns : tie.Need-returns
-returns c =
-    let a = c .before .before .before .before .before .before .args in
-    let e : sound pageSize (a .payload .now) ≡ false = unsound-told (a .payload .now) (length (a .page .now)) (c .before .before .check .result) (c .before .before .before .before .before .before .pre .1) (c .before .before .check .ensures) (c .enum-told .given .1) in
-    record { numbers = rw e; bytes = rw e }
-
 same-length : tie.Need-same-length
 same-length c = search needs
 
+returns : tie.Need-returns
+returns c =
+    let at = c .before .before .before .before .before .before .before .before .before .before in
+    let a = at .args in
+    let p = c .before .before .before .before .before .apply in
+    apply-refuses (a .base .now) (a .payload .now) (a .page .now) (p .last .1 .1 .0) (p .result) (at .pre .0) (at .pre .1) (p .ensures) (c .before .refusal .given .0 .0) (c .before .refusal .given .1)
+
+same-length-2 : tie.Need-same-length-2
+same-length-2 c = search needs
+
 returns-2 : tie.Need-returns-2
 returns-2 c =
-    let at = c .before .before .before .before .before .before .before .before .before .before .before .before .before .before in
+    let at = c .before .before .before .before .before .before .before .before .before in
     let a = at .args in
-    let e : sound pageSize (a .payload .now) ≡ true = sound-told (a .payload .now) (length (a .page .now)) (c .before .before .before .before .before .before .before .before .before .before .check .result) (at .pre .1) (c .before .before .before .before .before .before .before .before .before .before .check .ensures) (c .before .before .before .before .before .before .before .before .enum-told2 .given .1) in
-    record {
-      numbers = rw e;
-      bytes = rw e (laid-page (a .base .now) (a .payload .now) (a .page .now) (c .before .before .before .before .before .before .copy .last .0) (c .before .before .overlay .last .0) (at .pre .1) (at .pre .0) (c .before .before .before .before .before .before .copy .ensures) (c .before .before .overlay .ensures));
-    }
+    let p = c .before .before .before .before .apply in
+    apply-reads (a .base .now) (a .payload .now) (a .page .now) (p .last .1 .1 .0) (p .result) (at .pre .0) (at .pre .1) (p .ensures) (c .enum-told .given .0 .0) (c .enum-told .given .0 .1 .0) (c .enum-told .given .1)
 
 pub read-patch-spec : {M : Type 1} → statement M
 read-patch-spec =
     tie.close
-    (tie.spec
-    check-requires
-    enum-told
-    enum-told-2
-    copy-requires
-    overlay-requires
-    returns
-    same-length
-    returns-2)
+    (tie.spec apply-requires enum-known-refusal enum-told same-length returns same-length-2 returns-2)
