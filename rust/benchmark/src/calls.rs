@@ -25,7 +25,7 @@ pub struct Row {
 const ROUNDS: u32 = 100;
 const TIME: Duration = Duration::from_millis(400);
 /// Blocks of the small store, and the block that is worked on.
-const BLOCKS: usize = 16;
+const BLOCKS: u64 = 16;
 const BLOCK: u64 = 9;
 
 /// Both areas, and copies of them that the memory functions can compare them with.
@@ -36,7 +36,7 @@ struct Store {
 }
 
 impl Store {
-    fn fresh(blocks: usize, pages: Option<usize>) -> Store {
+    fn fresh(blocks: u64, pages: Option<u64>) -> Store {
         let full = pages.map_or(0, full_area_len);
         let mut store = Store { patch: vec![0; patch_area_len(blocks)], full: vec![0; full] };
         thonxiliko::format(&mut store.patch, &mut store.full).expect("sound lengths");
@@ -55,7 +55,7 @@ impl Store {
     }
 
     fn slot(&self, block: u64) -> &[u8] {
-        let start = patch_area_len(block as usize);
+        let start = patch_area_len(block);
         &self.patch[start..start + SLOT_SIZE]
     }
 }
@@ -327,22 +327,21 @@ fn build_rows(rows: &mut Vec<Row>) {
 }
 
 fn map_rows(rows: &mut Vec<Row>) {
-    let n: usize = 131_072;
+    let n: u64 = 131_072;
     let mut map = vec![0; map_len(n)];
     Rng::new(3).fill(&mut map);
     // No pair of 3.
     map.iter_mut().for_each(|byte| *byte &= 0xAA);
     let copy = map.clone();
-    let told = n as u64;
     rows.push(measure(
         "Look up",
         "n = 131,072",
         &mut || {
-            opaque(thonxiliko::look_up(&map, told, opaque(70_001)).ok());
+            opaque(thonxiliko::look_up(&map, n, opaque(70_001)).ok());
         },
         &mut || limits::compare(&map[17_500..17_501], &copy[17_500..17_501]),
         &mut || {
-            opaque(independent::look_up(&map, told, opaque(70_001)));
+            opaque(independent::look_up(&map, n, opaque(70_001)));
         },
     ));
     for blocks in [64, n] {
@@ -351,11 +350,11 @@ fn map_rows(rows: &mut Vec<Row>) {
             "Tally",
             if blocks == n { "n = 131,072" } else { "n = 64" },
             &mut || {
-                opaque(thonxiliko::tally(&map, blocks as u64).ok());
+                opaque(thonxiliko::tally(&map, blocks).ok());
             },
             &mut || limits::compare(&map[..bytes], &copy[..bytes]),
             &mut || {
-                opaque(independent::tally(&map, blocks as u64));
+                opaque(independent::tally(&map, blocks));
             },
         ));
     }

@@ -12,12 +12,12 @@ use crate::timing::{best_of, Contest, Times};
 
 /// Times are nanoseconds per block.
 pub struct Row {
-    pub blocks: usize,
+    pub blocks: u64,
     pub work: &'static str,
     pub times: Times,
 }
 
-fn per_block(times: Times, blocks: usize) -> Times {
+fn per_block(times: Times, blocks: u64) -> Times {
     let blocks = blocks as f64;
     Times {
         library: times.library / blocks,
@@ -29,26 +29,25 @@ fn per_block(times: Times, blocks: usize) -> Times {
 const ROUNDS: u32 = 4;
 const TIME: Duration = Duration::from_secs(1);
 
-fn fresh(blocks: usize) -> Vec<u8> {
+fn fresh(blocks: u64) -> Vec<u8> {
     let mut patch = vec![0; patch_area_len(blocks)];
     thonxiliko::format(&mut patch, &mut []).expect("a sound length");
     patch
 }
 
 /// Writing, reading and building n blocks with 20 differences each, the full area being absent.
-fn patches(rows: &mut Vec<Row>, blocks: usize) {
+fn patches(rows: &mut Vec<Row>, blocks: u64) {
     let pages = Pages::spread(20);
     let (mut one, mut two, mut three) = (fresh(blocks), fresh(blocks), fresh(blocks));
     let (header, copied) = (fresh(0), fresh(0));
     let slot = [0x11; SLOT_SIZE];
-    let last = blocks as u64;
 
     let times = best_of(
         ROUNDS,
         TIME,
         Contest {
             library: &mut || {
-                for block in 0..last {
+                for block in 0..blocks {
                     opaque(
                         thonxiliko::write(&mut one, &mut [], block, &pages.base, &pages.page).ok(),
                     );
@@ -62,7 +61,7 @@ fn patches(rows: &mut Vec<Row>, blocks: usize) {
                 }
             },
             independent: &mut || {
-                for block in 0..last {
+                for block in 0..blocks {
                     opaque(independent::write(
                         &mut three,
                         &mut [],
@@ -82,7 +81,7 @@ fn patches(rows: &mut Vec<Row>, blocks: usize) {
         TIME,
         Contest {
             library: &mut || {
-                for block in 0..last {
+                for block in 0..blocks {
                     opaque(thonxiliko::read(&one, &[], block, &pages.base, &mut page).ok());
                 }
             },
@@ -94,7 +93,7 @@ fn patches(rows: &mut Vec<Row>, blocks: usize) {
                 }
             },
             independent: &mut || {
-                for block in 0..last {
+                for block in 0..blocks {
                     opaque(independent::read(&three, &[], block, &pages.base, &mut third));
                 }
             },
@@ -129,7 +128,7 @@ fn patches(rows: &mut Vec<Row>, blocks: usize) {
 
 /// Build of a segment whose full area has a place for each block and holds no page: 1 GiB of zeros,
 /// which take no room.
-fn empty_places(rows: &mut Vec<Row>, blocks: usize) {
+fn empty_places(rows: &mut Vec<Row>, blocks: u64) {
     let mut full = Mapping::new(full_area_len(blocks));
     let full = full.bytes();
     let mut patch = fresh(blocks);
