@@ -125,12 +125,16 @@ impl Room {
         unsafe { self.mapping.start.add(GUARD + at) }
     }
 
-    /// The bytes as they stand now, and whether the watched ones beside them are unharmed.
+    /// The bytes as they stand now, and whether the watched ones beside them are unharmed. Both are
+    /// cleared, so that what lies around the next buffer does not depend on the one before.
     pub fn take(&mut self, length: usize, flush: Flush) -> (Vec<u8>, bool) {
         let (at, watched) = self.layout(length, flush);
         let inside = self.inside();
         let unharmed = inside[watched..watched + WATCHED].iter().all(|byte| *byte == WATCH_BYTE);
-        (inside[at..at + length].to_vec(), unharmed)
+        let bytes = inside[at..at + length].to_vec();
+        inside[at..at + length].fill(0);
+        inside[watched..watched + WATCHED].fill(0);
+        (bytes, unharmed)
     }
 }
 
@@ -142,8 +146,10 @@ mod tests {
     fn bytes_come_back_and_harm_beside_them_is_seen() {
         for flush in [Flush::Front, Flush::Back] {
             let mut room = Room::new(1000);
-            let address = room.put(&[1, 2, 3], flush);
+            room.put(&[1, 2, 3], flush);
             assert_eq!(room.take(3, flush), (vec![1, 2, 3], true));
+            assert!(room.inside().iter().all(|byte| *byte == 0));
+            let address = room.put(&[1, 2, 3], flush);
             let beside = match flush {
                 Flush::Front => 3,
                 Flush::Back => -1,

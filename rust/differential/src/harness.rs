@@ -46,8 +46,9 @@ impl Counts {
         }
     }
 
-    pub fn of(&self, call: Call, number: usize) -> u64 {
-        self.by_number[call as usize][number]
+    pub fn add_all(&mut self, other: &Counts) {
+        let counts = self.by_number.iter_mut().flatten();
+        counts.zip(other.by_number.iter().flatten()).for_each(|(count, more)| *count += more);
     }
 
     pub fn total(&self) -> u64 {
@@ -60,7 +61,7 @@ impl Counts {
         for call in Call::ALL {
             let numbers = if call == Call::Show { &[0, 1][..] } else { call.numbers() };
             for number in numbers {
-                if self.of(call, *number) == 0 {
+                if self.by_number[call as usize][*number] == 0 {
                     unseen.push((call, *number));
                 }
             }
@@ -118,17 +119,20 @@ fn outcome_on_copies(
 
 /// How a turn lends its buffers: at which end they touch forbidden memory, and what stands for the
 /// address of a buffer without bytes.
-#[derive(Clone, Copy)]
+#[derive(Clone, Copy, Debug)]
 struct Manner {
     flush: Flush,
     null: bool,
 }
 
+/// After so many turns the manners come again.
+const MANNERS: u64 = 4;
+
 impl Manner {
     fn of_turn(turn: u64) -> Manner {
         Manner {
             flush: if turn % 2 == 0 { Flush::Back } else { Flush::Front },
-            null: turn / 2 % 2 == 0,
+            null: turn % MANNERS / 2 == 0,
         }
     }
 }
@@ -166,13 +170,13 @@ impl Harness {
 
     /// How buffers are lent depends on the turn; a replayed case starts from the same one.
     pub fn start_case(&mut self, case: u64) {
-        self.turn = case;
+        self.turn = case % MANNERS;
     }
 
     /// Gives the input to all sides. Their common outcome, or the first disagreement.
     pub fn check(&mut self, input: &Input) -> Result<Outcome, Mismatch> {
         if self.trace {
-            println!("{input}");
+            println!("{input} {:?}", Manner::of_turn(self.turn));
         }
         let expected = (self.expected)(input);
         if let Some(program) = self.in_place_of_library {

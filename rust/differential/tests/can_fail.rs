@@ -3,7 +3,7 @@
 
 use differential::call::{Answer, Call, Input, Outcome, FULL_HEADER, PAGE, PATCH_HEADER, SLOT};
 use differential::generate;
-use differential::harness::{independent_outcome, Harness, Mismatch, Side};
+use differential::harness::{independent_outcome, Counts, Harness, Mismatch, Side};
 use differential::orders;
 use differential::rng::Rng;
 use differential::runs::{self, Pairs};
@@ -11,14 +11,17 @@ use differential::runs::{self, Pairs};
 const SEED: u64 = 1;
 const MOST_CASES: u64 = 60_000;
 
+fn random_input(case: u64) -> Input {
+    generate::any_input(&mut Rng::for_case(SEED, "random", case))
+}
+
 /// The first mismatch that random inputs find between the library and a program.
 fn first_mismatch(expected: Side) -> Option<Mismatch> {
     let mut harness = Harness::new();
     harness.expected = expected;
     (0..MOST_CASES).find_map(|case| {
-        let mut rng = Rng::for_case(SEED, "random", case);
         harness.start_case(case);
-        harness.check(&generate::any_input(&mut rng)).err()
+        harness.check(&random_input(case)).err()
     })
 }
 
@@ -256,6 +259,21 @@ fn looks_for_stray_pages_first(input: &Input) -> Outcome {
             }
         }
     })
+}
+
+/// Random inputs alone meet every number of every call; without those of one answer it is missed.
+#[test]
+fn a_number_that_is_never_given_is_noticed() {
+    let (mut all, mut some) = (Counts::default(), Counts::default());
+    for input in (0..MOST_CASES).map(random_input) {
+        let answer = independent_outcome(&input).answer;
+        all.add(input.call, &answer);
+        if (input.call, answer.number()) != (Call::LookUp, 11) {
+            some.add(input.call, &answer);
+        }
+    }
+    assert_eq!(all.unseen(), []);
+    assert_eq!(some.unseen(), [(Call::LookUp, 11)]);
 }
 
 #[test]
