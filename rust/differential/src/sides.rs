@@ -17,6 +17,9 @@ impl Lent {
     }
 }
 
+/// A side that takes slices: call, buffers in the order of the C interface, n, block.
+pub type SafeSide = fn(Call, &mut [&mut [u8]], u64, u64) -> Answer;
+
 fn answer<const N: usize>(members: [i128; N]) -> Answer {
     Answer::of(&members)
 }
