@@ -4,17 +4,15 @@
 //! slots that it must look at are compared, pages that it fills are copied, places that it clears are
 //! set. Where it looks at each of its bytes and writes few, that is all it can be measured by.
 
-use std::time::Duration;
-
 use differential::rng::Rng;
 use thonxiliko::{
-    full_area_len, map_len, patch_area_len, FULL_HEADER_SIZE, PAGE_SIZE, PATCH_HEADER_SIZE,
-    SLOT_SIZE,
+    full_area_len, map_len, patch_area_len, Difference, FULL_HEADER_SIZE, MAX_BLOCKS, PAGE_SIZE,
+    PATCH_HEADER_SIZE, PAYLOAD_SIZE, SLOT_SIZE,
 };
 
-use crate::limits::{self, opaque};
+use crate::limits::{opaque, Limit};
 use crate::pages::Pages;
-use crate::timing::{best_of, Contest, Times};
+use crate::timing::{until_stable, Contender, Effort, Times};
 
 pub struct Row {
     pub call: &'static str,
@@ -22,354 +20,291 @@ pub struct Row {
     pub times: Times,
 }
 
-const ROUNDS: u32 = 100;
-const TIME: Duration = Duration::from_millis(400);
 /// Blocks of the small store, and the block that is worked on.
-const BLOCKS: usize = 16;
+const BLOCKS: u64 = 16;
 const BLOCK: u64 = 9;
+/// Blocks of the store that is built.
+const BUILT: u64 = 64;
 
-/// Both areas, and copies of them that the memory functions can compare them with.
-#[derive(Clone)]
-struct Store {
-    patch: Vec<u8>,
-    full: Vec<u8>,
+struct Case {
+    call: &'static str,
+    name: String,
+    library: Contender<'static>,
+    independent: Contender<'static>,
+    /// Which of the limits.
+    limit: usize,
 }
 
-impl Store {
-    fn fresh(blocks: usize, pages: Option<usize>) -> Store {
-        let full = pages.map_or(0, full_area_len);
-        let mut store = Store { patch: vec![0; patch_area_len(blocks)], full: vec![0; full] };
-        thonxiliko::format(&mut store.patch, &mut store.full).expect("sound lengths");
-        store
+/// All cases, and each limit once for all cases that have it.
+#[derive(Default)]
+struct Cases {
+    cases: Vec<Case>,
+    limits: Vec<(Limit, Contender<'static>)>,
+}
+
+/// A call by one of the crates, on buffers of its own.
+macro_rules! contender {
+    ($by:ident, $lent:ident, $call:ident($($argument:expr),*)) => {{
+        #[allow(unused_mut)]
+        let mut $lent = $lent.clone();
+        Contender::new(move || {
+            let _ = opaque($by::$call($($argument),*));
+        })
+    }};
+}
+
+/// The same call by the library and by the independent implementation.
+macro_rules! both {
+    ($($work:tt)*) => {
+        [contender!(thonxiliko, $($work)*), contender!(independent, $($work)*)]
+    };
+}
+
+impl Cases {
+    fn add(
+        &mut self,
+        call: &'static str,
+        name: &str,
+        limit: Limit,
+        [library, independent]: [Contender<'static>; 2],
+    ) {
+        let known = self.limits.iter().position(|(other, _)| *other == limit);
+        let limit = known.unwrap_or_else(|| {
+            let work = limit.work();
+            self.limits.push((limit, Contender::new(work)));
+            self.limits.len() - 1
+        });
+        self.cases.push(Case { call, name: name.to_string(), library, independent, limit });
     }
 
-    fn with(pages: &Pages) -> Store {
-        let mut store = Store::fresh(BLOCKS, Some(BLOCKS));
-        store.write(BLOCK, pages);
-        store
+    /// One pass through all cases. In each, library, limit and independent implementation take turns.
+    fn pass(&mut self, turns: u32) -> bool {
+        let mut better = false;
+        for case in &mut self.cases {
+            let (_, limit) = &mut self.limits[case.limit];
+            for _ in 0..turns {
+                better |= case.library.sample();
+                better |= limit.sample();
+                case.independent.sample();
+            }
+        }
+        better
     }
 
-    fn write(&mut self, block: u64, pages: &Pages) {
-        thonxiliko::write(&mut self.patch, &mut self.full, block, &pages.base, &pages.page)
+    fn rows(&self) -> Vec<Row> {
+        let row = |case: &Case| Row {
+            call: case.call,
+            case: case.name.clone(),
+            times: Times {
+                library: case.library.best,
+                limits: self.limits[case.limit].1.best,
+                independent: case.independent.best,
+            },
+        };
+        self.cases.iter().map(row).collect()
+    }
+}
+
+/// What a contender lends to a call.
+#[derive(Clone)]
+struct Lent {
+    patch: Vec<u8>,
+    full: Vec<u8>,
+    base: Vec<u8>,
+    page: Vec<u8>,
+    /// The page, the payload or the map that the call fills.
+    filled: Vec<u8>,
+}
+
+impl Lent {
+    /// Fresh areas, and pages to write.
+    fn fresh(blocks: u64, places: Option<u64>, pages: &Pages) -> Lent {
+        let mut lent = Lent {
+            patch: vec![0; patch_area_len(blocks)],
+            full: vec![0; places.map_or(0, full_area_len)],
+            base: pages.base.clone(),
+            page: pages.page.clone(),
+            filled: vec![0; PAGE_SIZE],
+        };
+        thonxiliko::format(&mut lent.patch, &mut lent.full).expect("sound lengths");
+        lent
+    }
+
+    fn write(&mut self, block: u64) {
+        thonxiliko::write(&mut self.patch, &mut self.full, block, &self.base, &self.page)
             .expect("a sound store");
     }
 
-    fn slot(&self, block: u64) -> &[u8] {
-        let start = patch_area_len(block as usize);
-        &self.patch[start..start + SLOT_SIZE]
+    /// A store with the page in its block.
+    fn with(pages: &Pages) -> Lent {
+        let mut lent = Lent::fresh(BLOCKS, Some(BLOCKS), pages);
+        lent.write(BLOCK);
+        lent
+    }
+
+    fn slot(&self) -> Vec<u8> {
+        let start = patch_area_len(BLOCK);
+        self.patch[start..start + SLOT_SIZE].to_vec()
     }
 }
 
-/// Looking through the headers that there are.
-fn headers(store: &Store, copy: &Store) {
-    limits::compare(&store.patch[..PATCH_HEADER_SIZE], &copy.patch[..PATCH_HEADER_SIZE]);
-    if !store.full.is_empty() {
-        limits::compare(&store.full[..FULL_HEADER_SIZE], &copy.full[..FULL_HEADER_SIZE]);
-    }
+/// Looking through both headers.
+fn headers() -> Limit {
+    Limit::default().compare(PATCH_HEADER_SIZE).compare(FULL_HEADER_SIZE)
 }
 
-fn measure(
-    call: &'static str,
-    case: &str,
-    library: &mut dyn FnMut(),
-    limits: &mut dyn FnMut(),
-    independent: &mut dyn FnMut(),
-) -> Row {
-    let times = best_of(ROUNDS, TIME, Contest { library, limits, independent });
-    Row { call, case: case.to_string(), times }
-}
-
-fn compare_rows(rows: &mut Vec<Row>) {
+fn compare_cases(cases: &mut Cases) {
     for pages in Pages::all() {
-        let (mut one, mut two, mut three) = ([0; 504], [0; 504], [0; 504]);
-        let stream = if pages.compared.length <= 504 { pages.compared.length } else { 0 };
-        rows.push(measure(
-            "Compare",
-            &pages.name,
-            &mut || {
-                opaque(thonxiliko::compare(&pages.base, &pages.page, &mut one).ok());
-            },
-            &mut || {
-                limits::compare(&pages.base, &pages.equal);
-                limits::copy(&mut two[..stream], &pages.payload[..stream]);
-            },
-            &mut || {
-                opaque(independent::compare(&pages.base, &pages.page, &mut three));
-            },
-        ));
+        let mut lent = Lent::fresh(0, None, &pages);
+        lent.filled.truncate(PAYLOAD_SIZE);
+        let mut limit = Limit::default().compare(PAGE_SIZE);
+        if !pages.payload.is_empty() {
+            limit = limit.copy(pages.payload.len());
+        }
+        let both = both!(lent, compare(&lent.base, &lent.page, &mut lent.filled));
+        cases.add("Compare", &pages.name, limit, both);
     }
-    let pages = Pages::equal();
-    let zeros = vec![0; PAGE_SIZE];
-    let (mut one, mut three) = ([0; 504], [0; 504]);
-    rows.push(measure(
-        "Compare",
-        "equal, base of length 0",
-        &mut || {
-            opaque(thonxiliko::compare(&[], &zeros, &mut one).ok());
-        },
-        &mut || limits::compare(&pages.base, &pages.equal),
-        &mut || {
-            opaque(independent::compare(&[], &zeros, &mut three));
-        },
-    ));
 }
 
-fn apply_rows(rows: &mut Vec<Row>) {
+fn apply_cases(cases: &mut Cases) {
     for pages in Pages::patches() {
-        let (mut one, mut two, mut three) = ([0; PAGE_SIZE], [0; PAGE_SIZE], [0; PAGE_SIZE]);
-        let mut payload = pages.payload.clone();
-        rows.push(measure(
-            "Apply",
-            &pages.name,
-            &mut || {
-                opaque(thonxiliko::apply(&pages.base, &pages.payload, &mut one).ok());
-            },
-            &mut || {
-                limits::copy(&mut two, &pages.base);
-                limits::copy(&mut payload, &pages.payload);
-            },
-            &mut || {
-                opaque(independent::apply(&pages.base, &pages.payload, &mut three));
-            },
-        ));
+        let lent = Lent::fresh(0, None, &pages);
+        let payload = pages.payload;
+        let limit = Limit::default().copy(PAGE_SIZE).copy(payload.len());
+        let lent = (lent, payload);
+        let both = both!(lent, apply(&lent.0.base, &lent.1, &mut lent.0.filled));
+        cases.add("Apply", &pages.name, limit, both);
     }
 }
 
-/// A name, and pages that are stored as that kind.
-fn kinds() -> [(&'static str, Pages); 4] {
-    [
-        ("EMPTY", Pages::equal()),
-        ("PATCH, 20 differences", Pages::spread(20)),
-        ("PATCH, 252 differences", Pages::run(252)),
-        ("FULL_REF", Pages::large()),
-    ]
+/// Pages of every kind, with the kind before their name.
+fn kinds() -> Vec<(String, Pages)> {
+    let mut all = vec![Pages::equal(), Pages::spread(1), Pages::spread(20), Pages::spread(100)];
+    all.extend([Pages::run(252), Pages::large()]);
+    let named = |pages: Pages| (kind_name(&pages), pages);
+    all.into_iter().map(named).collect()
 }
 
-fn judge_and_show_rows(rows: &mut Vec<Row>) {
-    for (kind, pages) in kinds() {
-        let store = Store::with(&pages);
-        let copy = store.clone();
-        let slot = store.slot(BLOCK);
-        rows.push(measure(
-            "Judge",
-            kind,
-            &mut || {
-                opaque(thonxiliko::judge(slot).ok());
-            },
-            &mut || limits::compare(slot, copy.slot(BLOCK)),
-            &mut || {
-                opaque(independent::judge(slot));
-            },
-        ));
-    }
-    for (kind, pages) in kinds() {
-        let store = Store::with(&pages);
-        let copy = store.clone();
-        rows.push(measure(
-            "Show",
-            kind,
-            &mut || {
-                opaque(thonxiliko::show(&store.patch, BLOCK));
-            },
-            &mut || {
-                let header = PATCH_HEADER_SIZE;
-                limits::compare(&store.patch[..header], &copy.patch[..header]);
-                limits::compare(store.slot(BLOCK), copy.slot(BLOCK));
-            },
-            &mut || {
-                opaque(independent::show(&store.patch, BLOCK));
-            },
-        ));
+fn kind_name(pages: &Pages) -> String {
+    match pages.compared.difference {
+        Difference::Same => "EMPTY".to_string(),
+        Difference::Patch => format!("PATCH, {}", pages.name),
+        Difference::Large => format!("FULL_REF, {}", pages.name),
     }
 }
 
-fn read_rows(rows: &mut Vec<Row>) {
-    for (kind, pages) in kinds() {
-        let store = Store::with(&pages);
-        let copy = store.clone();
-        let (mut one, mut two, mut three) = ([0; PAGE_SIZE], [0; PAGE_SIZE], [0; PAGE_SIZE]);
-        let stored = if kind == "FULL_REF" { &pages.page } else { &pages.base };
-        rows.push(measure(
-            "Read",
-            kind,
-            &mut || {
-                opaque(
-                    thonxiliko::read(&store.patch, &store.full, BLOCK, &pages.base, &mut one).ok(),
-                );
-            },
-            &mut || {
-                headers(&store, &copy);
-                limits::compare(store.slot(BLOCK), copy.slot(BLOCK));
-                limits::copy(&mut two, stored);
-            },
-            &mut || {
-                opaque(independent::read(
-                    &store.patch,
-                    &store.full,
-                    BLOCK,
-                    &pages.base,
-                    &mut three,
-                ));
-            },
-        ));
+fn judge_and_show_cases(cases: &mut Cases) {
+    for (name, pages) in kinds() {
+        let slot = Lent::with(&pages).slot();
+        let limit = Limit::default().compare(SLOT_SIZE);
+        cases.add("Judge", &name, limit, both!(slot, judge(&slot)));
+    }
+    for (name, pages) in kinds() {
+        let lent = Lent::with(&pages);
+        let limit = Limit::default().compare(PATCH_HEADER_SIZE).compare(SLOT_SIZE);
+        cases.add("Show", &name, limit, both!(lent, show(&lent.patch, BLOCK)));
     }
 }
 
-fn write_rows(rows: &mut Vec<Row>) {
-    for (kind, pages) in kinds() {
-        let (mut one, mut two, mut three) =
-            (Store::with(&pages), Store::with(&pages), Store::with(&pages));
-        let copy = two.clone();
-        let slot = PATCH_HEADER_SIZE + SLOT_SIZE * BLOCK as usize;
-        let place = FULL_HEADER_SIZE + PAGE_SIZE * BLOCK as usize;
-        rows.push(measure(
-            "Write",
-            kind,
-            &mut || {
-                opaque(
-                    thonxiliko::write(
-                        &mut one.patch,
-                        &mut one.full,
-                        BLOCK,
-                        &pages.base,
-                        &pages.page,
-                    )
-                    .ok(),
-                );
-            },
-            &mut || {
-                headers(&two, &copy);
-                limits::compare(&pages.base, &pages.equal);
-                limits::copy(&mut two.patch[slot..slot + SLOT_SIZE], copy.slot(BLOCK));
-                let place = &mut two.full[place..place + PAGE_SIZE];
-                if kind == "FULL_REF" {
-                    limits::copy(place, &pages.page);
-                } else {
-                    limits::set(place, 0);
-                }
-            },
-            &mut || {
-                opaque(independent::write(
-                    &mut three.patch,
-                    &mut three.full,
-                    BLOCK,
-                    &pages.base,
-                    &pages.page,
-                ));
-            },
-        ));
+fn read_cases(cases: &mut Cases) {
+    for (name, pages) in kinds() {
+        let lent = Lent::with(&pages);
+        let limit = headers().compare(SLOT_SIZE).copy(PAGE_SIZE);
+        let both = both!(lent, read(&lent.patch, &lent.full, BLOCK, &lent.base, &mut lent.filled));
+        cases.add("Read", &name, limit, both);
     }
 }
 
-fn format_rows(rows: &mut Vec<Row>) {
-    for (case, blocks, pages) in [("n = 64, no full area", 64, None), ("n = m = 64", 64, Some(64))]
-    {
-        let fresh = Store::fresh(blocks, pages);
-        let (mut one, mut two, mut three) = (fresh.clone(), fresh.clone(), fresh);
-        rows.push(measure(
-            "Format",
-            case,
-            &mut || {
-                opaque(thonxiliko::format(&mut one.patch, &mut one.full).ok());
-            },
-            &mut || {
-                limits::set(&mut two.patch, 0);
-                limits::set(&mut two.full, 0);
-            },
-            &mut || {
-                opaque(independent::format(&mut three.patch, &mut three.full));
-            },
-        ));
+fn write_cases(cases: &mut Cases) {
+    let mut all = kinds();
+    // Every byte differs in one of the kinds already.
+    let others = Pages::larges().into_iter().filter(|pages| pages.name != Pages::large().name);
+    all.extend(others.map(|pages| (kind_name(&pages), pages)));
+    for (name, pages) in all {
+        let lent = Lent::with(&pages);
+        let limit = headers().compare(PAGE_SIZE).copy(SLOT_SIZE);
+        let limit = match pages.compared.difference {
+            Difference::Large => limit.copy(PAGE_SIZE),
+            _ => limit.set(PAGE_SIZE),
+        };
+        let both =
+            both!(lent, write(&mut lent.patch, &mut lent.full, BLOCK, &lent.base, &lent.page));
+        cases.add("Write", &name, limit, both);
     }
 }
 
-fn build_rows(rows: &mut Vec<Row>) {
-    let cases = [
+fn format_cases(cases: &mut Cases) {
+    for (name, places) in [("n = 64, no full area", None), ("n = m = 64", Some(BUILT))] {
+        let lent = Lent::fresh(BUILT, places, &Pages::equal());
+        let mut limit = Limit::default().set(lent.patch.len());
+        if places.is_some() {
+            limit = limit.set(lent.full.len());
+        }
+        cases.add("Format", name, limit, both!(lent, format(&mut lent.patch, &mut lent.full)));
+    }
+}
+
+fn build_cases(cases: &mut Cases) {
+    let all = [
         ("n = 64 EMPTY, no full area", Pages::equal(), None),
         ("n = 64 PATCH of 20, no full area", Pages::spread(20), None),
         ("n = 64 PATCH of 252, no full area", Pages::run(252), None),
-        ("n = m = 64 PATCH of 20", Pages::spread(20), Some(64)),
-        ("n = m = 64 FULL_REF", Pages::large(), Some(64)),
+        ("n = m = 64 PATCH of 20", Pages::spread(20), Some(BUILT)),
+        ("n = m = 64 FULL_REF", Pages::large(), Some(BUILT)),
     ];
-    for (case, pages, places) in cases {
-        let mut store = Store::fresh(64, places);
-        for block in 0..64 {
-            store.write(block, &pages);
+    for (name, pages, places) in all {
+        let mut lent = Lent::fresh(BUILT, places, &pages);
+        (0..BUILT).for_each(|block| lent.write(block));
+        lent.filled.truncate(map_len(BUILT));
+        let mut limit = Limit::default().compare(PATCH_HEADER_SIZE);
+        if places.is_some() {
+            limit = headers();
         }
-        let header = store.clone();
-        let slot = store.slot(0).to_vec();
-        let zeros = [0; PAGE_SIZE];
-        let (mut one, mut two, mut three) = ([0; 16], [0; 16], [0; 16]);
         // Places that a slot refers to are not looked at.
-        let looked_at = if case.contains("FULL_REF") { 0 } else { 64 };
-        rows.push(measure(
+        let looks = places.is_some() && pages.compared.difference != Difference::Large;
+        for _ in 0..BUILT {
+            limit = limit.compare(SLOT_SIZE);
+            if looks {
+                limit = limit.compare(PAGE_SIZE);
+            }
+        }
+        limit = limit.set(lent.filled.len());
+        cases.add(
             "Build",
-            case,
-            &mut || {
-                opaque(thonxiliko::build(&store.patch, &store.full, &mut one).ok());
-            },
-            &mut || {
-                headers(&store, &header);
-                for from in store.patch[PATCH_HEADER_SIZE..].chunks_exact(SLOT_SIZE) {
-                    limits::compare(from, &slot);
-                }
-                let places = store.full.get(FULL_HEADER_SIZE..).unwrap_or_default();
-                for place in places.chunks_exact(PAGE_SIZE).take(looked_at) {
-                    limits::compare(place, &zeros);
-                }
-                limits::set(&mut two, 0);
-            },
-            &mut || {
-                opaque(independent::build(&store.patch, &store.full, &mut three));
-            },
-        ));
+            name,
+            limit,
+            both!(lent, build(&lent.patch, &lent.full, &mut lent.filled)),
+        );
     }
 }
 
-fn map_rows(rows: &mut Vec<Row>) {
-    let n: usize = 131_072;
-    let mut map = vec![0; map_len(n)];
-    Rng::new(3).fill(&mut map);
+fn map_cases(cases: &mut Cases) {
+    let mut map = Rng::new(3).bytes(map_len(MAX_BLOCKS));
     // No pair of 3.
     map.iter_mut().for_each(|byte| *byte &= 0xAA);
-    let copy = map.clone();
-    let told = n as u64;
-    rows.push(measure(
-        "Look up",
-        "n = 131,072",
-        &mut || {
-            opaque(thonxiliko::look_up(&map, told, opaque(70_001)).ok());
-        },
-        &mut || limits::compare(&map[17_500..17_501], &copy[17_500..17_501]),
-        &mut || {
-            opaque(independent::look_up(&map, told, opaque(70_001)));
-        },
-    ));
-    for blocks in [64, n] {
-        let bytes = map_len(blocks);
-        rows.push(measure(
-            "Tally",
-            if blocks == n { "n = 131,072" } else { "n = 64" },
-            &mut || {
-                opaque(thonxiliko::tally(&map, blocks as u64).ok());
-            },
-            &mut || limits::compare(&map[..bytes], &copy[..bytes]),
-            &mut || {
-                opaque(independent::tally(&map, blocks as u64));
-            },
-        ));
+    let limit = Limit::default().compare(1);
+    let both = both!(map, look_up(&map, MAX_BLOCKS, opaque(70_001)));
+    cases.add("Look up", "n = 131,072", limit, both);
+    for (name, blocks) in [("n = 64", 64), ("n = 131,072", MAX_BLOCKS)] {
+        let limit = Limit::default().compare(map_len(blocks));
+        cases.add("Tally", name, limit, both!(map, tally(&map, blocks)));
     }
 }
 
-pub fn rows() -> Vec<Row> {
-    let mut rows = Vec::new();
-    compare_rows(&mut rows);
-    apply_rows(&mut rows);
-    judge_and_show_rows(&mut rows);
-    read_rows(&mut rows);
-    write_rows(&mut rows);
-    format_rows(&mut rows);
-    build_rows(&mut rows);
-    map_rows(&mut rows);
-    rows
+/// Turns of each case in one pass.
+const TURNS: u32 = 30;
+pub const EFFORT: Effort = Effort { least: 30, quiet: 5, most: 200 };
+
+pub fn rows(effort: Effort) -> Vec<Row> {
+    let mut cases = Cases::default();
+    compare_cases(&mut cases);
+    apply_cases(&mut cases);
+    judge_and_show_cases(&mut cases);
+    read_cases(&mut cases);
+    write_cases(&mut cases);
+    format_cases(&mut cases);
+    build_cases(&mut cases);
+    map_cases(&mut cases);
+    until_stable(effort, || cases.pass(TURNS));
+    cases.rows()
 }

@@ -47,3 +47,53 @@ pub fn opaque<T>(value: T) -> T {
     }
     value
 }
+
+/// What the rules make a call touch: the lengths of the stretches that are compared, copied and set.
+/// Calls that touch the same have equal limits.
+#[derive(Clone, Debug, Default, PartialEq, Eq)]
+pub struct Limit {
+    compared: Vec<usize>,
+    copied: Vec<usize>,
+    set: Vec<usize>,
+}
+
+impl Limit {
+    pub fn compare(mut self, length: usize) -> Limit {
+        self.compared.push(length);
+        self
+    }
+
+    pub fn copy(mut self, length: usize) -> Limit {
+        self.copied.push(length);
+        self
+    }
+
+    pub fn set(mut self, length: usize) -> Limit {
+        self.set.push(length);
+        self
+    }
+
+    /// The work itself. Every stretch has memory of its own; what it is compared with or copied from
+    /// is shared, as constants and pages of zeros are in a call.
+    pub fn work(&self) -> impl FnMut() {
+        let memory = |lengths: &[usize]| -> Vec<Vec<u8>> {
+            lengths.iter().map(|length| vec![0; *length]).collect()
+        };
+        let other = |lengths: &[usize]| vec![0; lengths.iter().copied().max().unwrap_or(0)];
+        let (looked_at, equal) = (memory(&self.compared), other(&self.compared));
+        let (mut filled, source) = (memory(&self.copied), other(&self.copied));
+        let mut cleared = memory(&self.set);
+        move || {
+            for bytes in &looked_at {
+                compare(bytes, &equal[..bytes.len()]);
+            }
+            for bytes in &mut filled {
+                let length = bytes.len();
+                copy(bytes, &source[..length]);
+            }
+            for bytes in &mut cleared {
+                set(bytes, 0);
+            }
+        }
+    }
+}

@@ -3,27 +3,32 @@
 use differential::rng::Rng;
 use thonxiliko::{compare, Compared, Difference, PAGE_SIZE, PAYLOAD_SIZE};
 
-/// A page, its base, and a copy of the base for the memory functions to run through.
+/// A page, its base, and the stream if it fits a slot.
+#[derive(Clone)]
 pub struct Pages {
     pub name: String,
     pub base: Vec<u8>,
-    pub equal: Vec<u8>,
     pub page: Vec<u8>,
     pub compared: Compared,
     pub payload: Vec<u8>,
 }
 
 impl Pages {
-    fn new(name: &str, positions: impl Iterator<Item = usize>) -> Pages {
+    fn new(name: &str, base: Vec<u8>, page: Vec<u8>) -> Pages {
+        let mut payload = vec![0; PAYLOAD_SIZE];
+        let compared = compare(&base, &page, &mut payload).expect("sound lengths");
+        let fits = compared.difference == Difference::Patch;
+        payload.truncate(if fits { compared.length } else { 0 });
+        Pages { name: name.to_string(), base, page, compared, payload }
+    }
+
+    fn changed(name: &str, positions: impl Iterator<Item = usize>) -> Pages {
         let base = Rng::new(7).bytes(PAGE_SIZE);
         let mut page = base.clone();
         for position in positions {
             page[position] ^= 0x5A;
         }
-        let mut payload = vec![0; PAYLOAD_SIZE];
-        let compared = compare(&base, &page, &mut payload).expect("sound lengths");
-        payload.truncate(compared.length.min(PAYLOAD_SIZE));
-        Pages { name: name.to_string(), equal: base.clone(), base, page, compared, payload }
+        Pages::new(name, base, page)
     }
 
     pub fn spread(differences: usize) -> Pages {
@@ -32,22 +37,23 @@ impl Pages {
             _ => format!("{differences} differences, spread"),
         };
         let step = PAGE_SIZE / differences;
-        Pages::new(&name, (0..differences).map(|number| number * step + step / 2))
+        Pages::changed(&name, (0..differences).map(|number| number * step + step / 2))
     }
 
     /// Near the page's beginning: further in, the first jump would take the long code, and 252
     /// differences would no longer fit.
     pub fn run(differences: usize) -> Pages {
         let name = format!("{differences} differences, one run");
-        Pages::new(&name, 100..100 + differences)
+        Pages::changed(&name, 100..100 + differences)
     }
 
     pub fn equal() -> Pages {
-        Pages::new("equal", std::iter::empty())
+        Pages::changed("equal", std::iter::empty())
     }
 
+    /// Every byte differs.
     pub fn large() -> Pages {
-        Pages::new("large, every byte", 0..PAGE_SIZE)
+        Pages::changed("every byte differs", 0..PAGE_SIZE)
     }
 
     /// Those that fit a slot.
@@ -61,11 +67,26 @@ impl Pages {
         pages
     }
 
+    /// Those that do not, from few differences to a page that is new throughout.
+    pub fn larges() -> Vec<Pages> {
+        let second = (0..PAGE_SIZE).step_by(2);
+        let new: Vec<u8> = (0..PAGE_SIZE).map(|at| 1 + (at % 255) as u8).collect();
+        let pages = vec![
+            Pages::run(253),
+            Pages::spread(1_000),
+            Pages::changed("every second byte differs", second),
+            Pages::large(),
+            Pages::new("every byte new, base of length 0", Vec::new(), new),
+        ];
+        assert!(pages.iter().all(|pages| pages.compared.difference == Difference::Large));
+        pages
+    }
+
     pub fn all() -> Vec<Pages> {
-        let mut pages = vec![Pages::equal()];
+        let zeros = Pages::new("equal, base of length 0", Vec::new(), vec![0; PAGE_SIZE]);
+        let mut pages = vec![Pages::equal(), zeros];
         pages.extend(Pages::patches());
-        pages.push(Pages::run(253));
-        pages.push(Pages::large());
+        pages.extend(Pages::larges());
         pages
     }
 }

@@ -1,171 +1,187 @@
 //! Whole segments: every block written, read and built, for growing n. The area does not fit the
 //! caches any more, and that is so for the memory functions too.
 
-use std::time::Duration;
-
 use differential::arena::Mapping;
-use thonxiliko::{full_area_len, map_len, patch_area_len, PAGE_SIZE, SLOT_SIZE};
+use thonxiliko::{
+    full_area_len, map_len, patch_area_len, FULL_HEADER_SIZE, MAX_BLOCKS, PAGE_SIZE,
+    PATCH_HEADER_SIZE, SLOT_SIZE,
+};
 
 use crate::limits::{self, opaque};
 use crate::pages::Pages;
-use crate::timing::{best_of, Contest, Times};
+use crate::timing::{until_stable, Contender, Effort, Times};
 
 /// Times are nanoseconds per block.
 pub struct Row {
-    pub blocks: usize,
+    pub blocks: u64,
     pub work: &'static str,
     pub times: Times,
 }
 
-fn per_block(times: Times, blocks: usize) -> Times {
-    let blocks = blocks as f64;
-    Times {
-        library: times.library / blocks,
-        limits: times.limits / blocks,
-        independent: times.independent / blocks,
-    }
-}
+pub const EFFORT: Effort = Effort { least: 5, quiet: 3, most: 15 };
 
-const ROUNDS: u32 = 4;
-const TIME: Duration = Duration::from_secs(1);
-
-fn fresh(blocks: usize) -> Vec<u8> {
+fn fresh(blocks: u64) -> Vec<u8> {
     let mut patch = vec![0; patch_area_len(blocks)];
     thonxiliko::format(&mut patch, &mut []).expect("a sound length");
     patch
 }
 
-/// Writing, reading and building n blocks with 20 differences each, the full area being absent.
-fn patches(rows: &mut Vec<Row>, blocks: usize) {
-    let pages = Pages::spread(20);
-    let (mut one, mut two, mut three) = (fresh(blocks), fresh(blocks), fresh(blocks));
-    let (header, copied) = (fresh(0), fresh(0));
-    let slot = [0x11; SLOT_SIZE];
-    let last = blocks as u64;
+/// A patch area for each contender; all blocks get the same page. The full area is absent.
+struct Segment {
+    blocks: u64,
+    effort: Effort,
+    pages: Pages,
+    /// Copies of the base and of a header, for the memory functions to compare them with.
+    base: Vec<u8>,
+    header: [Vec<u8>; 2],
+    slot: [u8; SLOT_SIZE],
+    library: Vec<u8>,
+    limits: Vec<u8>,
+    independent: Vec<u8>,
+}
 
-    let times = best_of(
-        ROUNDS,
-        TIME,
-        Contest {
-            library: &mut || {
-                for block in 0..last {
-                    opaque(
-                        thonxiliko::write(&mut one, &mut [], block, &pages.base, &pages.page).ok(),
-                    );
-                }
-            },
-            limits: &mut || {
-                for to in two[SLOT_SIZE..].chunks_exact_mut(SLOT_SIZE) {
-                    limits::compare(&header, &copied);
-                    limits::compare(&pages.base, &pages.equal);
-                    limits::copy(to, &slot);
-                }
-            },
-            independent: &mut || {
-                for block in 0..last {
-                    opaque(independent::write(
-                        &mut three,
-                        &mut [],
-                        block,
-                        &pages.base,
-                        &pages.page,
-                    ));
-                }
-            },
-        },
-    );
-    rows.push(Row { blocks, work: "written", times: per_block(times, blocks) });
+impl Segment {
+    fn new(blocks: u64, effort: Effort) -> Segment {
+        let pages = Pages::spread(20);
+        Segment {
+            blocks,
+            effort,
+            base: pages.base.clone(),
+            pages,
+            header: [fresh(0), fresh(0)],
+            slot: [0x11; SLOT_SIZE],
+            library: fresh(blocks),
+            limits: fresh(blocks),
+            independent: fresh(blocks),
+        }
+    }
 
-    let (mut page, mut copy, mut third) = ([0; PAGE_SIZE], [0; PAGE_SIZE], [0; PAGE_SIZE]);
-    let times = best_of(
-        ROUNDS,
-        TIME,
-        Contest {
-            library: &mut || {
-                for block in 0..last {
-                    opaque(thonxiliko::read(&one, &[], block, &pages.base, &mut page).ok());
+    fn written(&mut self) -> Row {
+        let Segment { blocks, effort, pages, header, slot, .. } = self;
+        let (page, base, other) = (&pages.page, &pages.base, &self.base);
+        let (library, limits, plain) = (&mut self.library, &mut self.limits, &mut self.independent);
+        let contenders = [
+            Contender::new(|| {
+                for block in 0..*blocks {
+                    let _ = opaque(thonxiliko::write(library, &mut [], block, base, page));
                 }
-            },
-            limits: &mut || {
-                for from in two[SLOT_SIZE..].chunks_exact(SLOT_SIZE) {
-                    limits::compare(&header, &copied);
-                    limits::compare(from, &slot);
+            }),
+            Contender::new(|| {
+                for to in limits[PATCH_HEADER_SIZE..].chunks_exact_mut(SLOT_SIZE) {
+                    limits::compare(&header[0], &header[1]);
+                    limits::compare(base, other);
+                    limits::copy(to, slot);
+                }
+            }),
+            Contender::new(|| {
+                for block in 0..*blocks {
+                    opaque(independent::write(plain, &mut [], block, base, page));
+                }
+            }),
+        ];
+        row(*blocks, "written", *effort, contenders)
+    }
+
+    fn read(&self) -> Row {
+        let Segment { blocks, effort, pages, header, slot, .. } = self;
+        let (mut page, mut copy, mut third) = ([0; PAGE_SIZE], [0; PAGE_SIZE], [0; PAGE_SIZE]);
+        let (library, limits, plain) = (&self.library, &self.limits, &self.independent);
+        let contenders = [
+            Contender::new(|| {
+                for block in 0..*blocks {
+                    let _ = opaque(thonxiliko::read(library, &[], block, &pages.base, &mut page));
+                }
+            }),
+            Contender::new(|| {
+                for from in limits[PATCH_HEADER_SIZE..].chunks_exact(SLOT_SIZE) {
+                    limits::compare(&header[0], &header[1]);
+                    limits::compare(from, slot);
                     limits::copy(&mut copy, &pages.base);
                 }
-            },
-            independent: &mut || {
-                for block in 0..last {
-                    opaque(independent::read(&three, &[], block, &pages.base, &mut third));
+            }),
+            Contender::new(|| {
+                for block in 0..*blocks {
+                    opaque(independent::read(plain, &[], block, &pages.base, &mut third));
                 }
-            },
-        },
-    );
-    rows.push(Row { blocks, work: "read", times: per_block(times, blocks) });
+            }),
+        ];
+        row(*blocks, "read", *effort, contenders)
+    }
 
-    let mut map = vec![0; map_len(blocks)];
-    let mut map_set = map.clone();
-    let mut third = map.clone();
-    let times = best_of(
-        ROUNDS,
-        TIME,
-        Contest {
-            library: &mut || {
-                opaque(thonxiliko::build(&one, &[], &mut map).ok());
-            },
-            limits: &mut || {
-                limits::compare(&header, &copied);
-                for from in two[SLOT_SIZE..].chunks_exact(SLOT_SIZE) {
-                    limits::compare(from, &slot);
+    fn built(&self) -> Row {
+        let Segment { blocks, effort, header, slot, .. } = self;
+        let mut map = vec![0; map_len(*blocks)];
+        let (mut cleared, mut third) = (map.clone(), map.clone());
+        let contenders = [
+            Contender::new(|| {
+                let _ = opaque(thonxiliko::build(&self.library, &[], &mut map));
+            }),
+            Contender::new(|| {
+                limits::compare(&header[0], &header[1]);
+                for from in self.limits[PATCH_HEADER_SIZE..].chunks_exact(SLOT_SIZE) {
+                    limits::compare(from, slot);
                 }
-                limits::set(&mut map_set, 0);
-            },
-            independent: &mut || {
-                opaque(independent::build(&three, &[], &mut third));
-            },
-        },
-    );
-    rows.push(Row { blocks, work: "built", times: per_block(times, blocks) });
+                limits::set(&mut cleared, 0);
+            }),
+            Contender::new(|| {
+                opaque(independent::build(&self.independent, &[], &mut third));
+            }),
+        ];
+        row(*blocks, "built", *effort, contenders)
+    }
+}
+
+/// Measures library, limits and independent implementation by turns.
+fn row(blocks: u64, work: &'static str, effort: Effort, mut contenders: [Contender; 3]) -> Row {
+    until_stable(effort, || {
+        let [library, limits, independent] = &mut contenders;
+        let better = library.sample() | limits.sample();
+        independent.sample();
+        better
+    });
+    let [library, limits, independent] = contenders.map(|contender| contender.best / blocks as f64);
+    Row { blocks, work, times: Times { library, limits, independent } }
 }
 
 /// Build of a segment whose full area has a place for each block and holds no page: 1 GiB of zeros,
 /// which take no room.
-fn empty_places(rows: &mut Vec<Row>, blocks: usize) {
+fn empty_places(blocks: u64, effort: Effort) -> Row {
     let mut full = Mapping::new(full_area_len(blocks));
     let full = full.bytes();
     let mut patch = fresh(blocks);
-    thonxiliko::format(&mut patch[..512], &mut full[..4096]).expect("sound lengths");
+    thonxiliko::format(&mut patch[..PATCH_HEADER_SIZE], &mut full[..FULL_HEADER_SIZE])
+        .expect("sound lengths");
     let (header, slot, zeros) = (fresh(0), [0; SLOT_SIZE], [0; PAGE_SIZE]);
     let mut map = vec![0; map_len(blocks)];
     let mut third = map.clone();
-    let times = best_of(
-        3,
-        TIME,
-        Contest {
-            library: &mut || {
-                opaque(thonxiliko::build(&patch, full, &mut map).ok());
-            },
-            limits: &mut || {
-                limits::compare(&patch[..SLOT_SIZE], &header);
-                for from in patch[SLOT_SIZE..].chunks_exact(SLOT_SIZE) {
-                    limits::compare(from, &slot);
-                }
-                for place in full[4096..].chunks_exact(PAGE_SIZE) {
-                    limits::compare(place, &zeros);
-                }
-            },
-            independent: &mut || {
-                opaque(independent::build(&patch, full, &mut third));
-            },
-        },
-    );
-    rows.push(Row { blocks, work: "built, EMPTY, m = n", times: per_block(times, blocks) });
+    let contenders = [
+        Contender::new(|| {
+            let _ = opaque(thonxiliko::build(&patch, full, &mut map));
+        }),
+        Contender::new(|| {
+            limits::compare(&patch[..PATCH_HEADER_SIZE], &header);
+            for from in patch[PATCH_HEADER_SIZE..].chunks_exact(SLOT_SIZE) {
+                limits::compare(from, &slot);
+            }
+            for place in full[FULL_HEADER_SIZE..].chunks_exact(PAGE_SIZE) {
+                limits::compare(place, &zeros);
+            }
+        }),
+        Contender::new(|| {
+            opaque(independent::build(&patch, full, &mut third));
+        }),
+    ];
+    row(blocks, "built, EMPTY, m = n", effort, contenders)
 }
 
-pub fn rows() -> Vec<Row> {
+pub fn rows(effort: Effort, most_blocks: u64) -> Vec<Row> {
     let mut rows = Vec::new();
-    for blocks in [1_024, 8_192, 65_536, 131_072] {
-        patches(&mut rows, blocks);
+    for blocks in [1_024, 8_192, 65_536, MAX_BLOCKS] {
+        if blocks <= most_blocks {
+            let mut segment = Segment::new(blocks, effort);
+            rows.extend([segment.written(), segment.read(), segment.built()]);
+        }
     }
-    empty_places(&mut rows, 131_072);
+    rows.push(empty_places(most_blocks, effort));
     rows
 }

@@ -1,6 +1,6 @@
 //! Best of many: each contender in turn, again and again, so that all of them meet the same machine.
 
-use std::time::{Duration, Instant};
+use std::time::Instant;
 
 /// The best time of one call, in nanoseconds.
 #[derive(Clone, Copy, Debug)]
@@ -10,45 +10,74 @@ pub struct Times {
     pub independent: f64,
 }
 
-/// What is measured: the same work done three times over.
-pub struct Contest<'c> {
-    pub library: &'c mut dyn FnMut(),
-    pub limits: &'c mut dyn FnMut(),
-    pub independent: &'c mut dyn FnMut(),
-}
-
-/// Nanoseconds that one sample should take at least, to be well above the clock's grain.
+/// Nanoseconds that one sample should take at least, to be well above the clock's grain. Still so few
+/// that the system seldom gives the processor away meanwhile.
 const SAMPLE: f64 = 20_000.0;
+/// Work up to this long is done once before each sample, so that its buffers are warm.
+const WARMED: f64 = 1_000_000.0;
+/// A sample is better if it takes less than this share of the best before.
+const BETTER: f64 = 0.99;
 
-fn sample(work: &mut dyn FnMut(), repeats: u32) -> f64 {
-    let start = Instant::now();
-    for _ in 0..repeats {
-        work();
-    }
-    start.elapsed().as_nanos() as f64 / f64::from(repeats)
+/// One way to do the work, and its best time so far.
+pub struct Contender<'c> {
+    work: Box<dyn FnMut() + 'c>,
+    /// How often a sample does the work; 0 until that has been found out.
+    repeats: u32,
+    pub best: f64,
 }
 
-/// How often the work must be repeated to fill a sample. This also warms the buffers.
-fn repeats(work: &mut dyn FnMut()) -> u32 {
-    let mut repeats = 1;
-    while repeats < 1 << 20 && sample(work, repeats) * f64::from(repeats) < SAMPLE {
-        repeats *= 2;
+impl<'c> Contender<'c> {
+    pub fn new(work: impl FnMut() + 'c) -> Contender<'c> {
+        Contender { work: Box::new(work), repeats: 0, best: f64::MAX }
     }
-    repeats
+
+    fn time(&mut self, repeats: u32) -> f64 {
+        let start = Instant::now();
+        for _ in 0..repeats {
+            (self.work)();
+        }
+        start.elapsed().as_nanos() as f64 / f64::from(repeats)
+    }
+
+    fn find_repeats(&mut self) {
+        self.repeats = 1;
+        while self.repeats < 1 << 20 && self.time(self.repeats) * f64::from(self.repeats) < SAMPLE {
+            self.repeats *= 2;
+        }
+    }
+
+    /// Takes one sample; true if it is clearly better than the best before.
+    pub fn sample(&mut self) -> bool {
+        if self.repeats == 0 {
+            self.find_repeats();
+        }
+        if self.best < WARMED {
+            (self.work)();
+        }
+        let time = self.time(self.repeats);
+        let better = time < BETTER * self.best;
+        self.best = self.best.min(time);
+        better
+    }
 }
 
-/// At least so many rounds, and more until the time is used up: a machine that does other work as
-/// well may be slow for a while.
-pub fn best_of(least: u32, time: Duration, contest: Contest) -> Times {
-    let counts = [repeats(contest.library), repeats(contest.limits), repeats(contest.independent)];
-    let mut best = Times { library: f64::MAX, limits: f64::MAX, independent: f64::MAX };
-    let start = Instant::now();
-    let mut rounds = 0;
-    while rounds < least || start.elapsed() < time {
+/// How long to go on: at least so many rounds, until so many in a row brought nothing better, and at
+/// most so many, since a machine with other work to do may never come to rest.
+#[derive(Clone, Copy)]
+pub struct Effort {
+    pub least: u32,
+    pub quiet: u32,
+    pub most: u32,
+}
+
+/// One round, to see that all of it works; its times say nothing.
+pub const ONCE: Effort = Effort { least: 1, quiet: 0, most: 1 };
+
+/// Repeats a round, which says whether it brought something better, until the times are stable.
+pub fn until_stable(effort: Effort, mut round: impl FnMut() -> bool) {
+    let (mut rounds, mut quiet) = (0, 0);
+    while rounds < effort.most && (rounds < effort.least || quiet < effort.quiet) {
         rounds += 1;
-        best.library = best.library.min(sample(contest.library, counts[0]));
-        best.limits = best.limits.min(sample(contest.limits, counts[1]));
-        best.independent = best.independent.min(sample(contest.independent, counts[2]));
+        quiet = if round() { 0 } else { quiet + 1 };
     }
-    best
 }

@@ -111,26 +111,49 @@ impl Room {
         }
     }
 
-    /// Copies the bytes in and gives their address. For no bytes that is a forbidden one.
-    pub fn put(&mut self, bytes: &[u8], flush: Flush) -> *mut u8 {
-        assert!(bytes.len() + WATCHED <= self.size, "a buffer of {} bytes", bytes.len());
-        let (at, watched) = self.layout(bytes.len(), flush);
-        let inside = self.inside();
-        inside[at..at + bytes.len()].copy_from_slice(bytes);
-        inside[watched..watched + WATCHED].fill(WATCH_BYTE);
-        if bytes.is_empty() && flush == Flush::Front {
-            return self.mapping.start;
-        }
-        // SAFETY: at most one past the inside's end, within the mapping.
-        unsafe { self.mapping.start.add(GUARD + at) }
+    /// The bytes of a buffer of this length.
+    pub fn bytes(&mut self, length: usize, flush: Flush) -> &mut [u8] {
+        let (at, _) = self.layout(length, flush);
+        &mut self.inside()[at..at + length]
     }
 
-    /// The bytes as they stand now, and whether the watched ones beside them are unharmed.
+    fn watched(&mut self, length: usize, flush: Flush) -> &mut [u8] {
+        let (_, watched) = self.layout(length, flush);
+        &mut self.inside()[watched..watched + WATCHED]
+    }
+
+    /// Puts the known bytes beside a buffer of this length.
+    pub fn watch(&mut self, length: usize, flush: Flush) {
+        self.watched(length, flush).fill(WATCH_BYTE);
+    }
+
+    /// Whether they are still there.
+    pub fn unharmed(&mut self, length: usize, flush: Flush) -> bool {
+        self.watched(length, flush).iter().all(|byte| *byte == WATCH_BYTE)
+    }
+
+    /// Copies the bytes in and gives their address. For no bytes that is a forbidden one.
+    pub fn put(&mut self, bytes: &[u8], flush: Flush) -> *mut u8 {
+        let length = bytes.len();
+        assert!(length + WATCHED <= self.size, "a buffer of {length} bytes");
+        self.watch(length, flush);
+        let place = self.bytes(length, flush);
+        place.copy_from_slice(bytes);
+        let start = place.as_mut_ptr();
+        match flush {
+            Flush::Front if bytes.is_empty() => self.mapping.start,
+            _ => start,
+        }
+    }
+
+    /// The bytes as they stand now, and whether those beside them are unharmed. Both are cleared, so
+    /// that what lies around the next buffer does not depend on the one before.
     pub fn take(&mut self, length: usize, flush: Flush) -> (Vec<u8>, bool) {
-        let (at, watched) = self.layout(length, flush);
-        let inside = self.inside();
-        let unharmed = inside[watched..watched + WATCHED].iter().all(|byte| *byte == WATCH_BYTE);
-        (inside[at..at + length].to_vec(), unharmed)
+        let unharmed = self.unharmed(length, flush);
+        self.watched(length, flush).fill(0);
+        let bytes = self.bytes(length, flush).to_vec();
+        self.bytes(length, flush).fill(0);
+        (bytes, unharmed)
     }
 }
 
@@ -142,8 +165,10 @@ mod tests {
     fn bytes_come_back_and_harm_beside_them_is_seen() {
         for flush in [Flush::Front, Flush::Back] {
             let mut room = Room::new(1000);
-            let address = room.put(&[1, 2, 3], flush);
+            room.put(&[1, 2, 3], flush);
             assert_eq!(room.take(3, flush), (vec![1, 2, 3], true));
+            assert!(room.inside().iter().all(|byte| *byte == 0));
+            let address = room.put(&[1, 2, 3], flush);
             let beside = match flush {
                 Flush::Front => 3,
                 Flush::Back => -1,

@@ -179,39 +179,10 @@ const EXAMPLES: [Example; 6] = [
 /// P1 to P6 in every call that they say something about, with both forms of a base of zeros.
 fn examples(cases: &mut Vec<Case>) {
     for example in &EXAMPLES {
-        let length = example.payload.len() as i128;
         for base in [Vec::new(), zeros()] {
-            let modified = page(example.changes);
-            cases.push(case(
-                &format!("{} compared, base of {}", example.name, base.len()),
-                compare(base.clone(), modified.clone(), filler(510)),
-                &[0, 1, length, example.entries, example.last],
-                &[put(2, 0, example.payload)],
-            ));
-            cases.push(case(
-                &format!("{} applied, base of {}", example.name, base.len()),
-                apply(base.clone(), example.payload, filler(PAGE)),
-                &[0, example.entries, example.last],
-                &[put(2, 0, &modified)],
-            ));
-            cases.push(case(
-                &format!("{} written, base of {}", example.name, base.len()),
-                write(patch_area(2), full_area(2), 1, base.clone(), modified.clone()),
-                &[0, 1, length],
-                &[put(0, 1024, &patch_slot(example.payload))],
-            ));
-            cases.push(case(
-                &format!("{} read, base of {}", example.name, base.len()),
-                read(
-                    with(patch_area(2), 1024, &patch_slot(example.payload)),
-                    full_area(2),
-                    1,
-                    base,
-                ),
-                &[0, 1],
-                &[put(3, 0, &modified)],
-            ));
+            example_over(cases, example, base);
         }
+        let length = example.payload.len() as i128;
         cases.push(case(
             &format!("{} judged", example.name),
             judge(patch_slot(example.payload)),
@@ -225,6 +196,38 @@ fn examples(cases: &mut Vec<Case>) {
             &[],
         ));
     }
+}
+
+fn example_over(cases: &mut Vec<Case>, example: &Example, base: Vec<u8>) {
+    let Example { name, changes, payload, entries, last } = *example;
+    let length = payload.len() as i128;
+    let modified = page(changes);
+    let name = |what: &str| format!("{name} {what}, base of {}", base.len());
+    cases.push(case(
+        &name("compared"),
+        compare(base.clone(), modified.clone(), filler(510)),
+        &[0, 1, length, entries, last],
+        &[put(2, 0, payload)],
+    ));
+    cases.push(case(
+        &name("applied"),
+        apply(base.clone(), payload, filler(PAGE)),
+        &[0, entries, last],
+        &[put(2, 0, &modified)],
+    ));
+    cases.push(case(
+        &name("written"),
+        write(patch_area(2), full_area(2), 1, base.clone(), modified.clone()),
+        &[0, 1, length],
+        &[put(0, 1024, &patch_slot(payload))],
+    ));
+    let stored = with(patch_area(2), 1024, &patch_slot(payload));
+    cases.push(case(
+        &name("read"),
+        read(stored, full_area(2), 1, base.clone()),
+        &[0, 1],
+        &[put(3, 0, &modified)],
+    ));
 }
 
 /// P7 to P12.
@@ -449,8 +452,8 @@ fn show_cases(cases: &mut Vec<Case>) {
     cases.push(case("an area one byte too long", show(long, 2), &[0, 0], &[]));
 }
 
-/// Lengths of pages and areas, and that they come before everything else.
-fn lengths(cases: &mut Vec<Case>) {
+/// Lengths of pages, and that they come before everything else.
+fn page_lengths(cases: &mut Vec<Case>) {
     for length in [1, 8191, 8193] {
         let odd = vec![1; length];
         let name = |what: &str| format!("{what} of {length} bytes");
@@ -474,7 +477,9 @@ fn lengths(cases: &mut Vec<Case>) {
     cases.push(case("compared page of 0 bytes", compare(zeros(), vec![], filler(504)), &[1], &[]));
     let input = Input::new(Call::Read, vec![patch_area(1), vec![], vec![], vec![]]);
     cases.push(case("read page of 0 bytes", input, &[1], &[]));
+}
 
+fn payload_lengths(cases: &mut Vec<Case>) {
     for payload in [0, 1, 503] {
         let buffer = filler(payload);
         let name = format!("payload buffer of {payload} bytes");
@@ -493,7 +498,10 @@ fn lengths(cases: &mut Vec<Case>) {
         &[0, 252, 251],
         &[put(2, 0, &zeros())],
     ));
+}
 
+/// Lengths of areas, and that they come before headers and blocks.
+fn area_lengths(cases: &mut Vec<Case>) {
     for patch in [0, 1, 511, 513, 1023, 1025] {
         let areas = [("absent", vec![]), ("present", full_area(0))];
         for (form, full) in areas {
@@ -515,7 +523,9 @@ fn lengths(cases: &mut Vec<Case>) {
         cases.push(case(&name, read(patch.clone(), area.clone(), 0, vec![]), &[2], &[]));
         cases.push(case(&name, write(patch, area, 0, vec![], zeros()), &[2], &[]));
     }
+}
 
+fn formats(cases: &mut Vec<Case>) {
     let formatted = |n, m| [put(0, 0, &patch_area(n)), put(1, 0, &full_area(m))];
     cases.push(case(
         "two blocks, one page",
@@ -537,43 +547,61 @@ fn lengths(cases: &mut Vec<Case>) {
     ));
 }
 
-/// Reading and writing, and the shortcuts that give a wrong page.
-fn reading_and_writing(cases: &mut Vec<Case>) {
-    let base = vec![0x42; PAGE];
-    let stored = vec![0x99; PAGE];
-    let full_ref = || with(patch_area(2), 1024, &slot(&[2]));
-    let full = || with(full_area(2), 12_288, &stored);
+// Two blocks: EMPTY and FULL_REF, or both EMPTY over a full area with a page for block 1.
 
-    let input = read(patch_area(2), full(), 1, base.clone());
-    cases.push(case(
-        "EMPTY reads as its base, stray page or not",
-        input,
-        &[0, 0],
-        &[put(3, 0, &base)],
-    ));
+fn full_ref() -> Vec<u8> {
+    with(patch_area(2), 1024, &slot(&[2]))
+}
+
+fn stored() -> Vec<u8> {
+    vec![0x99; PAGE]
+}
+
+fn full() -> Vec<u8> {
+    with(full_area(2), 12_288, &stored())
+}
+
+fn a_base() -> Vec<u8> {
+    vec![0x42; PAGE]
+}
+
+/// The slot of block 0 is not sound.
+fn broken_neighbour() -> Vec<u8> {
+    with(full_ref(), 512, &slot(&[7, 7]))
+}
+
+fn reading(cases: &mut Vec<Case>) {
+    let input = read(patch_area(2), full(), 1, a_base());
+    let name = "EMPTY reads as its base, stray page or not";
+    cases.push(case(name, input, &[0, 0], &[put(3, 0, &a_base())]));
     let input = read(patch_area(2), vec![], 1, vec![]);
     cases.push(case("EMPTY over no base reads as zeros", input, &[0, 0], &[put(3, 0, &zeros())]));
-    let input = read(full_ref(), full(), 1, base.clone());
-    cases.push(case("FULL_REF reads as its page", input, &[0, 2], &[put(3, 0, &stored)]));
+    let input = read(full_ref(), full(), 1, a_base());
+    cases.push(case("FULL_REF reads as its page", input, &[0, 2], &[put(3, 0, &stored())]));
     for missing in [vec![], full_area(0), full_area(1)] {
         let name = format!("FULL_REF with a full area of {}", missing.len());
         cases.push(case(&name, read(full_ref(), missing.clone(), 1, vec![]), &[8], &[]));
         cases.push(case(&name, build(full_ref(), missing, filler(1)), &[8, 1], &[]));
     }
-    let broken_neighbour = with(full_ref(), 512, &slot(&[7, 7]));
-    let input = read(broken_neighbour.clone(), full(), 1, vec![]);
-    cases.push(case("a broken neighbour does not matter", input, &[0, 2], &[put(3, 0, &stored)]));
-    let input = read(broken_neighbour.clone(), full(), 0, vec![]);
+}
+
+/// A block that is not there, and one whose neighbour is broken.
+fn other_blocks(cases: &mut Vec<Case>) {
+    let input = read(broken_neighbour(), full(), 1, vec![]);
+    cases.push(case("a broken neighbour does not matter", input, &[0, 2], &[put(3, 0, &stored())]));
+    let input = read(broken_neighbour(), full(), 0, vec![]);
     cases.push(case("a broken slot does", input, &[6], &[]));
-    let input = read(full_ref(), full(), 2, vec![]);
-    cases.push(case("block n", input, &[5], &[]));
+    cases.push(case("block n", read(full_ref(), full(), 2, vec![]), &[5], &[]));
     for block in [1 << 55, 1 << 51, u64::MAX, u64::MAX - 511] {
         let input = read(full_ref(), full(), block, vec![]);
         cases.push(case(&format!("block {block} read"), input, &[5], &[]));
         let input = write(full_ref(), full(), block, vec![], vec![1; PAGE]);
         cases.push(case(&format!("block {block} written"), input, &[5], &[]));
     }
+}
 
+/// Where the shortcuts that give a wrong page would show.
+fn shortcuts(cases: &mut Vec<Case>) {
     // The second small change keeps the first: both are compared with the base.
     let first = with(patch_area(1), 512, &patch_slot(&[0, 7]));
     cases.push(case(
@@ -591,30 +619,27 @@ fn reading_and_writing(cases: &mut Vec<Case>) {
     ));
     cases.push(case(
         "the base's page clears a stray page",
-        write(patch_area(2), full(), 1, base.clone(), base.clone()),
+        write(patch_area(2), full(), 1, a_base(), a_base()),
         &[0, 0, 0],
         &[put(1, 12_288, &zeros())],
     ));
     // A shorter payload leaves no tail of a longer one.
+    let long = with(patch_area(1), 512, &patch_slot(&[1; PAYLOAD]));
     cases.push(case(
         "a short patch over a long one",
-        write(
-            with(patch_area(1), 512, &patch_slot(&[1; PAYLOAD])),
-            vec![],
-            0,
-            vec![],
-            page(&[(0, 7)]),
-        ),
+        write(long, vec![], 0, vec![], page(&[(0, 7)])),
         &[0, 1, 2],
         &[put(0, 512, &patch_slot(&[0, 7]))],
     ));
     // A broken last entry leaves the page alone.
-    let input = apply(base.clone(), &[0, 1, 0, 2, 0], filler(PAGE));
+    let input = apply(a_base(), &[0, 1, 0, 2, 0], filler(PAGE));
     cases.push(case("a broken last entry", input, &[7], &[]));
+}
 
+fn writing(cases: &mut Vec<Case>) {
     cases.push(case(
         "an unsound old slot is written over",
-        write(broken_neighbour, full(), 0, vec![], vec![6; PAGE]),
+        write(broken_neighbour(), full(), 0, vec![], vec![6; PAGE]),
         &[0, 2, 16_384],
         &[put(0, 512, &slot(&[2])), put(1, 4096, &[6; PAGE])],
     ));
@@ -626,7 +651,7 @@ fn reading_and_writing(cases: &mut Vec<Case>) {
     ));
     cases.push(case(
         "back to the base",
-        write(full_ref(), full(), 1, base.clone(), base.clone()),
+        write(full_ref(), full(), 1, a_base(), a_base()),
         &[0, 0, 0],
         &[put(0, 1024, &slot(&[])), put(1, 12_288, &zeros())],
     ));
@@ -638,8 +663,8 @@ fn reading_and_writing(cases: &mut Vec<Case>) {
     ));
 }
 
-/// Block maps: what Build makes and refuses, Look up and Tally.
-fn maps(cases: &mut Vec<Case>) {
+/// What Build makes and refuses.
+fn built_maps(cases: &mut Vec<Case>) {
     let patch = with(patch_area(5), 1024, &patch_slot(&[0, 7]));
     let patch = with(patch, 512 + 512 * 4, &slot(&[2]));
     let full = with(full_area(5), 4096 + 8192 * 4, &[1; 100]);
@@ -660,8 +685,10 @@ fn maps(cases: &mut Vec<Case>) {
     let stray = with(full.clone(), 4096 + 8192, &[1]);
     let input = build(patch.clone(), stray, filler(2));
     cases.push(case("a stray byte under a patch", input, &[10, 1], &[]));
+}
 
-    // The first block at fault decides, then 6, 8, 7, 10 within it.
+/// The first block at fault decides, then 6, 8, 7, 10 within it.
+fn first_faults(cases: &mut Vec<Case>) {
     let bad_slot_1 = with(patch_area(2), 1024, &slot(&[3]));
     let stray_0 = with(full_area(2), 4096, &[1]);
     let stray_1 = with(full_area(2), 12_288, &[1]);
@@ -675,7 +702,9 @@ fn maps(cases: &mut Vec<Case>) {
     let missing_0 = with(bad_payload_1, 512, &slot(&[2]));
     let input = build(missing_0, vec![], filler(1));
     cases.push(case("8 at block 0 before 7 at block 1", input, &[8, 0], &[]));
+}
 
+fn look_ups(cases: &mut Vec<Case>) {
     let map = [0b1110_0100]; // pairs 0, 1, 2, 3
     for (block, answer) in [(0, [0, 0]), (1, [0, 1]), (2, [0, 2]), (3, [11, 0]), (4, [5, 0])] {
         cases.push(case(&format!("pair {block}"), look_up(&map, 4, block), &answer, &[]));
@@ -688,7 +717,9 @@ fn maps(cases: &mut Vec<Case>) {
     cases.push(case("n of 2^64 - 1", look_up(&[], u64::MAX, 0), &[2], &[]));
     cases.push(case("n = 0", look_up(&[], 0, 0), &[5], &[]));
     cases.push(case("n = 131,072", look_up(&[0x55; 32_768], 131_072, 131_071), &[0, 1], &[]));
+}
 
+fn tallies(cases: &mut Vec<Case>) {
     // The table's entries: PATCH pairs plus 8 times full pairs.
     let entries: [(u8, i128); 5] = [(0x00, 0), (0x09, 9), (0xAA, 4), (0x55, 32), (0x03, 255)];
     for (byte, entry) in entries {
@@ -746,9 +777,18 @@ pub fn all() -> Vec<Case> {
     slots(&mut cases);
     headers(&mut cases);
     show_cases(&mut cases);
-    lengths(&mut cases);
-    reading_and_writing(&mut cases);
-    maps(&mut cases);
+    page_lengths(&mut cases);
+    payload_lengths(&mut cases);
+    area_lengths(&mut cases);
+    formats(&mut cases);
+    reading(&mut cases);
+    other_blocks(&mut cases);
+    shortcuts(&mut cases);
+    writing(&mut cases);
+    built_maps(&mut cases);
+    first_faults(&mut cases);
+    look_ups(&mut cases);
+    tallies(&mut cases);
     orders(&mut cases);
     cases
 }

@@ -40,7 +40,7 @@ extern "C" fn crashed(_: c_int) {
     for (byte, kept) in text.iter_mut().zip(&TEXT) {
         *byte = kept.load(Ordering::Relaxed);
     }
-    say(b"\nCRASH  a call touched memory that it was not lent\n  replay: ");
+    say(b"\nCRASH  a call touched memory that it was not lent\n  replay, in rust/: ");
     say(&text[..LENGTH.load(Ordering::Relaxed)]);
     say(b" --trace\n");
     // SAFETY: ends the process at once.

@@ -109,7 +109,7 @@ fn push_entry(rng: &mut Rng, payload: &mut Vec<u8>, jump: usize) {
 }
 
 /// A payload of whole entries that stay in the page, at most `most` bytes.
-pub fn sound_payload(rng: &mut Rng, most: usize) -> Vec<u8> {
+fn sound_payload(rng: &mut Rng, most: usize) -> Vec<u8> {
     let habit = rng.below(7);
     let target = if rng.chance(50) { most } else { rng.between(1, most) };
     let mut payload = Vec::new();
@@ -129,8 +129,26 @@ pub fn sound_payload(rng: &mut Rng, most: usize) -> Vec<u8> {
     payload
 }
 
+/// Two entries, the second on the page's last byte or one past it.
+fn to_the_end(rng: &mut Rng) -> Vec<u8> {
+    let mut bytes = Vec::new();
+    let first = rng.below(PAGE - 1);
+    push_entry(rng, &mut bytes, first);
+    let room = PAGE - 1 - (first + 1);
+    let jump = room + rng.below(2);
+    push_entry(rng, &mut bytes, jump);
+    bytes
+}
+
+/// One entry with a long jump that just stays in the page or leaves it.
+fn far_jump(rng: &mut Rng) -> Vec<u8> {
+    let jump: u16 = rng.pick(&[8190, 8191, 8192, 8193, 65535, 32767, 32768]);
+    let [low, high] = jump.to_le_bytes();
+    vec![255, low, high, rng.byte()]
+}
+
 /// A payload that may be anything: sound, cut off, one entry too far, too long, empty, noise.
-pub fn payload(rng: &mut Rng) -> Vec<u8> {
+fn payload(rng: &mut Rng) -> Vec<u8> {
     match rng.below(12) {
         0 => Vec::new(),
         1 => {
@@ -147,23 +165,8 @@ pub fn payload(rng: &mut Rng) -> Vec<u8> {
             bytes.truncate(bytes.len().saturating_sub(rng.between(1, 3)));
             bytes
         }
-        4 => {
-            // To the last byte or one past it.
-            let mut bytes = Vec::new();
-            let first = rng.below(PAGE - 1);
-            push_entry(rng, &mut bytes, first);
-            let room = PAGE - 1 - (first + 1);
-            let jump = room + rng.below(2);
-            push_entry(rng, &mut bytes, jump);
-            bytes
-        }
-        5 => {
-            let jump = rng.pick(&[8190, 8191, 8192, 8193, 65535, 32767, 32768]);
-            let mut bytes = vec![255];
-            bytes.extend_from_slice(&(jump as u16).to_le_bytes());
-            bytes.push(rng.byte());
-            bytes
-        }
+        4 => to_the_end(rng),
+        5 => far_jump(rng),
         6 => {
             // Sound entries, more than 504 bytes.
             let entries = rng.between(250, 300);
@@ -275,18 +278,22 @@ impl Areas {
 }
 
 /// n and m of a small store; every relation of both, and both forms of m = 0.
-pub fn sizes(rng: &mut Rng) -> (usize, Option<usize>) {
+fn sizes(rng: &mut Rng) -> (usize, Option<usize>) {
     let n = if rng.chance(5) { rng.between(7, 20) } else { rng.below(7) };
-    let m = match rng.below(4) {
+    (n, pages(rng, n))
+}
+
+/// The number of pages beside n blocks: no full area, as many, fewer.
+pub fn pages(rng: &mut Rng, n: usize) -> Option<usize> {
+    match rng.below(4) {
         0 => None,
         1 => Some(n),
         _ => Some(rng.between(0, n)),
-    };
-    (n, m)
+    }
 }
 
 /// A store as other programs may have left it, without damage yet.
-pub fn areas(rng: &mut Rng) -> Areas {
+fn areas(rng: &mut Rng) -> Areas {
     let (n, m) = sizes(rng);
     let mut areas = Areas::fresh(n, m);
     for block in 0..n {
@@ -556,7 +563,7 @@ fn tally_input(rng: &mut Rng) -> Input {
 }
 
 /// A random input for a call.
-pub fn input(rng: &mut Rng, call: Call) -> Input {
+fn input(rng: &mut Rng, call: Call) -> Input {
     match call {
         Call::Format => format_input(rng),
         Call::Compare => compare_input(rng),

@@ -4,7 +4,7 @@ use std::fmt;
 
 use crate::arena::{Flush, Room};
 use crate::call::{Answer, Call, Input, Outcome};
-use crate::sides::{self, Lent};
+use crate::sides::{self, Lent, SafeSide};
 
 /// More than any buffer of a generated input.
 const ROOM_SIZE: usize = 1 << 20;
@@ -46,8 +46,9 @@ impl Counts {
         }
     }
 
-    pub fn of(&self, call: Call, number: usize) -> u64 {
-        self.by_number[call as usize][number]
+    pub fn add_all(&mut self, other: &Counts) {
+        let counts = self.by_number.iter_mut().flatten();
+        counts.zip(other.by_number.iter().flatten()).for_each(|(count, more)| *count += more);
     }
 
     pub fn total(&self) -> u64 {
@@ -60,7 +61,7 @@ impl Counts {
         for call in Call::ALL {
             let numbers = if call == Call::Show { &[0, 1][..] } else { call.numbers() };
             for number in numbers {
-                if self.of(call, *number) == 0 {
+                if self.by_number[call as usize][*number] == 0 {
                     unseen.push((call, *number));
                 }
             }
@@ -106,10 +107,7 @@ pub fn wrapper_outcome(input: &Input) -> Outcome {
     outcome_on_copies(input, sides::wrapper)
 }
 
-fn outcome_on_copies(
-    input: &Input,
-    side: fn(Call, &mut [&mut [u8]], u64, u64) -> Answer,
-) -> Outcome {
+fn outcome_on_copies(input: &Input, side: SafeSide) -> Outcome {
     let mut buffers = input.buffers.clone();
     let mut slices: Vec<&mut [u8]> = buffers.iter_mut().map(Vec::as_mut_slice).collect();
     let answer = side(input.call, &mut slices, input.n, input.block);
@@ -118,17 +116,20 @@ fn outcome_on_copies(
 
 /// How a turn lends its buffers: at which end they touch forbidden memory, and what stands for the
 /// address of a buffer without bytes.
-#[derive(Clone, Copy)]
+#[derive(Clone, Copy, Debug)]
 struct Manner {
     flush: Flush,
     null: bool,
 }
 
+/// After so many turns the manners come again.
+const MANNERS: u64 = 4;
+
 impl Manner {
     fn of_turn(turn: u64) -> Manner {
         Manner {
             flush: if turn % 2 == 0 { Flush::Back } else { Flush::Front },
-            null: turn / 2 % 2 == 0,
+            null: turn % MANNERS / 2 == 0,
         }
     }
 }
@@ -166,13 +167,13 @@ impl Harness {
 
     /// How buffers are lent depends on the turn; a replayed case starts from the same one.
     pub fn start_case(&mut self, case: u64) {
-        self.turn = case;
+        self.turn = case % MANNERS;
     }
 
     /// Gives the input to all sides. Their common outcome, or the first disagreement.
     pub fn check(&mut self, input: &Input) -> Result<Outcome, Mismatch> {
         if self.trace {
-            println!("{input}");
+            println!("{input} {:?}", Manner::of_turn(self.turn));
         }
         let expected = (self.expected)(input);
         if let Some(program) = self.in_place_of_library {
@@ -184,39 +185,53 @@ impl Harness {
         if let Some(found) = forbidden_by_refusal(input, &expected) {
             return Err(Mismatch { side: "rule of refusals", input: input.to_string(), found });
         }
-        self.counts.add(input.call, &expected.answer);
-        self.turn += 1;
+        self.count(input.call, &expected.answer);
         Ok(expected)
+    }
+
+    /// All sides agreed about this call; the next one lends its buffers in another manner.
+    pub fn count(&mut self, call: Call, answer: &Answer) {
+        self.counts.add(call, answer);
+        self.turn += 1;
     }
 
     /// The library over the C interface, on guarded copies of the input's buffers.
     pub fn library_outcome(&mut self, input: &Input) -> Result<Outcome, String> {
-        let manner = Manner::of_turn(self.turn);
-        let lent: Vec<Lent> = self
-            .rooms
-            .iter_mut()
-            .zip(&input.buffers)
-            .map(|(room, bytes)| {
-                let start = room.put(bytes, manner.flush);
-                let absent = bytes.is_empty() && manner.null;
-                Lent {
-                    start: if absent { std::ptr::null_mut() } else { start },
-                    length: bytes.len(),
-                }
-            })
-            .collect();
-        // SAFETY: every buffer has a room of its own, and `put` gave the start of its bytes.
+        let lent = self.lend(&input.buffers);
+        // SAFETY: every buffer has a room of its own.
         let answer = unsafe { sides::library(input.call, &lent, input.n, input.block) };
+        let buffers = self.take_back(&lent).map_err(|index| {
+            let name = input.call.buffers()[index];
+            format!("bytes beside buffer {name} were changed")
+        })?;
+        Ok(Outcome { answer, buffers })
+    }
+
+    /// Puts copies of the buffers into rooms of their own, to be lent in this turn's manner.
+    pub fn lend(&mut self, buffers: &[Vec<u8>]) -> Vec<Lent> {
+        assert!(buffers.len() <= self.rooms.len());
+        let manner = Manner::of_turn(self.turn);
+        let lend = |(room, bytes): (&mut Room, &Vec<u8>)| {
+            let place = room.put(bytes, manner.flush);
+            let absent = bytes.is_empty() && manner.null;
+            let start = if absent { std::ptr::null_mut() } else { place };
+            Lent { start, length: bytes.len() }
+        };
+        self.rooms.iter_mut().zip(buffers).map(lend).collect()
+    }
+
+    /// The lent buffers after the call, or the index of one with harm beside it.
+    pub fn take_back(&mut self, lent: &[Lent]) -> Result<Vec<Vec<u8>>, usize> {
+        let manner = Manner::of_turn(self.turn);
         let mut buffers = Vec::new();
-        for (index, bytes) in input.buffers.iter().enumerate() {
-            let (after, unharmed) = self.rooms[index].take(bytes.len(), manner.flush);
+        for (index, (room, lent)) in self.rooms.iter_mut().zip(lent).enumerate() {
+            let (after, unharmed) = room.take(lent.length, manner.flush);
             if !unharmed {
-                let name = input.call.buffers()[index];
-                return Err(format!("bytes beside buffer {name} were changed"));
+                return Err(index);
             }
             buffers.push(after);
         }
-        Ok(Outcome { answer, buffers })
+        Ok(buffers)
     }
 }
 

@@ -1,17 +1,18 @@
 //! The largest areas: 131,072 blocks without a full area, and with one of the same number of pages.
 //!
-//! The areas lie in mappings that take no room where nothing was written, one of each for the library
-//! and for the independent implementation. After every call both are compared from end to end.
+//! The areas lie in mappings that take no room where nothing was written, one of each for every side,
+//! and flush with forbidden memory at their end. After every call all of them are compared from end
+//! to end.
 
 use std::fs;
 
-use crate::arena::Mapping;
+use crate::arena::{Flush, Room};
 use crate::call::{
     first_difference, Answer, Call, Input, FULL_HEADER, MAX_BLOCKS, PAGE, PATCH_HEADER, SLOT,
 };
 use crate::generate::Areas;
 use crate::harness::{Harness, Mismatch};
-use crate::sides::{self, Lent};
+use crate::sides::{self, Lent, SafeSide};
 
 const LAST: u64 = MAX_BLOCKS as u64 - 1;
 const MAP: usize = MAX_BLOCKS / 4;
@@ -24,47 +25,105 @@ const fn full_len(m: usize) -> usize {
     FULL_HEADER + PAGE * m
 }
 
-/// The library's and the independent implementation's areas, each with room for one block too many.
+/// One area of one side.
+struct Area {
+    room: Room,
+    length: usize,
+}
+
+impl Area {
+    fn new(length: usize) -> Area {
+        let mut room = Room::new(length);
+        room.watch(length, Flush::Back);
+        Area { room, length }
+    }
+
+    fn bytes(&mut self) -> &mut [u8] {
+        self.room.bytes(self.length, Flush::Back)
+    }
+
+    fn difference(&mut self, other: &mut Area) -> Option<String> {
+        if !self.room.unharmed(self.length, Flush::Back) {
+            return Some("bytes before it were changed".to_string());
+        }
+        first_difference(self.bytes(), other.bytes())
+    }
+}
+
+/// Both areas of one side.
+struct Store {
+    patch: Area,
+    full: Area,
+}
+
+impl Store {
+    fn lent(&mut self, call: Call) -> Vec<&mut [u8]> {
+        match call {
+            Call::Show => vec![self.patch.bytes()],
+            _ => vec![self.patch.bytes(), self.full.bytes()],
+        }
+    }
+
+    fn difference(&mut self, other: &mut Store) -> Option<String> {
+        let patch = self.patch.difference(&mut other.patch);
+        let full = self.full.difference(&mut other.full);
+        patch
+            .map(|found| format!("patch area: {found}"))
+            .or_else(|| full.map(|found| format!("full area: {found}")))
+    }
+}
+
+/// What came of a call besides the areas: its answer and the pages or the map that it was lent.
+type Came = (Answer, Vec<Vec<u8>>);
+
+/// The same areas for each side.
 struct Stores<'h> {
     harness: &'h mut Harness,
-    patch: [Mapping; 2],
-    full: [Mapping; 2],
-    /// The lengths lent, which are at most those of the mappings.
-    patch_len: usize,
-    full_len: usize,
+    library: Store,
+    wrapper: Store,
+    independent: Store,
 }
 
 impl<'h> Stores<'h> {
-    fn new(harness: &'h mut Harness) -> Stores<'h> {
-        let patch = || Mapping::new(patch_len(MAX_BLOCKS + 1));
-        let full = || Mapping::new(full_len(MAX_BLOCKS + 1));
-        Stores {
-            harness,
-            patch: [patch(), patch()],
-            full: [full(), full()],
-            patch_len: patch_len(MAX_BLOCKS),
-            full_len: 0,
-        }
-    }
-
-    /// Puts both headers in place; everything else in a new mapping is zero as it should be.
-    fn put_headers(&mut self) {
-        let small = Areas::fresh(0, Some(0));
-        for side in 0..2 {
-            self.patch[side].bytes()[..PATCH_HEADER].copy_from_slice(&small.patch);
-            self.full[side].bytes()[..FULL_HEADER].copy_from_slice(&small.full);
-        }
+    /// Areas of these sizes with sound headers; all else in a new mapping is zero as it should be.
+    fn new(harness: &'h mut Harness, n: usize, m: Option<usize>) -> Stores<'h> {
+        let headers = Areas::fresh(0, m.map(|_| 0));
+        let store = || {
+            let full = Area::new(m.map_or(0, full_len));
+            let mut store = Store { patch: Area::new(patch_len(n)), full };
+            store.patch.bytes()[..PATCH_HEADER].copy_from_slice(&headers.patch);
+            store.full.bytes()[..headers.full.len()].copy_from_slice(&headers.full);
+            store
+        };
+        Stores { harness, library: store(), wrapper: store(), independent: store() }
     }
 
     fn poke_patch(&mut self, at: usize, byte: u8) {
-        self.patch.iter_mut().for_each(|mapping| mapping.bytes()[at] = byte);
+        for store in [&mut self.library, &mut self.wrapper, &mut self.independent] {
+            store.patch.bytes()[at] = byte;
+        }
     }
 
     fn poke_full(&mut self, at: usize, byte: u8) {
-        self.full.iter_mut().for_each(|mapping| mapping.bytes()[at] = byte);
+        for store in [&mut self.library, &mut self.wrapper, &mut self.independent] {
+            store.full.bytes()[at] = byte;
+        }
     }
 
-    /// Makes the call on both sides and compares answers and every byte.
+    /// The call over the C interface, its other buffers in the rooms of the harness.
+    fn on_library(&mut self, call: Call, block: u64, small: &[Vec<u8>]) -> Result<Came, String> {
+        let others = self.harness.lend(small);
+        let mut lent: Vec<Lent> = self.library.lent(call).into_iter().map(Lent::of).collect();
+        lent.extend(&others);
+        // SAFETY: every buffer has a room of its own.
+        let answer = unsafe { sides::library(call, &lent, 0, block) };
+        match self.harness.take_back(&others) {
+            Ok(after) => Ok((answer, after)),
+            Err(_) => Err("bytes beside a page or map were changed".to_string()),
+        }
+    }
+
+    /// Makes the call on all sides and compares answers and every byte.
     fn check(
         &mut self,
         call: Call,
@@ -72,56 +131,29 @@ impl<'h> Stores<'h> {
         small: &[Vec<u8>],
         expected: &[i128],
     ) -> Result<(), Mismatch> {
-        let mut answers = Vec::new();
-        let mut after = Vec::new();
-        for side in 0..2 {
-            let mut small = small.to_vec();
-            let patch = &mut self.patch[side].bytes()[..self.patch_len];
-            let full = &mut self.full[side].bytes()[..self.full_len];
-            let mut lent: Vec<&mut [u8]> = match call {
-                Call::Show => vec![patch],
-                _ => vec![patch, full],
-            };
-            lent.extend(small.iter_mut().map(Vec::as_mut_slice));
-            answers.push(if side == 0 {
-                let lent: Vec<Lent> = lent.into_iter().map(Lent::of).collect();
-                // SAFETY: mappings and vectors of their own, borrowed until the call is over.
-                unsafe { sides::library(call, &lent, 0, block) }
-            } else {
-                sides::independent(call, &mut lent, 0, block)
+        let [patch, full] = [self.library.patch.length, self.library.full.length];
+        let name = call.name();
+        let input = format!("{name} of block {block}, areas of {patch} and {full} bytes");
+        if self.harness.trace {
+            println!("{input}");
+        }
+        let library = self.on_library(call, block, small);
+        let wrapper = on_store(sides::wrapper, &mut self.wrapper, call, block, small);
+        let came = on_store(sides::independent, &mut self.independent, call, block, small);
+        let model = &mut self.independent;
+        let found = hold("C interface", library, &mut self.library, &came, model)
+            .or_else(|| hold("Rust wrapper", Ok(wrapper), &mut self.wrapper, &came, model))
+            .or_else(|| {
+                let expected = Answer::of(expected);
+                (came.0 != expected).then(|| ("by hand", other_answer(&came.0, &expected)))
             });
-            after.push(small);
+        match found {
+            Some((side, found)) => Err(Mismatch { side, input, found }),
+            None => {
+                self.harness.count(call, &came.0);
+                Ok(())
+            }
         }
-        let found = if answers[0] != answers[1] {
-            Some(format!("answer {:?}, expected {:?}", answers[0].0, answers[1].0))
-        } else if answers[0] != Answer::of(expected) {
-            Some(format!("answer {:?}, by hand {expected:?}", answers[0].0))
-        } else if after[0] != after[1] {
-            Some("a page or map differs".to_string())
-        } else {
-            self.difference()
-        };
-        if let Some(found) = found {
-            let what = format!(
-                "{} of block {block}, patch area of {} bytes, full area of {}",
-                call.name(),
-                self.patch_len,
-                self.full_len
-            );
-            return Err(Mismatch { side: "largest areas", input: what, found });
-        }
-        self.harness.counts.add(call, &answers[0]);
-        Ok(())
-    }
-
-    fn difference(&mut self) -> Option<String> {
-        let [library, independent] = &mut self.patch;
-        let patch = first_difference(library.bytes(), independent.bytes());
-        let [library, independent] = &mut self.full;
-        let full = first_difference(library.bytes(), independent.bytes());
-        patch
-            .map(|found| format!("patch area: {found}"))
-            .or_else(|| full.map(|found| format!("full area: {found}")))
     }
 
     fn write(&mut self, block: u64, page: &[u8], expected: &[i128]) -> Result<(), Mismatch> {
@@ -137,6 +169,34 @@ impl<'h> Stores<'h> {
     }
 }
 
+fn on_store(side: SafeSide, store: &mut Store, call: Call, block: u64, small: &[Vec<u8>]) -> Came {
+    let mut after = small.to_vec();
+    let mut lent = store.lent(call);
+    lent.extend(after.iter_mut().map(Vec::as_mut_slice));
+    (side(call, &mut lent, 0, block), after)
+}
+
+fn other_answer(got: &Answer, want: &Answer) -> String {
+    format!("answer {:?}, expected {:?}", got.0, want.0)
+}
+
+/// What came of a call on one side, held to the independent implementation. Says what differs.
+fn hold(
+    side: &'static str,
+    came: Result<Came, String>,
+    store: &mut Store,
+    want: &Came,
+    model: &mut Store,
+) -> Option<(&'static str, String)> {
+    let found = match came {
+        Err(harm) => Some(harm),
+        Ok((answer, _)) if answer != want.0 => Some(other_answer(&answer, &want.0)),
+        Ok((_, small)) if small != want.1 => Some("a page or map differs".to_string()),
+        Ok(_) => store.difference(model),
+    };
+    found.map(|found| (side, found))
+}
+
 fn small_change() -> Vec<u8> {
     let mut page = vec![0; PAGE];
     page[PAGE - 1] = 1;
@@ -144,10 +204,8 @@ fn small_change() -> Vec<u8> {
 }
 
 /// n = 131,072 and no full area.
-fn without_full_area(stores: &mut Stores) -> Result<(), Mismatch> {
-    let patch_only = patch_len(MAX_BLOCKS);
-    stores.patch_len = patch_only;
-    stores.full_len = 0;
+fn without_full_area(harness: &mut Harness) -> Result<(), Mismatch> {
+    let mut stores = Stores::new(harness, MAX_BLOCKS, None);
     stores.check(Call::Format, 0, &[], &[0])?;
     stores.write(0, &small_change(), &[0, 1, 4])?;
     stores.write(LAST, &small_change(), &[0, 1, 4])?;
@@ -163,26 +221,25 @@ fn without_full_area(stores: &mut Stores) -> Result<(), Mismatch> {
     stores.build(&[0])?;
     stores.check(Call::Build, 0, &[vec![0xAB; MAP - 1]], &[9])?;
 
-    stores.poke_patch(patch_only - 1, 1);
+    stores.poke_patch(patch_len(MAX_BLOCKS) - 1, 1);
     stores.build(&[6, i128::from(LAST)])?;
     stores.read(LAST, &[6])?;
     stores.write(LAST, &[0; PAGE], &[0, 0, 0])?;
-    stores.build(&[0])?;
+    stores.build(&[0])
+}
 
-    // One block too many.
-    stores.patch_len = patch_len(MAX_BLOCKS + 1);
+fn one_block_too_many(harness: &mut Harness) -> Result<(), Mismatch> {
+    let mut stores = Stores::new(harness, MAX_BLOCKS + 1, None);
     stores.check(Call::Format, 0, &[], &[2])?;
     stores.write(0, &small_change(), &[2])?;
     stores.read(0, &[2])?;
     stores.check(Call::Show, 0, &[], &[0, 0])?;
-    stores.check(Call::Build, 0, &[vec![0xAB; MAP + 1]], &[2])
+    stores.build(&[2])
 }
 
 /// n = m = 131,072.
-fn with_full_area(stores: &mut Stores) -> Result<(), Mismatch> {
-    stores.patch_len = patch_len(MAX_BLOCKS);
-    stores.full_len = full_len(MAX_BLOCKS);
-    stores.put_headers();
+fn with_full_area(harness: &mut Harness) -> Result<(), Mismatch> {
+    let mut stores = Stores::new(harness, MAX_BLOCKS, Some(MAX_BLOCKS));
     stores.write(LAST, &[9; PAGE], &[0, 2, 16_384])?;
     stores.write(0, &[8; PAGE], &[0, 2, 16_384])?;
     stores.write(65_536, &small_change(), &[0, 1, 4])?;
@@ -193,24 +250,30 @@ fn with_full_area(stores: &mut Stores) -> Result<(), Mismatch> {
     stores.poke_full(full_len(MAX_BLOCKS - 1) - 1, 5);
     stores.build(&[10, i128::from(LAST - 1)])?;
     stores.write(LAST - 1, &[0; PAGE], &[0, 0, 0])?;
-    stores.build(&[0])?;
+    stores.build(&[0])
+}
 
-    // One page fewer: the last block's page is missing.
-    stores.full_len = full_len(MAX_BLOCKS - 1);
+/// The last block refers to a page that the full area does not have.
+fn one_page_fewer(harness: &mut Harness) -> Result<(), Mismatch> {
+    let mut stores = Stores::new(harness, MAX_BLOCKS, Some(MAX_BLOCKS - 1));
+    stores.poke_patch(patch_len(MAX_BLOCKS - 1), 2);
     stores.read(LAST, &[8])?;
-    stores.build(&[8, i128::from(LAST)])?;
+    stores.build(&[8, i128::from(LAST)])
+}
 
-    // More pages than blocks.
-    stores.full_len = full_len(MAX_BLOCKS + 1);
+fn more_pages_than_blocks(harness: &mut Harness) -> Result<(), Mismatch> {
+    let mut stores = Stores::new(harness, MAX_BLOCKS, Some(MAX_BLOCKS + 1));
     stores.read(0, &[2])?;
     stores.build(&[2])
 }
 
 /// All of it except Format of a full area of 1 GiB.
 pub fn check(harness: &mut Harness) -> Result<(), Mismatch> {
-    let mut stores = Stores::new(harness);
-    without_full_area(&mut stores)?;
-    with_full_area(&mut stores)?;
+    without_full_area(harness)?;
+    one_block_too_many(harness)?;
+    with_full_area(harness)?;
+    one_page_fewer(harness)?;
+    more_pages_than_blocks(harness)?;
     largest_maps(harness)
 }
 
@@ -223,11 +286,8 @@ fn largest_maps(harness: &mut Harness) -> Result<(), Mismatch> {
     let answer = harness.check(&input)?.answer;
     let expected = Answer::of(&[0, 131_071, 1]);
     if answer != expected {
-        return Err(Mismatch {
-            side: "largest maps",
-            input: input.to_string(),
-            found: format!("answer {:?}, by hand {:?}", answer.0, expected.0),
-        });
+        let found = other_answer(&answer, &expected);
+        return Err(Mismatch { side: "by hand", input: input.to_string(), found });
     }
     for block in [0, 1, n - 2, n - 1, n] {
         harness.check(&Input::new(Call::LookUp, vec![map.clone()]).told(n).at_block(block))?;
@@ -238,15 +298,14 @@ fn largest_maps(harness: &mut Harness) -> Result<(), Mismatch> {
 
 /// Format of the largest areas, which fills 1 GiB on each side. Says why if there is no room.
 pub fn check_format(harness: &mut Harness) -> Result<Option<String>, Mismatch> {
-    const NEEDED_KIB: u64 = 4 << 20;
+    const NEEDED_KIB: u64 = 5 << 20;
     match available_kib() {
         Some(kib) if kib >= NEEDED_KIB => {}
         found => {
             return Ok(Some(format!("{found:?} KiB of memory available, {NEEDED_KIB} needed")))
         }
     }
-    let mut stores = Stores::new(harness);
-    stores.full_len = full_len(MAX_BLOCKS);
+    let mut stores = Stores::new(harness, MAX_BLOCKS, Some(MAX_BLOCKS));
     stores.poke_patch(patch_len(MAX_BLOCKS) - 1, 1);
     stores.poke_full(full_len(MAX_BLOCKS) - 1, 1);
     stores.check(Call::Format, 0, &[], &[0])?;

@@ -2,7 +2,7 @@
 //!
 //! Every input is given to three sides: the C interface of the archive, the safe wrapper over it,
 //! and the independent implementation. The answer and every byte of every lent buffer must be the
-//! same afterwards.
+//! same afterwards. For the C interface every buffer touches forbidden memory at one of its ends.
 
 pub mod arena;
 pub mod call;

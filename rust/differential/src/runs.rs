@@ -41,11 +41,7 @@ fn demand(holds: bool, what: impl FnOnce() -> String) -> Result<(), Mismatch> {
 impl Ground {
     fn random(rng: &mut Rng) -> Ground {
         let n = rng.between(1, 12);
-        let m = match rng.below(4) {
-            0 => None,
-            1 => Some(n),
-            _ => Some(rng.between(0, n)),
-        };
+        let m = generate::pages(rng, n);
         let bases = (0..n).map(|_| generate::page_of_base(&generate::base(rng))).collect();
         Ground { n, m, bases }
     }

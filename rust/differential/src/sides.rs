@@ -17,8 +17,23 @@ impl Lent {
     }
 }
 
-fn answer<const N: usize>(members: [i128; N]) -> Answer {
-    Answer::of(&members)
+/// A side that takes slices: call, buffers in the order of the C interface, n, block.
+pub type SafeSide = fn(Call, &mut [&mut [u8]], u64, u64) -> Answer;
+
+/// The named members of an answer, in the order of the C interface.
+macro_rules! members {
+    ($answer:expr, $($member:ident),+) => {{
+        let answer = $answer;
+        Answer::of(&[$(answer.$member.into()),+])
+    }};
+}
+
+/// A call over the C interface: buffers, then numbers, then buffers. Each buffer goes as its address
+/// and its length.
+macro_rules! c {
+    ($call:ident: $($first:ident)*; $($number:ident)*; $($then:ident)*) => {
+        sys::$call($($first.start, $first.length,)* $($number,)* $($then.start, $then.length),*)
+    };
 }
 
 /// Makes the call over the C interface.
@@ -27,93 +42,27 @@ fn answer<const N: usize>(members: [i128; N]) -> Answer {
 /// Each buffer of at least one byte is readable and writable, and no two overlap.
 pub unsafe fn library(call: Call, lent: &[Lent], n: u64, block: u64) -> Answer {
     match (call, lent) {
-        (Call::Format, &[patch, full]) => {
-            let a = sys::thx_format(patch.start, patch.length, full.start, full.length);
-            answer([a.number.into()])
-        }
+        (Call::Format, &[patch, full]) => members!(c!(thx_format: patch full;;), number),
         (Call::Compare, &[base, page, payload]) => {
-            let a = sys::thx_compare(
-                base.start,
-                base.length,
-                page.start,
-                page.length,
-                payload.start,
-                payload.length,
-            );
-            answer([
-                a.number.into(),
-                a.kind.into(),
-                a.length.into(),
-                a.entries.into(),
-                a.last.into(),
-            ])
+            let a = c!(thx_compare: base page payload;;);
+            members!(a, number, kind, length, entries, last)
         }
         (Call::Apply, &[base, payload, page]) => {
-            let a = sys::thx_apply(
-                base.start,
-                base.length,
-                payload.start,
-                payload.length,
-                page.start,
-                page.length,
-            );
-            answer([a.number.into(), a.entries.into(), a.last.into()])
+            members!(c!(thx_apply: base payload page;;), number, entries, last)
         }
-        (Call::Judge, &[slot]) => {
-            let a = sys::thx_judge(slot.start, slot.length);
-            answer([a.number.into(), a.kind.into(), a.length.into()])
-        }
-        (Call::Show, &[patch]) => {
-            let a = sys::thx_show(patch.start, patch.length, block);
-            answer([a.at.into(), a.len.into()])
-        }
+        (Call::Judge, &[slot]) => members!(c!(thx_judge: slot;;), number, kind, length),
+        (Call::Show, &[patch]) => members!(c!(thx_show: patch; block;), at, len),
         (Call::Read, &[patch, full, base, page]) => {
-            let a = sys::thx_read(
-                patch.start,
-                patch.length,
-                full.start,
-                full.length,
-                block,
-                base.start,
-                base.length,
-                page.start,
-                page.length,
-            );
-            answer([a.number.into(), a.kind.into()])
+            members!(c!(thx_read: patch full; block; base page), number, kind)
         }
         (Call::Write, &[patch, full, base, page]) => {
-            let a = sys::thx_write(
-                patch.start,
-                patch.length,
-                full.start,
-                full.length,
-                block,
-                base.start,
-                base.length,
-                page.start,
-                page.length,
-            );
-            answer([a.number.into(), a.kind.into(), a.length.into()])
+            members!(c!(thx_write: patch full; block; base page), number, kind, length)
         }
         (Call::Build, &[patch, full, map]) => {
-            let a = sys::thx_build(
-                patch.start,
-                patch.length,
-                full.start,
-                full.length,
-                map.start,
-                map.length,
-            );
-            answer([a.number.into(), a.block.into()])
+            members!(c!(thx_build: patch full map;;), number, block)
         }
-        (Call::LookUp, &[map]) => {
-            let a = sys::thx_look_up(map.start, map.length, n, block);
-            answer([a.number.into(), a.pair.into()])
-        }
-        (Call::Tally, &[map]) => {
-            let a = sys::thx_tally(map.start, map.length, n);
-            answer([a.number.into(), a.patch.into(), a.full.into()])
-        }
+        (Call::LookUp, &[map]) => members!(c!(thx_look_up: map; n block;), number, pair),
+        (Call::Tally, &[map]) => members!(c!(thx_tally: map; n;), number, patch, full),
         _ => unreachable!("buffers of {}", call.name()),
     }
 }
@@ -121,54 +70,33 @@ pub unsafe fn library(call: Call, lent: &[Lent], n: u64, block: u64) -> Answer {
 /// Makes the call on the independent implementation.
 pub fn independent(call: Call, buffers: &mut [&mut [u8]], n: u64, block: u64) -> Answer {
     match (call, buffers) {
-        (Call::Format, [patch, full]) => {
-            let a = independent::format(patch, full);
-            answer([a.number.into()])
-        }
+        (Call::Format, [patch, full]) => members!(independent::format(patch, full), number),
         (Call::Compare, [base, page, payload]) => {
             let a = independent::compare(base, page, payload);
-            answer([
-                a.number.into(),
-                a.kind.into(),
-                a.length.into(),
-                a.entries.into(),
-                a.last.into(),
-            ])
+            members!(a, number, kind, length, entries, last)
         }
         (Call::Apply, [base, payload, page]) => {
-            let a = independent::apply(base, payload, page);
-            answer([a.number.into(), a.entries.into(), a.last.into()])
+            members!(independent::apply(base, payload, page), number, entries, last)
         }
-        (Call::Judge, [slot]) => {
-            let a = independent::judge(slot);
-            answer([a.number.into(), a.kind.into(), a.length.into()])
-        }
-        (Call::Show, [patch]) => {
-            let a = independent::show(patch, block);
-            answer([a.at.into(), a.len.into()])
-        }
+        (Call::Judge, [slot]) => members!(independent::judge(slot), number, kind, length),
+        (Call::Show, [patch]) => members!(independent::show(patch, block), at, len),
         (Call::Read, [patch, full, base, page]) => {
-            let a = independent::read(patch, full, block, base, page);
-            answer([a.number.into(), a.kind.into()])
+            members!(independent::read(patch, full, block, base, page), number, kind)
         }
         (Call::Write, [patch, full, base, page]) => {
-            let a = independent::write(patch, full, block, base, page);
-            answer([a.number.into(), a.kind.into(), a.length.into()])
+            members!(independent::write(patch, full, block, base, page), number, kind, length)
         }
         (Call::Build, [patch, full, map]) => {
-            let a = independent::build(patch, full, map);
-            answer([a.number.into(), a.block.into()])
+            members!(independent::build(patch, full, map), number, block)
         }
-        (Call::LookUp, [map]) => {
-            let a = independent::look_up(map, n, block);
-            answer([a.number.into(), a.pair.into()])
-        }
-        (Call::Tally, [map]) => {
-            let a = independent::tally(map, n);
-            answer([a.number.into(), a.patch.into(), a.full.into()])
-        }
+        (Call::LookUp, [map]) => members!(independent::look_up(map, n, block), number, pair),
+        (Call::Tally, [map]) => members!(independent::tally(map, n), number, patch, full),
         _ => unreachable!("buffers of {}", call.name()),
     }
+}
+
+fn answer<const N: usize>(members: [i128; N]) -> Answer {
+    Answer::of(&members)
 }
 
 fn refused(refusal: thonxiliko::Refusal) -> Answer {
@@ -182,60 +110,43 @@ fn signed(last: Option<usize>) -> i128 {
 
 /// Makes the call through the safe wrapper.
 pub fn wrapper(call: Call, buffers: &mut [&mut [u8]], n: u64, block: u64) -> Answer {
-    match (call, buffers) {
-        (Call::Format, [patch, full]) => match thonxiliko::format(patch, full) {
-            Ok(()) => answer([0]),
-            Err(refusal) => refused(refusal),
-        },
-        (Call::Compare, [base, page, payload]) => match thonxiliko::compare(base, page, payload) {
-            Ok(a) => answer([
-                0,
-                a.difference.number().into(),
-                a.length as i128,
-                a.entries as i128,
-                signed(a.last),
-            ]),
-            Err(refusal) => refused(refusal),
-        },
-        (Call::Apply, [base, payload, page]) => match thonxiliko::apply(base, payload, page) {
-            Ok(a) => answer([0, a.entries as i128, a.last as i128]),
-            Err(refusal) => refused(refusal),
-        },
-        (Call::Judge, [slot]) => match thonxiliko::judge(slot) {
-            Ok(a) => answer([0, a.kind.number().into(), a.length as i128]),
-            Err(refusal) => refused(refusal),
-        },
-        (Call::Show, [patch]) => match thonxiliko::show(patch, block) {
+    let result = match (call, buffers) {
+        (Call::Format, [patch, full]) => thonxiliko::format(patch, full).map(|()| answer([0])),
+        (Call::Compare, [base, page, payload]) => {
+            thonxiliko::compare(base, page, payload).map(|a| {
+                let kind = a.difference.number().into();
+                answer([0, kind, a.length as i128, a.entries as i128, signed(a.last)])
+            })
+        }
+        (Call::Apply, [base, payload, page]) => thonxiliko::apply(base, payload, page)
+            .map(|a| answer([0, a.entries as i128, a.last as i128])),
+        (Call::Judge, [slot]) => {
+            thonxiliko::judge(slot).map(|a| answer([0, a.kind.number().into(), a.length as i128]))
+        }
+        (Call::Show, [patch]) => Ok(match thonxiliko::show(patch, block) {
             Some(part) => {
                 let at = part.as_ptr() as usize - patch.as_ptr() as usize;
                 answer([at as i128, part.len() as i128])
             }
             None => answer([0, 0]),
-        },
-        (Call::Read, [patch, full, base, page]) => {
-            match thonxiliko::read(patch, full, block, base, page) {
-                Ok(kind) => answer([0, kind.number().into()]),
-                Err(refusal) => refused(refusal),
-            }
-        }
+        }),
+        (Call::Read, [patch, full, base, page]) => thonxiliko::read(patch, full, block, base, page)
+            .map(|kind| answer([0, kind.number().into()])),
         (Call::Write, [patch, full, base, page]) => {
-            match thonxiliko::write(patch, full, block, base, page) {
-                Ok(a) => answer([0, a.kind.number().into(), a.length as i128]),
-                Err(refusal) => refused(refusal),
-            }
+            thonxiliko::write(patch, full, block, base, page)
+                .map(|a| answer([0, a.kind.number().into(), a.length as i128]))
         }
-        (Call::Build, [patch, full, map]) => match thonxiliko::build(patch, full, map) {
+        (Call::Build, [patch, full, map]) => Ok(match thonxiliko::build(patch, full, map) {
             Ok(()) => answer([0, 0]),
             Err(fault) => answer([fault.refusal.number().into(), fault.block.unwrap_or(0).into()]),
-        },
-        (Call::LookUp, [map]) => match thonxiliko::look_up(map, n, block) {
-            Ok(pair) => answer([0, pair.number().into()]),
-            Err(refusal) => refused(refusal),
-        },
-        (Call::Tally, [map]) => match thonxiliko::tally(map, n) {
-            Ok(a) => answer([0, a.patch.into(), a.full.into()]),
-            Err(refusal) => refused(refusal),
-        },
+        }),
+        (Call::LookUp, [map]) => {
+            thonxiliko::look_up(map, n, block).map(|pair| answer([0, pair.number().into()]))
+        }
+        (Call::Tally, [map]) => {
+            thonxiliko::tally(map, n).map(|a| answer([0, a.patch.into(), a.full.into()]))
+        }
         _ => unreachable!("buffers of {}", call.name()),
-    }
+    };
+    result.unwrap_or_else(refused)
 }

@@ -1,6 +1,6 @@
 //! Every length from 0 to 1,024 for each buffer of each call, and numbers near 2^64.
 
-use crate::call::{Call, Input, PAGE, PAYLOAD};
+use crate::call::{Call, Input, PAGE, PATCH_HEADER, PAYLOAD, SLOT};
 use crate::generate::{Areas, STRANGE_NUMBERS};
 use crate::harness::{Harness, Mismatch};
 use crate::rng::Rng;
@@ -37,34 +37,45 @@ fn accepted(call: Call) -> Input {
     }
 }
 
-/// Cuts a buffer of an accepted input, or makes it longer with the filler.
-fn with_length(call: Call, buffer: usize, length: usize, filler: u8) -> Input {
-    let mut input = accepted(call);
-    input.buffers[buffer].resize(length, filler);
-    input
+/// The same with one block and without a full area, if the call is lent both areas. Two pages in the
+/// full area would make every patch area of up to 1,024 bytes too short.
+fn without_full_area(call: Call) -> Option<Input> {
+    let both = call.buffers().starts_with(&["patch", "full"]);
+    both.then(|| {
+        let mut input = accepted(call);
+        input.buffers[0].truncate(PATCH_HEADER + SLOT);
+        input.buffers[1].clear();
+        input
+    })
 }
 
-/// One call of each kind is accepted, so that each refusal in the sweeps is due to what they change.
+/// All inputs that the sweeps start from.
+fn starts() -> impl Iterator<Item = Input> {
+    Call::ALL.into_iter().flat_map(|call| [Some(accepted(call)), without_full_area(call)]).flatten()
+}
+
+/// Each of them is accepted, so that each refusal in the sweeps is due to what they change.
 pub fn starting_points(harness: &mut Harness) -> Result<(), Mismatch> {
-    for call in Call::ALL {
-        let input = accepted(call);
+    for input in starts() {
         let outcome = harness.check(&input)?;
-        let accepted = match call {
+        let accepted = match input.call {
             Call::Show => outcome.answer.0[1] > 0,
             _ => outcome.answer.number() == 0,
         };
-        assert!(accepted, "the sweep starts from an accepted {}", call.name());
+        assert!(accepted, "the sweep starts from an accepted {input}");
     }
     Ok(())
 }
 
-/// Every buffer of every call with each length from 0 to 1,024, contents grown by zeros and by noise.
+/// Every buffer of every call with each length from 0 to 1,024: cut, or grown by zeros or by noise.
 pub fn lengths(harness: &mut Harness, fillers: &[u8]) -> Result<(), Mismatch> {
-    for call in Call::ALL {
-        for buffer in 0..call.buffers().len() {
+    for start in starts() {
+        for buffer in 0..start.buffers.len() {
             for length in 0..=LONGEST {
                 for filler in fillers {
-                    harness.check(&with_length(call, buffer, length, *filler))?;
+                    let mut input = start.clone();
+                    input.buffers[buffer].resize(length, *filler);
+                    harness.check(&input)?;
                 }
             }
         }
@@ -72,14 +83,18 @@ pub fn lengths(harness: &mut Harness, fillers: &[u8]) -> Result<(), Mismatch> {
     Ok(())
 }
 
-/// All buffers at once with lengths from 0 to 1,024, drawn at random.
+/// Where something ends or begins: headers, slots, payloads, n = 0 and n = 1.
+const EDGES: [usize; 10] = [0, 1, 503, 504, 505, 511, 512, 513, 1023, LONGEST];
+
+/// Several buffers at once with lengths from 0 to 1,024, drawn at random.
 pub fn many_lengths(harness: &mut Harness, rng: &mut Rng, rounds: usize) -> Result<(), Mismatch> {
     for _ in 0..rounds {
-        for call in Call::ALL {
-            let mut input = accepted(call);
+        for mut input in starts() {
             for bytes in &mut input.buffers {
                 if rng.chance(60) {
-                    bytes.resize(rng.between(0, LONGEST), 0);
+                    let anywhere = rng.between(0, LONGEST);
+                    let length = if rng.chance(50) { rng.pick(&EDGES) } else { anywhere };
+                    bytes.resize(length, 0);
                 }
             }
             harness.check(&input)?;

@@ -1,9 +1,11 @@
 //! The comparison can fail: wrong programs on one side of it are found by the same random inputs
 //! that the library passes, and the demand on runs notices programs that both sides agree about.
 
-use differential::call::{Answer, Call, Input, Outcome, FULL_HEADER, PAGE, PATCH_HEADER, SLOT};
+use differential::call::{
+    Answer, Call, Input, Outcome, FULL_HEADER, PAGE, PATCH_HEADER, PAYLOAD, SLOT,
+};
 use differential::generate;
-use differential::harness::{independent_outcome, Harness, Mismatch, Side};
+use differential::harness::{independent_outcome, Counts, Harness, Mismatch, Side};
 use differential::orders;
 use differential::rng::Rng;
 use differential::runs::{self, Pairs};
@@ -11,14 +13,17 @@ use differential::runs::{self, Pairs};
 const SEED: u64 = 1;
 const MOST_CASES: u64 = 60_000;
 
+fn random_input(case: u64) -> Input {
+    generate::any_input(&mut Rng::for_case(SEED, "random", case))
+}
+
 /// The first mismatch that random inputs find between the library and a program.
 fn first_mismatch(expected: Side) -> Option<Mismatch> {
     let mut harness = Harness::new();
     harness.expected = expected;
     (0..MOST_CASES).find_map(|case| {
-        let mut rng = Rng::for_case(SEED, "random", case);
         harness.start_case(case);
-        harness.check(&generate::any_input(&mut rng)).err()
+        harness.check(&random_input(case)).err()
     })
 }
 
@@ -89,24 +94,13 @@ fn build_keeps_its_block_to_itself(input: &Input) -> Outcome {
 }
 
 fn flags_as_one_bit(input: &Input) -> Outcome {
-    let mut lenient = input.clone();
-    if input.call == Call::Judge && input.buffers[0].len() == SLOT && input.buffers[0][0] == 1 {
-        lenient.buffers[0][1] &= 1;
-    }
-    let answer = independent_outcome(&lenient).answer;
-    Outcome { answer, buffers: input.buffers.clone() }
-}
-
-fn only_judge(input: &Input, wrong: Side) -> Outcome {
-    if input.call == Call::Judge {
-        wrong(input)
-    } else {
-        independent_outcome(input)
-    }
-}
-
-fn lenient_judge(input: &Input) -> Outcome {
-    only_judge(input, flags_as_one_bit)
+    altered(input, Call::Judge, |outcome| {
+        let mut lenient = input.clone();
+        if let [1, flags, ..] = &mut lenient.buffers[0][..] {
+            *flags &= 1;
+        }
+        outcome.answer = independent_outcome(&lenient).answer;
+    })
 }
 
 fn blocks_that_wrap(input: &Input) -> Outcome {
@@ -116,24 +110,26 @@ fn blocks_that_wrap(input: &Input) -> Outcome {
 }
 
 fn unused_pairs_ignored(input: &Input) -> Outcome {
-    let mut cleared = input.clone();
-    if input.call == Call::Tally && input.n % 4 != 0 {
-        if let Some(byte) = cleared.buffers[0].get_mut((input.n / 4) as usize) {
-            *byte &= (1 << (2 * (input.n % 4))) - 1;
+    altered(input, Call::Tally, |outcome| {
+        let mut cleared = input.clone();
+        if input.n % 4 != 0 {
+            if let Some(byte) = cleared.buffers[0].get_mut((input.n / 4) as usize) {
+                *byte &= (1 << (2 * (input.n % 4))) - 1;
+            }
         }
-    }
-    let answer = independent_outcome(&cleared).answer;
-    match input.call {
-        Call::Tally => Outcome { answer, buffers: input.buffers.clone() },
-        _ => independent_outcome(input),
-    }
+        outcome.answer = independent_outcome(&cleared).answer;
+    })
 }
 
 // The shortcuts that give a wrong page.
 
-fn accepted_write(input: &Input) -> Option<Outcome> {
-    let outcome = independent_outcome(input);
-    (input.call == Call::Write && outcome.answer.number() == 0).then_some(outcome)
+/// Alters what comes of a Write that is accepted.
+fn altered_write(input: &Input, alter: impl FnOnce(&mut Outcome)) -> Outcome {
+    altered(input, Call::Write, |outcome| {
+        if outcome.answer.number() == 0 {
+            alter(outcome);
+        }
+    })
 }
 
 fn slot_range(block: u64) -> std::ops::Range<usize> {
@@ -142,59 +138,47 @@ fn slot_range(block: u64) -> std::ops::Range<usize> {
 }
 
 fn compares_with_the_current_page(input: &Input) -> Outcome {
-    if accepted_write(input).is_none() {
-        return independent_outcome(input);
-    }
-    let mut current = vec![0; PAGE];
-    let [patch, full, base] = [&input.buffers[0], &input.buffers[1], &input.buffers[2]];
-    let mut changed = input.clone();
-    if independent::read(patch, full, input.block, base, &mut current).number == 0 {
-        changed.buffers[2] = current;
-    }
-    let mut outcome = independent_outcome(&changed);
-    outcome.buffers[2] = input.buffers[2].clone();
-    outcome
+    altered_write(input, |outcome| {
+        let [patch, full, base] = [&input.buffers[0], &input.buffers[1], &input.buffers[2]];
+        let mut current = vec![0; PAGE];
+        if independent::read(patch, full, input.block, base, &mut current).number == 0 {
+            let mut changed = input.clone();
+            changed.buffers[2] = current;
+            *outcome = independent_outcome(&changed);
+            outcome.buffers[2] = base.clone();
+        }
+    })
 }
 
 fn clears_only_after_full_ref(input: &Input) -> Outcome {
-    let mut outcome = match accepted_write(input) {
-        None => return independent_outcome(input),
-        Some(outcome) => outcome,
-    };
-    let was_full = input.buffers[0][slot_range(input.block)][0] == 2;
-    if outcome.answer.0[1] != 2 && !was_full {
-        outcome.buffers[1] = input.buffers[1].clone();
-    }
-    outcome
+    altered_write(input, |outcome| {
+        let was_full = input.buffers[0][slot_range(input.block)][0] == 2;
+        if outcome.answer.0[1] != 2 && !was_full {
+            outcome.buffers[1] = input.buffers[1].clone();
+        }
+    })
 }
 
 fn leaves_the_tail(input: &Input) -> Outcome {
-    let mut outcome = match accepted_write(input) {
-        None => return independent_outcome(input),
-        Some(outcome) => outcome,
-    };
-    if outcome.answer.0[1] == 1 {
-        let range = slot_range(input.block);
-        let tail = range.start + 8 + outcome.answer.0[2] as usize..range.end;
-        outcome.buffers[0][tail.clone()].copy_from_slice(&input.buffers[0][tail]);
-    }
-    outcome
+    altered_write(input, |outcome| {
+        if outcome.answer.0[1] == 1 {
+            let range = slot_range(input.block);
+            let tail = range.start + 8 + outcome.answer.0[2] as usize..range.end;
+            outcome.buffers[0][tail.clone()].copy_from_slice(&input.buffers[0][tail]);
+        }
+    })
 }
 
 fn stores_block_0_only(input: &Input) -> Outcome {
-    match accepted_write(input) {
-        Some(outcome) if input.block > 0 => {
-            Outcome { answer: outcome.answer, buffers: input.buffers.clone() }
+    altered_write(input, |outcome| {
+        if input.block > 0 {
+            outcome.buffers = input.buffers.clone();
         }
-        _ => independent_outcome(input),
-    }
+    })
 }
 
 fn stores_nothing(input: &Input) -> Outcome {
-    match accepted_write(input) {
-        Some(outcome) => Outcome { answer: outcome.answer, buffers: input.buffers.clone() },
-        _ => independent_outcome(input),
-    }
+    altered_write(input, |outcome| outcome.buffers = input.buffers.clone())
 }
 
 fn always_reads_the_base(input: &Input) -> Outcome {
@@ -205,41 +189,62 @@ fn always_reads_the_base(input: &Input) -> Outcome {
     })
 }
 
-/// Applies entry by entry without a check before; `first` is where the position starts.
-fn apply_as_it_comes(input: &Input, first: i32) -> Outcome {
-    let mut outcome = independent_outcome(input);
-    if input.call != Call::Apply || outcome.answer.number() == 1 {
-        return outcome;
-    }
-    let mut page = generate::page_of_base(&input.buffers[0]);
+/// The entries of a payload, with their positions, up to the first that is not sound, and whether
+/// there is none such. `first` is where the position starts.
+fn decoded(payload: &[u8], first: i32) -> (Vec<(usize, u8)>, bool) {
+    let mut entries = Vec::new();
     let mut position = first;
-    let mut bytes = input.buffers[1].iter().copied();
-    while let (Some(jump), Some(value)) = (bytes.next(), bytes.next()) {
-        if jump == 255 {
-            break;
-        }
+    let mut rest = payload;
+    while !rest.is_empty() {
+        let (jump, value, after) = match rest {
+            [255, low, high, value, after @ ..] => {
+                (u16::from_le_bytes([*low, *high]), value, after)
+            }
+            [jump @ 0..=254, value, after @ ..] => (u16::from(*jump), value, after),
+            _ => return (entries, false),
+        };
         position += i32::from(jump) + 1;
-        match page.get_mut(position as usize) {
-            Some(byte) => *byte = value,
-            None => break,
+        match usize::try_from(position) {
+            Ok(place) if place < PAGE => entries.push((place, *value)),
+            _ => return (entries, false),
         }
+        rest = after;
     }
-    outcome.buffers[2] = page;
-    outcome
+    (entries, true)
+}
+
+/// Apply once more, with two places for a fault: where the position starts, and whether the page is
+/// filled while the payload is being checked.
+fn own_apply(input: &Input, first: i32, while_checking: bool) -> Outcome {
+    altered(input, Call::Apply, |outcome| {
+        let (base, payload) = (&input.buffers[0], &input.buffers[1]);
+        let length_sound = (1..=PAYLOAD).contains(&payload.len());
+        if outcome.answer.number() == 1 || !length_sound {
+            return;
+        }
+        let (entries, sound) = decoded(payload, first);
+        *outcome = Outcome { answer: Answer::of(&[7]), buffers: input.buffers.clone() };
+        if sound || while_checking {
+            let mut page = generate::page_of_base(base);
+            entries.iter().for_each(|(place, value)| page[*place] = *value);
+            outcome.buffers[2] = page;
+        }
+        if let (true, Some((last, _))) = (sound, entries.last()) {
+            outcome.answer = Answer::of(&[0, entries.len() as i128, *last as i128]);
+        }
+    })
+}
+
+fn applies_rightly(input: &Input) -> Outcome {
+    own_apply(input, -1, false)
 }
 
 fn position_from_0(input: &Input) -> Outcome {
-    match independent_outcome(input) {
-        outcome if outcome.answer.number() == 0 => apply_as_it_comes(input, 0),
-        outcome => outcome,
-    }
+    own_apply(input, 0, false)
 }
 
 fn applies_while_checking(input: &Input) -> Outcome {
-    match independent_outcome(input) {
-        outcome if outcome.answer.number() == 7 => apply_as_it_comes(input, -1),
-        outcome => outcome,
-    }
+    own_apply(input, -1, true)
 }
 
 fn looks_for_stray_pages_first(input: &Input) -> Outcome {
@@ -258,9 +263,26 @@ fn looks_for_stray_pages_first(input: &Input) -> Outcome {
     })
 }
 
+/// Random inputs alone meet every number of every call; without those of one answer it is missed.
 #[test]
-fn the_right_program_passes() {
+fn a_number_that_is_never_given_is_noticed() {
+    let (mut all, mut some) = (Counts::default(), Counts::default());
+    for input in (0..MOST_CASES).map(random_input) {
+        let answer = independent_outcome(&input).answer;
+        all.add(input.call, &answer);
+        if (input.call, answer.number()) != (Call::LookUp, 11) {
+            some.add(input.call, &answer);
+        }
+    }
+    assert_eq!(all.unseen(), []);
+    assert_eq!(some.unseen(), [(Call::LookUp, 11)]);
+}
+
+/// The right program passes, and so does an Apply like the wrong ones but without their fault.
+#[test]
+fn the_right_programs_pass() {
     assert!(first_mismatch(independent_outcome).is_none());
+    assert!(first_mismatch(applies_rightly).is_none());
 }
 
 #[test]
@@ -272,7 +294,7 @@ fn small_mistakes_are_found() {
     must_find("invented entries", invented_entries);
     must_find("no length for a full page", no_length_for_a_full_page);
     must_find("Build without its block", build_keeps_its_block_to_itself);
-    must_find("flags as one bit", lenient_judge);
+    must_find("flags as one bit", flags_as_one_bit);
     must_find("blocks that wrap", blocks_that_wrap);
     must_find("unused pairs ignored", unused_pairs_ignored);
     must_find("stray pages first", looks_for_stray_pages_first);

@@ -156,48 +156,38 @@ fn all_zero(bytes: &[u8]) -> bool {
     bytes.iter().all(|byte| *byte == 0)
 }
 
-fn judge_patch_header(patch: &[u8]) -> u32 {
+fn judge_patch_header(patch: &[u8]) -> Result<(), u32> {
     if &patch[0..8] != b"PBKPATCH" {
-        return BAD_HEADER;
+        return Err(BAD_HEADER);
     }
     if number16(patch, 8) != 2 {
-        return BAD_VERSION;
+        return Err(BAD_VERSION);
     }
     let rest_right = number16(patch, 10) == 0
         && number32(patch, 12) == 8192
         && number32(patch, 16) == 512
         && all_zero(&patch[20..PATCH_HEADER]);
-    if rest_right {
-        DONE
-    } else {
-        BAD_HEADER
-    }
+    rest_right.then_some(()).ok_or(BAD_HEADER)
 }
 
-fn judge_full_header(full: &[u8]) -> u32 {
+fn judge_full_header(full: &[u8]) -> Result<(), u32> {
     if full.is_empty() {
-        return DONE;
+        return Ok(());
     }
     if &full[0..8] != b"PBKFULL\0" {
-        return BAD_HEADER;
+        return Err(BAD_HEADER);
     }
     if number16(full, 8) != 1 {
-        return BAD_VERSION;
+        return Err(BAD_VERSION);
     }
     let rest_right =
         number16(full, 10) == 0 && number32(full, 12) == 8192 && all_zero(&full[16..FULL_HEADER]);
-    if rest_right {
-        DONE
-    } else {
-        BAD_HEADER
-    }
+    rest_right.then_some(()).ok_or(BAD_HEADER)
 }
 
-fn judge_headers(patch: &[u8], full: &[u8]) -> u32 {
-    match judge_patch_header(patch) {
-        DONE => judge_full_header(full),
-        refusal => refusal,
-    }
+fn judge_headers(patch: &[u8], full: &[u8]) -> Result<(), u32> {
+    judge_patch_header(patch)?;
+    judge_full_header(full)
 }
 
 // ---------------------------------------------------------------------------------------------
@@ -396,7 +386,7 @@ pub fn show(patch: &[u8], block: u64) -> Part {
         None => return nothing,
         Some(n) => n,
     };
-    if judge_patch_header(patch) != DONE || block >= n {
+    if judge_patch_header(patch).is_err() || block >= n {
         return nothing;
     }
     match sound_slot(slot_of(patch, block)) {
@@ -405,69 +395,57 @@ pub fn show(patch: &[u8], block: u64) -> Part {
     }
 }
 
-pub fn read(patch: &[u8], full: &[u8], block: u64, base: &[u8], page: &mut [u8]) -> Reading {
-    let refused = |number| Reading { number, kind: 0 };
+/// What Read and Write check alike, in order: pages, areas, headers, block. Gives m.
+fn judge_lent(patch: &[u8], full: &[u8], block: u64, base: &[u8], page: &[u8]) -> Result<u64, u32> {
     if !is_base_length(base.len()) || page.len() != PAGE {
-        return refused(BAD_PAGE_LENGTH);
+        return Err(BAD_PAGE_LENGTH);
     }
-    let (n, m) = match sizes_of(patch, full) {
-        None => return refused(BAD_AREA_LENGTH),
-        Some(sizes) => sizes,
-    };
-    let headers = judge_headers(patch, full);
-    if headers != DONE {
-        return refused(headers);
-    }
-    if block >= n {
-        return refused(BAD_BLOCK);
-    }
-    let slot = slot_of(patch, block);
-    let (kind, length) = match sound_slot(slot) {
-        None => return refused(BAD_SLOT),
-        Some(found) => found,
-    };
-    if kind == FULL_REF {
-        if block >= m {
-            return refused(NO_FULL_PAGE);
-        }
-        let start = place_start(block);
-        page.copy_from_slice(&full[start..start + PAGE]);
-    } else if kind == PATCH {
-        match entries_of(&slot[8..8 + length]) {
-            None => return refused(BAD_PAYLOAD),
-            Some(entries) => {
-                page.copy_from_slice(&base_page(base));
-                put_entries(page, &entries);
-            }
-        }
+    let (n, m) = sizes_of(patch, full).ok_or(BAD_AREA_LENGTH)?;
+    judge_headers(patch, full)?;
+    if block < n {
+        Ok(m)
     } else {
-        page.copy_from_slice(&base_page(base));
+        Err(BAD_BLOCK)
     }
-    Reading { number: DONE, kind }
 }
 
-pub fn write(patch: &mut [u8], full: &mut [u8], block: u64, base: &[u8], page: &[u8]) -> Written {
-    let refused = |number| Written { number, kind: 0, length: 0 };
-    if !is_base_length(base.len()) || page.len() != PAGE {
-        return refused(BAD_PAGE_LENGTH);
+/// Fills the page if nothing is refused, and gives the block's kind.
+fn fill_page(
+    patch: &[u8],
+    full: &[u8],
+    block: u64,
+    base: &[u8],
+    page: &mut [u8],
+) -> Result<u32, u32> {
+    let m = judge_lent(patch, full, block, base, page)?;
+    let slot = slot_of(patch, block);
+    let (kind, length) = sound_slot(slot).ok_or(BAD_SLOT)?;
+    match kind {
+        FULL_REF if block >= m => return Err(NO_FULL_PAGE),
+        FULL_REF => {
+            let start = place_start(block);
+            page.copy_from_slice(&full[start..start + PAGE]);
+        }
+        PATCH => {
+            let entries = entries_of(&slot[8..8 + length]).ok_or(BAD_PAYLOAD)?;
+            page.copy_from_slice(&base_page(base));
+            put_entries(page, &entries);
+        }
+        _ => page.copy_from_slice(&base_page(base)),
     }
-    let (n, m) = match sizes_of(patch, full) {
-        None => return refused(BAD_AREA_LENGTH),
-        Some(sizes) => sizes,
-    };
-    let headers = judge_headers(patch, full);
-    if headers != DONE {
-        return refused(headers);
-    }
-    if block >= n {
-        return refused(BAD_BLOCK);
-    }
-    let stream = Stream::of(&base_page(base), page);
-    let kind = stream.kind();
-    if kind == FULL_REF && block >= m {
-        return refused(NO_FULL_PAGE);
-    }
+    Ok(kind)
+}
 
+pub fn read(patch: &[u8], full: &[u8], block: u64, base: &[u8], page: &mut [u8]) -> Reading {
+    match fill_page(patch, full, block, base, page) {
+        Ok(kind) => Reading { number: DONE, kind },
+        Err(number) => Reading { number, kind: 0 },
+    }
+}
+
+/// Sets the block's slot and, if it has one, its place in the full area.
+fn put_block(patch: &mut [u8], full: &mut [u8], block: u64, m: u64, page: &[u8], stream: &Stream) {
+    let kind = stream.kind();
     let mut slot = [0; SLOT];
     slot[0] = kind as u8;
     if kind == PATCH {
@@ -477,14 +455,26 @@ pub fn write(patch: &mut [u8], full: &mut [u8], block: u64, base: &[u8], page: &
     }
     let start = slot_start(block);
     patch[start..start + SLOT].copy_from_slice(&slot);
-
     if block < m {
         let start = place_start(block);
         let zeros = [0; PAGE];
         let content = if kind == FULL_REF { page } else { &zeros[..] };
         full[start..start + PAGE].copy_from_slice(content);
     }
-    Written { number: DONE, kind, length: stream.length() }
+}
+
+pub fn write(patch: &mut [u8], full: &mut [u8], block: u64, base: &[u8], page: &[u8]) -> Written {
+    let refused = |number| Written { number, kind: 0, length: 0 };
+    let m = match judge_lent(patch, full, block, base, page) {
+        Err(number) => return refused(number),
+        Ok(m) => m,
+    };
+    let stream = Stream::of(&base_page(base), page);
+    if stream.kind() == FULL_REF && block >= m {
+        return refused(NO_FULL_PAGE);
+    }
+    put_block(patch, full, block, m, page, &stream);
+    Written { number: DONE, kind: stream.kind(), length: stream.length() }
 }
 
 /// The pair of one block in the map, or the number of its first fault.
@@ -512,9 +502,8 @@ pub fn build(patch: &[u8], full: &[u8], map: &mut [u8]) -> Built {
     if (map.len() as u64) < map_length(n) {
         return refused(SHORT_BUFFER);
     }
-    let headers = judge_headers(patch, full);
-    if headers != DONE {
-        return refused(headers);
+    if let Err(number) = judge_headers(patch, full) {
+        return refused(number);
     }
     let mut made = vec![0u8; map_length(n) as usize];
     for block in 0..n {
@@ -532,21 +521,20 @@ fn pair_at(map: &[u8], block: u64) -> u32 {
 }
 
 /// What Look up and Tally check first: n, then the map's length.
-fn judge_map(map: &[u8], n: u64) -> u32 {
+fn judge_map(map: &[u8], n: u64) -> Result<(), u32> {
     if n > BLOCKS_MAX {
-        BAD_AREA_LENGTH
+        Err(BAD_AREA_LENGTH)
     } else if (map.len() as u64) < map_length(n) {
-        SHORT_BUFFER
+        Err(SHORT_BUFFER)
     } else {
-        DONE
+        Ok(())
     }
 }
 
 pub fn look_up(map: &[u8], n: u64, block: u64) -> Pair {
     let refused = |number| Pair { number, pair: 0 };
-    let judged = judge_map(map, n);
-    if judged != DONE {
-        return refused(judged);
+    if let Err(number) = judge_map(map, n) {
+        return refused(number);
     }
     if block >= n {
         return refused(BAD_BLOCK);
@@ -559,9 +547,8 @@ pub fn look_up(map: &[u8], n: u64, block: u64) -> Pair {
 
 pub fn tally(map: &[u8], n: u64) -> Tallied {
     let refused = |number| Tallied { number, patch: 0, full: 0 };
-    let judged = judge_map(map, n);
-    if judged != DONE {
-        return refused(judged);
+    if let Err(number) = judge_map(map, n) {
+        return refused(number);
     }
     let mut counted = Tallied { number: DONE, patch: 0, full: 0 };
     for block in 0..4 * map_length(n) {

@@ -39,7 +39,7 @@
 //!
 //! // The map of all blocks.
 //! let mut map = [0; 1];
-//! build(&patch, &full, &mut map).map_err(|fault| fault.refusal)?;
+//! build(&patch, &full, &mut map)?;
 //! assert_eq!(map, [0b00_10_00_00]);
 //! assert_eq!(tally(&map, 4)?.patch, 1);
 //! # Ok::<(), thonxiliko::Refusal>(())
@@ -66,20 +66,29 @@ pub const MAX_BLOCKS: u64 = 131_072;
 
 /// Bytes of a patch area for `blocks` blocks.
 ///
+/// It saturates: where the length would pass `usize::MAX` it is `usize::MAX`, which no area has, so
+/// that every call refuses it.
+///
 /// ```
-/// assert_eq!(thonxiliko::patch_area_len(131_072), 67_109_376);
+/// use thonxiliko::{patch_area_len, MAX_BLOCKS};
+///
+/// assert_eq!(patch_area_len(MAX_BLOCKS), 67_109_376);
+/// assert_eq!(patch_area_len(u64::MAX), usize::MAX);
 /// ```
-pub const fn patch_area_len(blocks: usize) -> usize {
-    PATCH_HEADER_SIZE + SLOT_SIZE * blocks
+pub const fn patch_area_len(blocks: u64) -> usize {
+    area_len(PATCH_HEADER_SIZE, SLOT_SIZE, blocks)
 }
 
 /// Bytes of a full area with room for the pages of blocks 0 to `pages - 1`.
 ///
+/// It saturates as [`patch_area_len`] does.
+///
 /// ```
 /// assert_eq!(thonxiliko::full_area_len(1), 12_288);
+/// assert_eq!(thonxiliko::full_area_len(u64::MAX), usize::MAX);
 /// ```
-pub const fn full_area_len(pages: usize) -> usize {
-    FULL_HEADER_SIZE + PAGE_SIZE * pages
+pub const fn full_area_len(pages: u64) -> usize {
+    area_len(FULL_HEADER_SIZE, PAGE_SIZE, pages)
 }
 
 /// Bytes of the map of `blocks` blocks.
@@ -87,19 +96,32 @@ pub const fn full_area_len(pages: usize) -> usize {
 /// ```
 /// assert_eq!(thonxiliko::map_len(5), 2);
 /// ```
-pub const fn map_len(blocks: usize) -> usize {
-    blocks / 4 + (blocks % 4 != 0) as usize
+pub const fn map_len(blocks: u64) -> usize {
+    saturated(blocks / 4 + (blocks % 4 != 0) as u64)
+}
+
+const fn area_len(header: usize, each: usize, count: u64) -> usize {
+    saturated((each as u64).saturating_mul(count).saturating_add(header as u64))
+}
+
+const fn saturated(length: u64) -> usize {
+    let short = length as usize;
+    if short as u64 == length {
+        short
+    } else {
+        usize::MAX
+    }
 }
 
 /// What a slot holds.
 #[derive(Clone, Copy, Debug, PartialEq, Eq, Hash)]
 pub enum Kind {
     /// The page equals its base.
-    Empty,
+    Empty = 0,
     /// The slot holds the bytes that differ.
-    Patch,
+    Patch = 1,
     /// The page stands in the full area.
-    Full,
+    Full = 2,
 }
 
 impl Kind {
@@ -113,11 +135,11 @@ impl Kind {
 #[derive(Clone, Copy, Debug, PartialEq, Eq, Hash)]
 pub enum Difference {
     /// Not at all.
-    Same,
+    Same = 0,
     /// By a stream that fits a slot.
-    Patch,
+    Patch = 1,
     /// By more than that.
-    Large,
+    Large = 2,
 }
 
 impl Difference {
@@ -130,12 +152,12 @@ impl Difference {
 /// What a block map says of a block. Its numbers are not those of [`Kind`].
 #[derive(Clone, Copy, Debug, PartialEq, Eq, Hash)]
 pub enum Pair {
-    /// 0: the block's page equals its base.
-    Empty,
-    /// 1: the block's page stands in the full area.
-    Full,
-    /// 2: the block's slot holds a patch.
-    Patch,
+    /// The block's page equals its base.
+    Empty = 0,
+    /// The block's page stands in the full area.
+    Full = 1,
+    /// The block's slot holds a patch.
+    Patch = 2,
 }
 
 impl Pair {
@@ -145,31 +167,32 @@ impl Pair {
     }
 }
 
-/// Why a call was refused.
+/// Why a call was refused. Later versions of the library have more numbers.
 #[derive(Clone, Copy, Debug, PartialEq, Eq, Hash)]
+#[non_exhaustive]
 pub enum Refusal {
-    /// 1: a base is not 0 or 8,192 bytes long, or another page is not 8,192 bytes long.
-    PageLength,
-    /// 2: the length of an area or slot is wrong, or there are too many blocks.
-    AreaLength,
-    /// 3: magic, flags, sizes or zero bytes of a header are wrong.
-    Header,
-    /// 4: the version in a header is wrong.
-    Version,
-    /// 5: the store has no such block.
-    Block,
-    /// 6: the slot is not sound.
-    Slot,
-    /// 7: the payload is not sound.
-    Payload,
-    /// 8: the full area has no place for this block's page.
-    NoFullPage,
-    /// 9: the payload buffer or the map buffer is too short.
-    ShortBuffer,
-    /// 10: the block's place in the full area holds bytes although its slot does not refer to it.
-    StrayPage,
-    /// 11: a pair of the map is 3, or a pair past the last block is not 0.
-    Pair,
+    /// A base is not 0 or 8,192 bytes long, or another page is not 8,192 bytes long.
+    PageLength = 1,
+    /// The length of an area or slot is wrong, or there are too many blocks.
+    AreaLength = 2,
+    /// Magic, flags, sizes or zero bytes of a header are wrong.
+    Header = 3,
+    /// The version in a header is wrong.
+    Version = 4,
+    /// The store has no such block.
+    Block = 5,
+    /// The slot is not sound.
+    Slot = 6,
+    /// The payload is not sound.
+    Payload = 7,
+    /// The full area has no place for this block's page.
+    NoFullPage = 8,
+    /// The payload buffer or the map buffer is too short.
+    ShortBuffer = 9,
+    /// The block's place in the full area holds bytes although its slot does not refer to it.
+    StrayPage = 10,
+    /// A pair of the map is 3, or a pair past the last block is not 0.
+    Pair = 11,
 }
 
 const REFUSALS: [Refusal; 11] = [
@@ -187,16 +210,16 @@ const REFUSALS: [Refusal; 11] = [
 ];
 
 impl Refusal {
-    /// The refusal's number in the table, 1 to 11.
+    /// The refusal's number in the table of refusals.
     ///
     /// ```
     /// assert_eq!(thonxiliko::Refusal::Block.number(), 5);
     /// ```
     pub fn number(self) -> u32 {
-        self as u32 + 1
+        self as u32
     }
 
-    /// The refusal with this number; none for 0 (done) and for numbers above 11.
+    /// The refusal with this number; none for 0 (done) and for numbers that are not in the table.
     ///
     /// ```
     /// use thonxiliko::Refusal;
@@ -204,8 +227,7 @@ impl Refusal {
     /// assert_eq!(Refusal::from_number(0), None);
     /// ```
     pub fn from_number(number: u32) -> Option<Refusal> {
-        let at = usize::try_from(number).ok()?.checked_sub(1)?;
-        REFUSALS.get(at).copied()
+        REFUSALS.iter().copied().find(|refusal| refusal.number() == number)
     }
 
     fn text(self) -> &'static str {
@@ -233,8 +255,11 @@ impl fmt::Display for Refusal {
 
 impl Error for Refusal {}
 
-/// Why [`build`] was refused, and at which block.
+/// Why [`build`] was refused, and at which block. Later versions of the library may say more.
+///
+/// Where the block is of no interest, `?` makes a [`Refusal`] of it.
 #[derive(Clone, Copy, Debug, PartialEq, Eq, Hash)]
+#[non_exhaustive]
 pub struct BuildRefusal {
     /// The refusal.
     pub refusal: Refusal,
@@ -252,6 +277,12 @@ impl fmt::Display for BuildRefusal {
 }
 
 impl Error for BuildRefusal {}
+
+impl From<BuildRefusal> for Refusal {
+    fn from(fault: BuildRefusal) -> Refusal {
+        fault.refusal
+    }
+}
 
 /// What [`compare`] found.
 #[derive(Clone, Copy, Debug, PartialEq, Eq)]
@@ -304,7 +335,7 @@ pub struct Tally {
 
 /// A number that the interface never gives: the archive is not the one that this crate is for.
 #[cold]
-fn foreign(what: &str, number: u32) -> ! {
+fn foreign(what: &str, number: impl fmt::Display) -> ! {
     panic!("libthonxiliko.a answered {what} {number}, which its interface does not have");
 }
 
@@ -343,9 +374,13 @@ fn pair(number: u32) -> Pair {
     }
 }
 
-/// Positions are -1 (none) or places in a page.
+/// A position is a place in a page, or -1 for none.
 fn position(last: i32) -> Option<usize> {
-    usize::try_from(last).ok()
+    match usize::try_from(last) {
+        Ok(place) if place < PAGE_SIZE => Some(place),
+        Err(_) if last == -1 => None,
+        _ => foreign("the last position", last),
+    }
 }
 
 /// Makes both areas new and empty. An empty `full` is an absent full area.
@@ -434,7 +469,7 @@ pub fn apply(base: &[u8], payload: &[u8], page: &mut [u8]) -> Result<Applied, Re
     accepted(applied.number)?;
     Ok(Applied {
         entries: applied.entries as usize,
-        last: position(applied.last).unwrap_or_else(|| foreign("the entries", applied.entries)),
+        last: position(applied.last).unwrap_or_else(|| foreign("the last position", applied.last)),
     })
 }
 
@@ -584,7 +619,7 @@ pub fn write(
 /// [`Refusal::Payload`] or [`Refusal::StrayPage`].
 ///
 /// ```
-/// use thonxiliko::{build, format, patch_area_len, BuildRefusal, Refusal};
+/// use thonxiliko::{build, format, patch_area_len, Refusal};
 ///
 /// let mut patch = vec![0; patch_area_len(5)];
 /// format(&mut patch, &mut [])?;
@@ -593,8 +628,8 @@ pub fn write(
 /// assert_eq!(map, [0, 0, 0xFF]);
 ///
 /// patch[512 + 512 * 3] = 9; // no such kind
-/// let fault = BuildRefusal { refusal: Refusal::Slot, block: Some(3) };
-/// assert_eq!(build(&patch, &[], &mut map), Err(fault));
+/// let fault = build(&patch, &[], &mut map).unwrap_err();
+/// assert_eq!((fault.refusal, fault.block), (Refusal::Slot, Some(3)));
 /// # Ok::<(), Refusal>(())
 /// ```
 pub fn build(patch: &[u8], full: &[u8], map: &mut [u8]) -> Result<(), BuildRefusal> {

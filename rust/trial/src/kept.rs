@@ -66,32 +66,41 @@ pub fn store(base: &Path, changed: &Path, kept: &Path, progress: &mut Progress) 
     }
     progress.start("storing", blocks);
     for (path, relation) in segments {
-        let (base_path, changed_path) = (base.join(path), changed.join(path));
-        let areas = Areas::store(&base_path, &changed_path, progress)
+        let (base, changed) = (base.join(path), changed.join(path));
+        let counts = store_segment(&base, &changed, &area_paths(kept, path), progress)
             .map_err(|problem| format!("{}: {problem}", path.display()))?;
-        let (patch, full) = area_paths(kept, path);
-        if let Some(parent) = patch.parent() {
-            fs::create_dir_all(parent)?;
-        }
-        let kept_bytes = areas.save(&patch, &full)?;
-        // Read back from the files, not from what is still in memory.
-        let mut counts = Areas::load(&patch, &full)?.check(&base_path, &changed_path)?;
-        counts.kept = kept_bytes;
         stored.segments.push(StoredSegment { relation, counts });
     }
     progress.done();
-
-    let gone: Vec<String> =
-        old.files.difference(&new.files).map(|path| format!("{}\n", path.display())).collect();
-    stored.gone = gone.len() as u64;
-    fs::write(kept.join("gone"), gone.concat())?;
-    let folders: Vec<String> =
-        new.folders.iter().map(|path| format!("{}\n", path.display())).collect();
-    fs::write(kept.join("folders"), folders.concat())?;
+    stored.gone = write_list(&kept.join("gone"), old.files.difference(&new.files))?;
+    write_list(&kept.join("folders"), new.folders.iter())?;
     Ok(stored)
 }
 
-#[derive(Default)]
+/// Keeps one segment in a patch file and a full file.
+fn store_segment(
+    base: &Path,
+    changed: &Path,
+    (patch, full): &(PathBuf, PathBuf),
+    progress: &mut Progress,
+) -> Outcome<Counts> {
+    let areas = Areas::store(base, changed, progress)?;
+    if let Some(parent) = patch.parent() {
+        fs::create_dir_all(parent)?;
+    }
+    let kept = areas.save(patch, full)?;
+    // Read back from the files, not from what is still in memory.
+    let counts = Areas::load(patch, full)?.check(base, changed)?;
+    Ok(Counts { kept, ..counts })
+}
+
+/// Writes one path a line, and says how many there were.
+fn write_list<'p>(to: &Path, paths: impl Iterator<Item = &'p PathBuf>) -> Outcome<u64> {
+    let lines: Vec<String> = paths.map(|path| format!("{}\n", path.display())).collect();
+    fs::write(to, lines.concat())?;
+    Ok(lines.len() as u64)
+}
+
 pub struct Rebuilt {
     pub segments: u64,
     pub from_base: u64,
@@ -105,52 +114,65 @@ pub fn rebuild(
     folder: &Path,
     progress: &mut Progress,
 ) -> Outcome<Rebuilt> {
-    let old = Listing::of(base)?;
-    let mut rebuilt = Rebuilt::default();
+    make_folders(base, kept, folder)?;
+    let whole = kept.join("whole");
+    let whole_files = if whole.exists() { Listing::of(&whole)?.files } else { Default::default() };
+    for path in &whole_files {
+        copy(&whole.join(path), &folder.join(path))?;
+    }
+
+    let segments = kept_segments(kept)?;
+    rebuild_segments(base, kept, folder, &segments, progress)?;
+
+    let gone = fs::read_to_string(kept.join("gone"))?;
+    let gone: Vec<&Path> = gone.lines().map(Path::new).collect();
+    let mut from_base = 0;
+    for path in &Listing::of(base)?.files {
+        let made = whole_files.contains(path) || segments.contains(path);
+        if !made && !gone.contains(&path.as_path()) {
+            copy(&base.join(path), &folder.join(path))?;
+            from_base += 1;
+        }
+    }
+    Ok(Rebuilt { segments: segments.len() as u64, from_base, whole: whole_files.len() as u64 })
+}
+
+/// The folder itself and those below it, with the permissions that they have in the base.
+fn make_folders(base: &Path, kept: &Path, folder: &Path) -> Outcome<()> {
     make_like(folder, base)?;
     for path in fs::read_to_string(kept.join("folders"))?.lines() {
         let model = if base.join(path).exists() { base.join(path) } else { base.to_path_buf() };
         make_like(&folder.join(path), &model)?;
     }
+    Ok(())
+}
 
-    let whole = kept.join("whole");
-    let whole_files = if whole.exists() { Listing::of(&whole)?.files } else { Default::default() };
-    for path in &whole_files {
-        copy(&whole.join(path), &folder.join(path))?;
-        rebuilt.whole += 1;
-    }
-
-    let segments = kept_segments(kept)?;
-    let mut blocks = 0;
-    for path in &segments {
+fn rebuild_segments(
+    base: &Path,
+    kept: &Path,
+    folder: &Path,
+    segments: &[PathBuf],
+    progress: &mut Progress,
+) -> Outcome<()> {
+    let load = |path: &PathBuf| {
         let (patch, full) = area_paths(kept, path);
-        blocks += Areas::load(&patch, &full)?.blocks();
+        Areas::load(&patch, &full)
+    };
+    let mut blocks = 0;
+    for path in segments {
+        blocks += load(path)?.blocks();
     }
     progress.start("rebuilding", blocks);
-    for path in &segments {
-        let (patch, full) = area_paths(kept, path);
-        let areas = Areas::load(&patch, &full)?;
-        let to = folder.join(path);
-        areas.rebuild(&base.join(path), &to, progress)?;
-        let model =
-            if base.join(path).exists() { base.join(path) } else { base.join("PG_VERSION") };
+    for path in segments {
+        let (from, to) = (base.join(path), folder.join(path));
+        load(path)?.rebuild(&from, &to, progress)?;
+        let model = if from.exists() { from } else { base.join("PG_VERSION") };
         if model.exists() {
             fs::set_permissions(&to, fs::metadata(model)?.permissions())?;
         }
-        rebuilt.segments += 1;
     }
     progress.done();
-
-    let gone = fs::read_to_string(kept.join("gone"))?;
-    let gone: Vec<&Path> = gone.lines().map(Path::new).collect();
-    for path in &old.files {
-        let made = whole_files.contains(path) || segments.contains(path);
-        if !made && !gone.contains(&path.as_path()) {
-            copy(&base.join(path), &folder.join(path))?;
-            rebuilt.from_base += 1;
-        }
-    }
-    Ok(rebuilt)
+    Ok(())
 }
 
 /// The paths of the segments that have areas, in order.

@@ -7,7 +7,7 @@ use std::path::Path;
 
 use thonxiliko::{
     build, compare, format, full_area_len, look_up, map_len, patch_area_len, read, tally, write,
-    Difference, Kind, Pair, MAX_BLOCKS, PAGE_SIZE, PAYLOAD_SIZE,
+    Difference, Kind, Pair, MAX_BLOCKS, PAGE_SIZE, PATCH_HEADER_SIZE, PAYLOAD_SIZE, SLOT_SIZE,
 };
 
 use crate::folder::Pages;
@@ -66,15 +66,14 @@ fn pages_needed(base: &Path, changed: &Path) -> Outcome<u64> {
 
 impl Areas {
     fn fresh(blocks: u64, pages: u64) -> Outcome<Areas> {
-        let full = if pages == 0 { 0 } else { full_area_len(pages as usize) };
-        let mut areas =
-            Areas { patch: vec![0; patch_area_len(blocks as usize)], full: vec![0; full] };
+        let full = if pages == 0 { 0 } else { full_area_len(pages) };
+        let mut areas = Areas { patch: vec![0; patch_area_len(blocks)], full: vec![0; full] };
         format(&mut areas.patch, &mut areas.full)?;
         Ok(areas)
     }
 
     pub fn blocks(&self) -> u64 {
-        (self.patch.len() - patch_area_len(0)) as u64 / thonxiliko::SLOT_SIZE as u64
+        ((self.patch.len() - PATCH_HEADER_SIZE) / SLOT_SIZE) as u64
     }
 
     /// The areas as `save` left them; without a full file the full area is absent.
@@ -82,7 +81,7 @@ impl Areas {
         let patch = fs::read(patch).map_err(|error| format!("{}: {error}", patch.display()))?;
         let full = if full.exists() { fs::read(full)? } else { Vec::new() };
         let areas = Areas { patch, full };
-        if areas.patch.len() < patch_area_len(0) {
+        if areas.patch.len() < PATCH_HEADER_SIZE {
             return Err("a patch area without its header".into());
         }
         Ok(areas)
@@ -122,7 +121,7 @@ impl Areas {
         if blocks != changed.count {
             return Err(format!("{blocks} blocks kept of {}", changed.count).into());
         }
-        let mut map = vec![0; map_len(blocks as usize)];
+        let mut map = vec![0; map_len(blocks)];
         build(&self.patch, &self.full, &mut map)?;
         let mut counts = Counts { blocks, base_blocks: base.count, ..Counts::default() };
         let (mut base_page, mut page) = (Vec::new(), Vec::new());

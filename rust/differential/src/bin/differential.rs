@@ -4,7 +4,7 @@ use std::process::ExitCode;
 use std::time::{Instant, SystemTime, UNIX_EPOCH};
 
 use differential::generate;
-use differential::harness::{Harness, Mismatch};
+use differential::harness::{Counts, Harness, Mismatch};
 use differential::rng::Rng;
 use differential::runs::{self, Pairs};
 use differential::{cases, crash, huge, orders, sweep};
@@ -19,9 +19,41 @@ independent implementation; compares every answer and every lent byte after ever
   --long        more than a million calls
   --seed N      replay with this seed (otherwise drawn from the clock, and printed)
   --part NAME   only one part: cases, orders, lengths, numbers, random, runs, huge
-  --case I      only this case of the parts random and runs
+  --case I      only this case of the part, which is random or runs
   --trace       print each input before the call, to find the one that crashed
 ";
+
+/// How a part is run: as a whole, or so many cases, each drawn from a generator of its own.
+enum Work {
+    Whole(fn(&mut Session) -> Result<(), Mismatch>),
+    Drawn { quick: u64, long: u64, run: fn(&mut Session, &mut Rng) -> Result<(), Mismatch> },
+}
+
+struct Part {
+    name: &'static str,
+    work: Work,
+    /// The part's own inputs must meet every number of every call.
+    meets_all: bool,
+}
+
+/// The parts in the order of a whole run.
+const PARTS: [Part; 7] = [
+    Part { name: "cases", work: Work::Whole(hand_written), meets_all: true },
+    Part { name: "orders", work: Work::Whole(every_order), meets_all: false },
+    Part { name: "lengths", work: Work::Whole(lengths), meets_all: false },
+    Part { name: "numbers", work: Work::Whole(numbers), meets_all: false },
+    Part {
+        name: "random",
+        work: Work::Drawn { quick: 60_000, long: 1_100_000, run: random },
+        meets_all: true,
+    },
+    Part {
+        name: "runs",
+        work: Work::Drawn { quick: 40, long: 1_500, run: random_run },
+        meets_all: false,
+    },
+    Part { name: "huge", work: Work::Whole(largest), meets_all: false },
+];
 
 struct Options {
     long: bool,
@@ -59,7 +91,27 @@ fn options() -> Result<Option<Options>, String> {
             _ => return Err(format!("'{word}' is not known; see --help")),
         }
     }
+    options.check()?;
     Ok(Some(options))
+}
+
+impl Options {
+    fn wants(&self, part: &Part) -> bool {
+        self.part.as_deref().map_or(true, |only| only == part.name)
+    }
+
+    /// Words that would be passed over in silence are refused.
+    fn check(&self) -> Result<(), String> {
+        if !PARTS.iter().any(|part| self.wants(part)) {
+            return Err("there is no such part; see --help".to_string());
+        }
+        let drawn = |part: &Part| matches!(part.work, Work::Drawn { .. });
+        let one_drawn = PARTS.iter().filter(|part| self.wants(part)).all(drawn);
+        if self.case.is_some() && !one_drawn {
+            return Err("--case goes with --part random or --part runs".to_string());
+        }
+        Ok(())
+    }
 }
 
 /// A mismatch and how to see it again.
@@ -72,92 +124,117 @@ struct Session {
     options: Options,
     harness: Harness,
     pairs: Pairs,
-    parts_run: usize,
+    /// What each part met, in the part alone.
+    met: Vec<(&'static Part, Counts)>,
 }
 
 impl Session {
-    fn wanted(&self, part: &str) -> bool {
-        self.options.part.as_deref().map_or(true, |only| only == part)
-    }
-
-    /// The command that does one part or case again.
-    fn replay(&self, part: &str, case: Option<u64>) -> String {
+    /// The command that does one part or case again, to be given in rust/.
+    fn replay(&self, part: &Part, case: Option<u64>) -> String {
         let mode = if self.options.long { "--long" } else { "--quick" };
-        let seed = self.options.seed;
-        let mut replay = format!("differential {mode} --seed {seed} --part {part}");
+        let (seed, name) = (self.options.seed, part.name);
+        let mut replay =
+            format!("cargo run --bin differential -- {mode} --seed {seed} --part {name}");
         if let Some(case) = case {
             replay += &format!(" --case {case}");
         }
         replay
     }
 
-    fn failure(&self, part: &str, case: Option<u64>, mismatch: Mismatch) -> Failure {
-        Failure { mismatch, replay: self.replay(part, case) }
-    }
-
-    /// Runs one part, if it is wanted, and says how long it took.
-    fn part(
+    /// Does one piece of work so that it comes out the same again when it is replayed alone.
+    fn piece(
         &mut self,
-        part: &'static str,
-        run: fn(&mut Session) -> Result<(), Mismatch>,
+        part: &Part,
+        case: Option<u64>,
+        run: impl FnOnce(&mut Session) -> Result<(), Mismatch>,
     ) -> Result<(), Failure> {
-        if !self.wanted(part) {
-            return Ok(());
-        }
-        self.parts_run += 1;
-        let (start, before) = (Instant::now(), self.harness.counts.total());
-        crash::note(&self.replay(part, None));
-        run(self).map_err(|mismatch| self.failure(part, None, mismatch))?;
-        self.report(part, start, before);
-        Ok(())
+        let replay = self.replay(part, case);
+        self.harness.start_case(case.unwrap_or(0));
+        crash::note(&replay);
+        run(self).map_err(|mismatch| Failure { mismatch, replay })
     }
 
-    /// Runs the cases of a part that are drawn one by one, each from a generator of its own.
-    fn drawn_part(
-        &mut self,
-        part: &'static str,
-        cases: u64,
-        run: fn(&mut Session, &mut Rng) -> Result<(), Mismatch>,
-    ) -> Result<(), Failure> {
-        if !self.wanted(part) {
-            return Ok(());
+    fn pieces(&mut self, part: &Part) -> Result<(), Failure> {
+        match part.work {
+            Work::Whole(run) => self.piece(part, None, run),
+            Work::Drawn { quick, long, run } => {
+                let cases = if self.options.long { long } else { quick };
+                let range = self.options.case.map_or(0..=cases - 1, |case| case..=case);
+                for case in range {
+                    let mut rng = Rng::for_case(self.options.seed, part.name, case);
+                    self.piece(part, Some(case), |session| run(session, &mut rng))?;
+                }
+                Ok(())
+            }
         }
-        self.parts_run += 1;
-        let (start, before) = (Instant::now(), self.harness.counts.total());
-        let range = match self.options.case {
-            Some(case) => case..case + 1,
-            None => 0..cases,
-        };
-        for case in range {
-            let mut rng = Rng::for_case(self.options.seed, part, case);
-            self.harness.start_case(case);
-            crash::note(&self.replay(part, Some(case)));
-            run(self, &mut rng).map_err(|mismatch| self.failure(part, Some(case), mismatch))?;
-        }
-        self.report(part, start, before);
-        Ok(())
     }
 
-    fn report(&self, part: &str, start: Instant, before: u64) {
-        let calls = self.harness.counts.total() - before;
-        println!("{part:<8} {calls:>9} calls  {:>6.1} s", start.elapsed().as_secs_f64());
-    }
-
+    /// Runs the parts that are wanted, and says how long each took.
     fn run(&mut self) -> Result<(), Failure> {
-        let (random, runs) = if self.options.long { (1_100_000, 1_500) } else { (60_000, 40) };
-        self.part("cases", hand_written)?;
-        self.part("orders", |session| orders::check(&mut session.harness))?;
-        self.part("lengths", lengths)?;
-        self.part("numbers", numbers)?;
-        self.drawn_part("random", random, |session, rng| {
-            let input = generate::any_input(rng);
-            session.harness.check(&input).map(|_| ())
-        })?;
-        self.drawn_part("runs", runs, |session, rng| {
-            let writes = rng.between(10, 200);
-            runs::run(&mut session.harness, rng, writes, &mut session.pairs)
-        })?;
-        self.part("huge", largest)
+        for part in &PARTS {
+            if !self.options.wants(part) {
+                continue;
+            }
+            let start = Instant::now();
+            let result = self.pieces(part);
+            let counts = std::mem::take(&mut self.harness.counts);
+            if result.is_ok() {
+                let (calls, seconds) = (counts.total(), start.elapsed().as_secs_f64());
+                println!("{:<8} {calls:>9} calls  {seconds:>6.1} s", part.name);
+            }
+            self.met.push((part, counts));
+            result?;
+        }
+        Ok(())
+    }
+
+    fn ran(&self, name: &str) -> bool {
+        self.met.iter().any(|(part, _)| part.name == name)
+    }
+
+    /// What was not met although a part is there to meet it. Each part is held to its own inputs:
+    /// the cases written by hand meet every number, and would hide all that random inputs miss.
+    fn holes(&self) -> Vec<String> {
+        let mut holes = Vec::new();
+        if self.options.case.is_some() {
+            return holes;
+        }
+        for (part, counts) in self.met.iter().filter(|(part, _)| part.meets_all) {
+            for (call, number) in counts.unseen() {
+                holes.push(format!("{}: {} never gave {number}", part.name, call.name()));
+            }
+        }
+        let Pairs { alike, different } = self.pairs;
+        if self.ran("runs") && (alike == 0 || different == 0) {
+            holes.push(format!("runs: {alike} pairs ended alike, {different} did not"));
+        }
+        holes
+    }
+
+    /// Prints what was met and how it came out; true if all is well.
+    fn report(&self, result: Result<(), Failure>) -> bool {
+        let mut all = Counts::default();
+        self.met.iter().for_each(|(_, counts)| all.add_all(counts));
+        println!("\n{all}");
+        if self.ran("runs") {
+            let Pairs { alike, different } = self.pairs;
+            println!("runs compared in pairs: {alike} ended alike, {different} did not");
+        }
+        let (compared, seed) = (all.total(), self.options.seed);
+        if let Err(failure) = result {
+            println!("MISMATCH  {}", failure.mismatch);
+            println!("  replay, in rust/: {}", failure.replay);
+            println!("{compared} calls compared, 1 mismatch (seed {seed})");
+            return false;
+        }
+        let holes = self.holes();
+        if !holes.is_empty() {
+            println!("NOT COVERED  {}", holes.join("; "));
+            println!("{compared} calls compared, 0 mismatches, but not all was met (seed {seed})");
+            return false;
+        }
+        println!("{compared} calls compared, 0 mismatches (seed {seed})");
+        true
     }
 }
 
@@ -179,6 +256,10 @@ fn hand_written(session: &mut Session) -> Result<(), Mismatch> {
     Ok(())
 }
 
+fn every_order(session: &mut Session) -> Result<(), Mismatch> {
+    orders::check(&mut session.harness)
+}
+
 fn lengths(session: &mut Session) -> Result<(), Mismatch> {
     let long = session.options.long;
     let fillers: &[u8] = if long { &[0x00, 0xA7, 0x01] } else { &[0x00] };
@@ -193,6 +274,15 @@ fn numbers(session: &mut Session) -> Result<(), Mismatch> {
     sweep::numbers(&mut session.harness)
 }
 
+fn random(session: &mut Session, rng: &mut Rng) -> Result<(), Mismatch> {
+    session.harness.check(&generate::any_input(rng)).map(|_| ())
+}
+
+fn random_run(session: &mut Session, rng: &mut Rng) -> Result<(), Mismatch> {
+    let writes = rng.between(10, 200);
+    runs::run(&mut session.harness, rng, writes, &mut session.pairs)
+}
+
 fn largest(session: &mut Session) -> Result<(), Mismatch> {
     huge::check(&mut session.harness)?;
     if session.options.long {
@@ -201,24 +291,6 @@ fn largest(session: &mut Session) -> Result<(), Mismatch> {
         }
     }
     Ok(())
-}
-
-/// A whole run must see every number that a call can give; a single part need not.
-fn coverage_holes(session: &Session) -> Vec<String> {
-    if session.options.part.is_some() {
-        return Vec::new();
-    }
-    let mut holes: Vec<String> = session
-        .harness
-        .counts
-        .unseen()
-        .into_iter()
-        .map(|(call, number)| format!("{} never gave {number}", call.name()))
-        .collect();
-    if session.pairs.alike == 0 || session.pairs.different == 0 {
-        holes.push(format!("pairs of runs: {:?}", session.pairs));
-    }
-    holes
 }
 
 fn main() -> ExitCode {
@@ -238,29 +310,11 @@ fn main() -> ExitCode {
     crash::watch();
     let mut harness = Harness::new();
     harness.trace = options.trace;
-    let mut session = Session { options, harness, pairs: Pairs::default(), parts_run: 0 };
+    let mut session = Session { options, harness, pairs: Pairs::default(), met: Vec::new() };
     let result = session.run();
-    if session.parts_run == 0 {
-        eprintln!("differential: no such part; see --help");
-        return ExitCode::from(2);
+    if session.report(result) {
+        ExitCode::SUCCESS
+    } else {
+        ExitCode::FAILURE
     }
-    println!("\n{}", session.harness.counts);
-    let Pairs { alike, different } = session.pairs;
-    println!("runs compared in pairs: {alike} ended alike, {different} did not");
-    let compared = session.harness.counts.total();
-    let seed = session.options.seed;
-    if let Err(failure) = result {
-        println!("MISMATCH  {}", failure.mismatch);
-        println!("  replay: {}", failure.replay);
-        println!("{compared} calls compared, 1 mismatch (seed {seed})");
-        return ExitCode::FAILURE;
-    }
-    let holes = coverage_holes(&session);
-    if !holes.is_empty() {
-        println!("NOT COVERED  {}", holes.join("; "));
-        println!("{compared} calls compared, 0 mismatches, but not all was seen (seed {seed})");
-        return ExitCode::FAILURE;
-    }
-    println!("{compared} calls compared, 0 mismatches (seed {seed})");
-    ExitCode::SUCCESS
 }
