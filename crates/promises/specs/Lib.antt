@@ -1,5 +1,4 @@
 pub mod Runs
-pub mod RunsWrong
 pub mod Words
 pub mod SlotLaws
 pub mod Cells
@@ -22,3 +21,4 @@ pub mod Kept
 pub mod DemandOne
 pub mod Sample
 pub mod Wrong
+pub mod RunsWrong

@@ -83,7 +83,7 @@ module _ (P : ℕ) (s : Areas) (w : Lent) where
     done : Stored P (s .patch) (s .full) (w .block) (w .base) (w .page) (outcome P s w .kind) (outcome P s w .patch) (outcome P s w .full)
     done = write-stored P (s .patch) (s .full) (w .block) (w .base) (w .page) (accepted-write e)
 
-    cell-here : cellAt P (next P s w) (w .block) ≡ record { slot = imageOf P (w .base) (w .page); place = contentOf P (w .base) (w .page) }
+    pub cell-here : cellAt P (next P s w) (w .block) ≡ record { slot = imageOf P (w .base) (w .page); place = contentOf P (w .base) (w .page) }
     cell-here = λ i. record { slot = slot i; place = place (ltb (w .block) (places P (s .full))) refl i }
       where
         slot : slotOf (outcome P s w .patch) (w .block) ≡ imageOf P (w .base) (w .page)

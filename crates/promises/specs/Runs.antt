@@ -1,5 +1,5 @@
 -- Runs of operations on a store of blocks, for any store that keeps a few laws: what is left after a run, and when two runs leave the
--- same. Nothing here speaks of bytes. `RunsWrong` has statements of the same kind that are false.
+-- same. Nothing here speaks of bytes.
 use Prim.Native.Nat.{ℕ, _<_}
 use native.Mathlib.Omega.{arith}
 use mathlib.Core.Path.{_≡_, refl, sym, ap, _∙_}

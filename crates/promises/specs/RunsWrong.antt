@@ -1,110 +1,92 @@
--- Statements about runs that are false, each shown so by one small store that keeps every law of `Runs`.
-use Prim.Native.Nat.{ℕ, zero, suc, _<_}
+-- Statements about runs that are false: each is a part of demand 3 with one thing changed or left out, and a run over the areas and pages of
+-- `Sample` shows it so.
+use Prim.Native.Nat.{ℕ, _<_}
 use native.Mathlib.Omega.{arith}
-use mathlib.Core.Path.{_≡_, refl, sym, ap}
-use mathlib.Core.Logic.{_↔_}
-use mathlib.Core.Bool.{Bool, true, false, cond, _&&_, true≢false}
-use mathlib.Core.Option.{Option, none, some, Option·some-injective}
+use native.Mathlib.Decide.{decLt}
+use mathlib.Core.Path.{_≡_, refl, sym, ap, _∙_}
+use mathlib.Core.Logic.{_↔_, inr}
+use mathlib.Core.Bool.{Bool, true, false, cond}
+use mathlib.Core.Option.{Option, none, some, Option·some-injective, Option·none-ne-some}
 use mathlib.Core.List.{List, [], _∷_, List·Memᴰ, List·Memᴰ·head, List·Memᴰ·eq-of-singleton}
-use lib.Dec.{eqb}
-use borrow.Author.Tests.{eqb-true, eq-eqb}
-use Rattle.promises.specs.Runs.{Store, write, wipe, Laws, Fresh, Reading, ReadLaws, ReadSame, writes, run}
+use lib.Dec.{eqb, lit≤, lit<}
+use lib.ListN.{replicate}
+use Rattle.span.specs.Bytes.{zeros, splice}
+use Rattle.layout.specs.Sizes.{pageSize, slotAt}
+use Rattle.layout.specs.Slots.{fullSlot, slotImage}
+use Rattle.stream.specs.Entries.{stream, inPage, whole, sound, put, applied}
+use Rattle.stream.specs.Calls.{pageOf, kindFor}
+use Rattle.store.specs.Read.{ReadOutcome}
+use Rattle.store.specs.Write.{carriedPatch, decidedKind, decidedStream, WriteOutcome}
+use Rattle.promises.specs.Words.{blocks, PagesFit}
+use Rattle.promises.specs.StoreLaws.{write-done}
+use Rattle.promises.specs.ReadLaws.{reads-patch}
+use Rattle.promises.specs.WriteLaws.{others-read}
+use Rattle.promises.specs.Runs.{last}
+use Rattle.promises.specs.RunWords.{Areas, Lent, next, after, accepted, lastTo, FreshAreas}
+use Rattle.promises.specs.RunLaws.{run-fits, reads-none}
+use Rattle.promises.specs.DemandThree.{readAt}
+use Rattle.promises.specs.Sample.{sample, sample-fresh, two-blocks, takes, page, same-bytes, one, two, many, one-fits, two-fits, many-fits, stream-one, large-ones, large-twos, to, both-taken, slot-of, changes, same-page}
 
--- One block. Bases and pages are numbers, and a write is a base and a page: the cell is 0 where they are equal, else the page and one.
+-- the first of some writes that went to block b
+unfoldable pub firstTo : ℕ → List Lent → Option Lent
+firstTo b [] = none
+firstTo b (w ∷ ws) = cond (eqb (w .block) b) (some w) (firstTo b ws)
 
-canonOf : ℕ → ℕ → ℕ
-canonOf β p = cond (eqb p β) 0 (suc p)
-
-readOf : ℕ → ℕ → ℕ
-readOf β zero = β
-readOf β (suc p) = p
-
-tiny : Store
-tiny = record {
-  State = ℕ;
-  Frame = Unit {0};
-  Write = ℕ × ℕ;
-  Wipe = Unit {0};
-  Cell = ℕ;
-  frame = λ s. tt;
-  blocks = λ f. 1;
-  at = λ s b. s;
-  block = λ w. 0;
-  cell = λ w. canonOf (w .0) (w .1);
-  blank = 0;
-  covers = λ f c b. true;
-  accepts = λ f o. true;
-  step = λ s o. elim o [ write w ↦ canonOf (w .0) (w .1) | wipe c ↦ 0 ];
-  Good = λ f. Unit {0};
-}
-
-tiny-laws : Laws tiny
-unfolding tiny
-tiny-laws =
-    record {
-      frame-kept = λ s o. refl;
-      refused = λ s o e. absurd (true≢false e);
-      written = λ s w b e h k. refl;
-      not-written = λ s w b e h d. absurd (d (omega arith));
-      wiped = λ s c b e h k. refl;
-      not-wiped = λ s c b e h k. absurd (true≢false k);
-      ext = λ s t g e h. h 0 (omega arith);
-    }
-
-tiny-fresh : Fresh tiny (unfold tiny in 0)
-unfolding tiny
-tiny-fresh = record { good = tt; all-blank = λ b h. refl }
-
-tiny-reading : Reading tiny
-unfolding tiny
-tiny-reading = record {
-  Base = ℕ;
-  Page = ℕ;
-  Fits = λ β. Unit {0};
-  basePage = λ β. β;
-  reads = readOf;
-  canon = canonOf;
-  baseOf = λ w. w .0;
-  pageOf = λ w. w .1;
-}
-
-tiny-read-laws : ReadLaws tiny tiny-reading
-unfolding tiny tiny-reading canonOf readOf
-tiny-read-laws =
-    record {
-      cell-canon = λ f w e. refl;
-      reads-cell = λ f w e. back (w .0) (w .1) (eqb (w .1) (w .0)) refl;
-      canon-base = λ β h. rw (eq-eqb β β refl);
-      reads-blank = λ β h. refl;
-    }
-  where
-    back : (β p : ℕ) (t : Bool) → eqb p β ≡ t → readOf β (cond t 0 (suc p)) ≡ p
-    back β p true e = sym (eqb-true p β e)
-    back β p false e = refl
-
--- the first element that passes a test
-pub first : {A : Type 0} → (A → Bool) → List A → Option A
-first p [] = none
-first p (x ∷ xs) = cond (p x) (some x) (first p xs)
-
--- each block's first accepted write, in place of its last, does not leave what the run leaves
-pub not-first : ((S : Store) → Laws S → (s : S .State) → Fresh S s → (ws ls : List (S .Write))
-    → ((w : S .Write) → List·Memᴰ w ls ↔ (first (λ v. S .accepts (S .frame s) (write v) && eqb (S .block v) (S .block w)) ws ≡ some w))
-    → writes S s ls ≡ writes S s ws)
+-- each block's first accepted write, in place of its last
+pub not-first : ((s : Areas) → FreshAreas pageSize s → (ws ls : List Lent)
+    → ((w : Lent) → List·Memᴰ w ls ↔ (firstTo (w .block) (accepted pageSize s ws) ≡ some w)) → after pageSize s ls ≡ after pageSize s ws)
     → ⊥
-unfolding first tiny writes run canonOf
+unfolding firstTo after
 not-first claim =
-    let e : _≡_ {A = ℕ} 2 3 =
-    claim tiny tiny-laws 0 tiny-fresh ((0, 1) ∷ ((0, 2) ∷ [])) ((0, 1) ∷ [])
-    (λ w. (λ i. ap some (sym (List·Memᴰ·eq-of-singleton i)), λ e. List·Memᴰ·head (sym (Option·some-injective _ _ e)))) in
+    let e : after pageSize sample (to 0 one ∷ []) ≡ after pageSize sample (to 0 one ∷ to 0 two ∷ []) =
+    claim sample sample-fresh (to 0 one ∷ to 0 two ∷ []) (to 0 one ∷ [])
+    (λ w. rw (both-taken 0 (lit< tt)) (λ i. rw (List·Memᴰ·eq-of-singleton i), λ e. List·Memᴰ·head (only (eqb 0 (w .block)) e))) in
+    let z : _≡_ {A = ℕ} 0 9 = same-bytes (7 ∷ []) (7 ∷ 9 ∷ []) (same-page [] (to 0 one ∷ []) one two one-fits two-fits e) 1 in
     omega arith
+  where
+    only : {w : Lent} (t : Bool) → cond t (some (to 0 one)) (cond t (some (to 0 two)) none) ≡ some w → w ≡ to 0 one
+    only true e = sym (Option·some-injective _ _ e)
+    only false e = absurd (Option·none-ne-some _ e)
 
--- runs that read the same need not leave the same where a write was made over another base than the block's
-pub not-any-base : ((S : Store) → Laws S → (R : Reading S) → ReadLaws S R → (s : S .State) → Fresh S s
-    → (bases : ℕ → R .Base) → ((b : ℕ) → R .Fits (bases b)) → (ws ws′ : List (S .Write))
-    → ReadSame S R bases (S .blocks (S .frame s)) (writes S s ws) (writes S s ws′) → writes S s ws ≡ writes S s ws′)
+-- runs that read the same, whatever base pages they were written over
+pub not-any-base : ((s : Areas) → FreshAreas pageSize s → (bases into : ℕ → List ℕ) → ((b : ℕ) → b < blocks (s .patch) → PagesFit pageSize (bases b) (into b))
+    → (ws vs : List Lent)
+    → ((b : ℕ) → b < blocks (s .patch) → readAt (after pageSize s ws) b (bases b) (into b) .page ≡ readAt (after pageSize s vs) b (bases b) (into b) .page)
+    → after pageSize s ws ≡ after pageSize s vs)
     → ⊥
-unfolding tiny tiny-reading writes run canonOf readOf ReadSame
-not-any-base claim =
-    let e : _≡_ {A = ℕ} 8 0 = claim tiny tiny-laws tiny-reading tiny-read-laws 0 tiny-fresh (λ b. 7) (λ b. tt) ((5, 7) ∷ []) [] (λ b h. refl) in
+unfolding after accepted lastTo last page pageOf zeros slotImage kindFor stream inPage whole sound put applied
+not-any-base claim = changes 0 (lit< tt) (claim sample sample-fresh (λ b. one) (λ b. one) (λ b n. both) (to 0 one ∷ []) [] same)
+  where
+    both : PagesFit pageSize one one
+    both = record { base-length = inr (one-fits .page-length); page-length = one-fits .page-length }
+
+    -- `00 07` over a base that has 07 there already
+    at-0 : readAt (next pageSize sample (to 0 one)) 0 one one .page ≡ readAt sample 0 one one .page
+    at-0 =
+        ap (λ (o : ReadOutcome). o .page)
+        (reads-patch pageSize (next pageSize sample (to 0 one) .patch) (next pageSize sample (to 0 one) .full) 0 one one
+        (run-fits pageSize sample sample-fresh (to 0 one ∷ []) one one both) (rw (two-blocks (to 0 one ∷ [])) (lit< tt)) (0 ∷ 7 ∷ [])
+        (record { image = slot-of [] one (0 ∷ 7 ∷ []) one-fits stream-one; some = lit≤ tt; room-for = lit≤ tt }) refl)
+        ∙ sym (ap (λ (o : ReadOutcome). o .page) (reads-none pageSize sample sample-fresh [] 0 (rw (two-blocks []) (lit< tt)) one one both refl))
+
+    same : (b : ℕ) → b < blocks (sample .patch) → readAt (next pageSize sample (to 0 one)) b one one .page ≡ readAt sample b one one .page
+    same b n =
+        elim (decLt 0 b) [
+          | yes h ↦ ap (λ (o : ReadOutcome). o .page) (others-read pageSize (sample .patch) (sample .full) 0 [] one b (λ q. omega arith) one one)
+          | no h ↦ let z : b ≡ 0 = omega arith in rw z at-0
+        ]
+
+-- runs that leave the same slots: that of a full page does not say which
+pub not-slots-alone : ((s : Areas) → FreshAreas pageSize s → (ws vs : List Lent) → after pageSize s ws .patch ≡ after pageSize s vs .patch → after pageSize s ws ≡ after pageSize s vs) → ⊥
+unfolding after many carriedPatch slotImage
+not-slots-alone claim =
+    let z : _≡_ {A = ℕ} 1 2 =
+    same-bytes (replicate 253 1) (replicate 253 2)
+    (same-page [] [] (many 1) (many 2) (many-fits 1) (many-fits 2)
+    (claim sample sample-fresh (to 0 (many 1) ∷ []) (to 0 (many 2) ∷ []) (full-patch (many 1) (many-fits 1) large-ones ∙ sym (full-patch (many 2) (many-fits 2) large-twos)))) 0 in
     omega arith
+  where
+    full-patch : (x : List ℕ) → PagesFit pageSize [] x → decidedKind pageSize [] x ≡ 2 → next pageSize sample (to 0 x) .patch ≡ splice (sample .patch) (slotAt 0) fullSlot
+    full-patch x f l =
+        ap (λ (o : WriteOutcome). o .patch) (write-done pageSize (sample .patch) (sample .full) 0 [] x (takes [] (to 0 x) (lit< tt) f))
+        ∙ ap (λ (k : ℕ). splice (sample .patch) (slotAt 0) (slotImage k (decidedStream pageSize [] x))) l

@@ -1,61 +1,179 @@
--- Fresh areas of two blocks and two places, at any page size that has room for them: where the wrong programs of `Wrong` are tried.
-use Prim.Native.Nat.{ℕ, _≤_, _<_}
+-- What `Wrong` and `RunsWrong` are tried on: fresh areas of two blocks and two places, and pages of 8,192 bytes.
+use Prim.Native.Nat.{ℕ, _-_, _≤_, _<_}
 use native.Mathlib.Omega.{arith}
-use mathlib.Core.Path.{_≡_, sym, ap, _∙_}
+use mathlib.Core.Path.{_≡_, refl, sym, ap, _∙_}
 use mathlib.Core.Bool.{true}
-use mathlib.Core.Logic.{inr}
-use mathlib.Core.List.{List}
-use lib.ListN.{length}
+use mathlib.Core.Logic.{inl, inr}
+use mathlib.Core.List.{List, [], _∷_, _++_}
+use lib.Dec.{lit≤, lit<}
+use lib.ListN.{length, length-append, getD, replicate}
+use borrow.Author.Tests.{eq-eqb}
 use Rattle.span.specs.Bytes.{zeros}
-use Rattle.span.specs.Laws.{zeros-length}
-use Rattle.layout.specs.Sizes.{blocksAtMost, slotAt, pageAt}
+use Rattle.span.specs.Laws.{zeros-length, zeros-after}
+use Rattle.layout.specs.Sizes.{pageSize, slotAt, pageAt}
+use Rattle.layout.specs.Numbers.{le}
+use Rattle.layout.specs.Slots.{slotImage}
 use Rattle.layout.specs.Areas.{freshPatch, freshFull, patch-fits, full-fits, blocks-of, pages-of, fresh-patch-length, fresh-full-length}
+use Rattle.stream.specs.Differences.{diffs, spelled, coded, written}
+use Rattle.stream.specs.Calls.{pageOf, kindFor}
+use Rattle.store.specs.Frame.{slotOf}
 use Rattle.store.specs.Format.{FormatOutcome, formatOutcome, format-done}
-use Rattle.store.specs.Write.{writeOutcome}
-use Rattle.promises.specs.Words.{blocks, places, PagesFit, WriteGives}
+use Rattle.store.specs.Read.{ReadOutcome}
+use Rattle.store.specs.Write.{decidedKind, decidedStream}
+use Rattle.promises.specs.Words.{blocks, places, PagesFit, WriteGives, streamOf}
 use Rattle.promises.specs.FrameLaws.{lengthsFit}
 use Rattle.promises.specs.Tables.{write-table}
-use Rattle.promises.specs.RunWords.{Areas, Lent, after, FreshAreas}
-use Rattle.promises.specs.RunLaws.{kept, run-fits}
+use Rattle.promises.specs.WriteLaws.{reads-back}
+use Rattle.promises.specs.Runs.{last}
+use Rattle.promises.specs.RunWords.{Areas, Lent, outcome, next, after, accepted, lastTo, FreshAreas}
+use Rattle.promises.specs.RunStore.{Cell, cellAt, cell-here}
+use Rattle.promises.specs.StoreLaws.{imageOf, contentOf}
+use Rattle.promises.specs.RunLaws.{kept, run-fits, reads-none}
+use Rattle.promises.specs.DemandThree.{readAt}
 
-module _ (P : ℕ) (some : 0 < P) (few : 2 ≤ blocksAtMost P) where
-  unfoldable pub sample : Areas
-  sample = record { patch = freshPatch P (slotAt 2); full = freshFull P (pageAt P 2) }
+-- The areas
 
-  pub sample-fresh : FreshAreas P sample
+unfoldable pub sample : Areas
+sample = record { patch = freshPatch pageSize (slotAt 2); full = freshFull pageSize (pageAt pageSize 2) }
+
+pub sample-fresh : FreshAreas pageSize sample
+unfolding sample
+sample-fresh =
+    record {
+      old = record { patch = zeros (slotAt 2); full = zeros (pageAt pageSize 2) };
+      formatted = ap (λ (o : FormatOutcome). o .number) made;
+      patch-is = ap (freshPatch pageSize) (sym (zeros-length (slotAt 2))) ∙ sym (ap (λ (o : FormatOutcome). o .patch) made);
+      full-is = ap (freshFull pageSize) (sym (zeros-length (pageAt pageSize 2))) ∙ sym (ap (λ (o : FormatOutcome). o .full) made);
+    }
+  where
+    fits : lengthsFit pageSize (zeros (slotAt 2)) (zeros (pageAt pageSize 2)) ≡ true
+    fits = rw (zeros-length (slotAt 2), zeros-length (pageAt pageSize 2), patch-fits pageSize 2 (lit≤ tt), blocks-of 2) (full-fits pageSize 2 2 (lit< tt) (lit≤ tt))
+
+    made : formatOutcome pageSize (zeros (slotAt 2)) (zeros (pageAt pageSize 2))
+        ≡ record { number = 0; patch = freshPatch pageSize (length (zeros (slotAt 2))); full = freshFull pageSize (length (zeros (pageAt pageSize 2))) }
+    made = format-done pageSize (zeros (slotAt 2)) (zeros (pageAt pageSize 2)) fits
+
+module _ (ws : List Lent) where
+  pub two-blocks : blocks (after pageSize sample ws .patch) ≡ 2
   unfolding sample
-  sample-fresh =
-      record {
-        old = record { patch = zeros (slotAt 2); full = zeros (pageAt P 2) };
-        formatted = ap (λ (o : FormatOutcome). o .number) made;
-        patch-is = ap (freshPatch P) (sym (zeros-length (slotAt 2))) ∙ sym (ap (λ (o : FormatOutcome). o .patch) made);
-        full-is = ap (freshFull P) (sym (zeros-length (pageAt P 2))) ∙ sym (ap (λ (o : FormatOutcome). o .full) made);
-      }
-    where
-      fits : lengthsFit P (zeros (slotAt 2)) (zeros (pageAt P 2)) ≡ true
-      fits = rw (zeros-length (slotAt 2), zeros-length (pageAt P 2), patch-fits P 2 few, blocks-of 2) (full-fits P 2 2 some (omega arith))
+  two-blocks = rw (kept pageSize sample sample-fresh ws .patch-length, fresh-patch-length pageSize (slotAt 2) (lit≤ tt)) (blocks-of 2)
 
-      made : formatOutcome P (zeros (slotAt 2)) (zeros (pageAt P 2))
-          ≡ record { number = 0; patch = freshPatch P (length (zeros (slotAt 2))); full = freshFull P (length (zeros (pageAt P 2))) }
-      made = format-done P (zeros (slotAt 2)) (zeros (pageAt P 2)) fits
+  pub two-places : places pageSize (after pageSize sample ws .full) ≡ 2
+  unfolding sample
+  two-places = rw (kept pageSize sample sample-fresh ws .full-length, fresh-full-length pageSize (pageAt pageSize 2) (inr (lit≤ tt))) (pages-of pageSize 2 (lit< tt))
 
-  module _ (ws : List Lent) where
-    pub two-blocks : blocks (after P sample ws .patch) ≡ 2
-    unfolding sample
-    two-blocks = rw (kept P sample sample-fresh ws .patch-length, fresh-patch-length P (slotAt 2) (omega arith)) (blocks-of 2)
+  -- a write of a whole page to one of them is accepted
+  pub takes : (w : Lent) → w .block < 2 → PagesFit pageSize (w .base) (w .page) → outcome pageSize (after pageSize sample ws) w .number ≡ 0
+  takes w h f =
+      write-table pageSize (after pageSize sample ws .patch) (after pageSize sample ws .full) (w .block) (w .base) (w .page) 0 .1
+      (WriteGives.done (run-fits pageSize sample sample-fresh ws (w .base) (w .page) f) (rw two-blocks h) (λ l. rw two-places h))
 
-    pub two-places : places P (after P sample ws .full) ≡ 2
-    unfolding sample
-    two-places = rw (kept P sample sample-fresh ws .full-length, fresh-full-length P (pageAt P 2) (inr (omega arith))) (pages-of P 2 some)
+  -- and one to any other block is refused with 5
+  pub refuses : (w : Lent) → 2 ≤ w .block → PagesFit pageSize (w .base) (w .page) → outcome pageSize (after pageSize sample ws) w .number ≡ 5
+  refuses w h f =
+      write-table pageSize (after pageSize sample ws .patch) (after pageSize sample ws .full) (w .block) (w .base) (w .page) 5 .1
+      (WriteGives.block (run-fits pageSize sample sample-fresh ws (w .base) (w .page) f) (rw two-blocks h))
 
-    -- a write of a whole page to one of them is accepted
-    pub takes : (b : ℕ) → b < 2 → (base page : List ℕ) → PagesFit P base page → writeOutcome P (after P sample ws .patch) (after P sample ws .full) b base page .number ≡ 0
-    takes b h base page f =
-        write-table P (after P sample ws .patch) (after P sample ws .full) b base page 0 .1
-        (WriteGives.done (run-fits P sample sample-fresh ws base page f) (rw two-blocks h) (λ l. rw two-places h))
+-- The pages
 
-    -- and one to any other block is refused with 5
-    pub refuses : (b : ℕ) → 2 ≤ b → (base page : List ℕ) → PagesFit P base page → writeOutcome P (after P sample ws .patch) (after P sample ws .full) b base page .number ≡ 5
-    refuses b h base page f =
-        write-table P (after P sample ws .patch) (after P sample ws .full) b base page 5 .1
-        (WriteGives.block (run-fits P sample sample-fresh ws base page f) (rw two-blocks h))
+-- zeros but for the first bytes
+unfoldable pub page : List ℕ → List ℕ
+page ys = ys ++ zeros (pageSize - length ys)
+
+fits : (ys : List ℕ) → length ys ≤ pageSize → PagesFit pageSize [] (page ys)
+unfolding page
+fits ys h = record { base-length = inl refl; page-length = simp (length-append, zeros-length) (omega arith) }
+
+pub same-bytes : (xs ys : List ℕ) → page xs ≡ page ys → (i : ℕ) → getD xs i 0 ≡ getD ys i 0
+unfolding page
+same-bytes xs ys e i = sym (zeros-after xs (pageSize - length xs) i) ∙ ap (λ (l : List ℕ). getD l i 0) e ∙ zeros-after ys (pageSize - length ys) i
+
+abbrev pub one : List ℕ
+one = page (7 ∷ [])
+
+abbrev pub two : List ℕ
+two = page (7 ∷ 9 ∷ [])
+
+-- bytes 0 to 252 changed: large
+unfoldable pub many : ℕ → List ℕ
+many v = page (replicate 253 v)
+
+pub one-fits : PagesFit pageSize [] one
+one-fits = fits (7 ∷ []) (lit≤ tt)
+
+pub two-fits : PagesFit pageSize [] two
+two-fits = fits (7 ∷ 9 ∷ []) (lit≤ tt)
+
+pub many-fits : (v : ℕ) → PagesFit pageSize [] (many v)
+unfolding many
+many-fits v = fits (replicate 253 v) (lit≤ tt)
+
+pub stream-one : streamOf pageSize [] one ≡ 0 ∷ 7 ∷ []
+unfolding page pageOf zeros written diffs coded spelled le
+stream-one = refl
+
+pub stream-two : streamOf pageSize [] two ≡ 0 ∷ 7 ∷ 0 ∷ 9 ∷ []
+unfolding page pageOf zeros written diffs coded spelled le
+stream-two = refl
+
+pub stream-next : streamOf pageSize one two ≡ 1 ∷ 9 ∷ []
+unfolding page pageOf zeros written diffs coded spelled le
+stream-next = refl
+
+pub large-ones : decidedKind pageSize [] (many 1) ≡ 2
+unfolding many page pageOf zeros written diffs coded spelled le decidedKind decidedStream kindFor
+large-ones = refl
+
+pub large-twos : decidedKind pageSize [] (many 2) ≡ 2
+unfolding many page pageOf zeros written diffs coded spelled le decidedKind decidedStream kindFor
+large-twos = refl
+
+-- Writes of a page over a base of no bytes
+
+abbrev pub to : ℕ → List ℕ → Lent
+to b x = record { block = b; base = []; page = x }
+
+pub both-taken : (b : ℕ) → b < 2 → accepted pageSize sample (to 0 one ∷ to b two ∷ []) ≡ to 0 one ∷ to b two ∷ []
+unfolding accepted after
+both-taken b h =
+    rw (
+      eq-eqb (outcome pageSize sample (to 0 one) .number) 0 (takes [] (to 0 one) (lit< tt) one-fits),
+      eq-eqb (outcome pageSize (next pageSize sample (to 0 one)) (to b two) .number) 0 (takes (to 0 one ∷ []) (to b two) h two-fits),
+    )
+
+-- the slot and the place after one to block 0
+cell-of : (ws : List Lent) (x : List ℕ) → PagesFit pageSize [] x
+    → cellAt pageSize (next pageSize (after pageSize sample ws) (to 0 x)) 0 ≡ record { slot = imageOf pageSize [] x; place = contentOf pageSize [] x }
+cell-of ws x f = cell-here pageSize (after pageSize sample ws) (to 0 x) (eq-eqb (outcome pageSize (after pageSize sample ws) (to 0 x) .number) 0 (takes ws (to 0 x) (lit< tt) f))
+
+pub slot-of : (ws : List Lent) (x payload : List ℕ) → PagesFit pageSize [] x → streamOf pageSize [] x ≡ payload
+    → slotOf (next pageSize (after pageSize sample ws) (to 0 x) .patch) 0 ≡ slotImage (kindFor (length payload)) payload
+unfolding imageOf decidedKind decidedStream
+slot-of ws x payload f e = ap (λ (c : Cell). c .slot) (cell-of ws x f) ∙ ap (λ (w : List ℕ). slotImage (kindFor (length w)) w) e
+
+pub place-ones : cellAt pageSize (next pageSize sample (to 0 (many 1))) 0 .place ≡ many 1
+unfolding after contentOf
+place-ones = ap (λ (c : Cell). c .place) (cell-of [] (many 1) (many-fits 1)) ∙ rw large-ones
+
+-- the block then reads as the page, into `two` or any other
+pub reads : (ws : List Lent) (b : ℕ) → b < 2 → (x : List ℕ) → PagesFit pageSize [] x → readAt (next pageSize (after pageSize sample ws) (to b x)) b [] two .page ≡ x
+reads ws b h x f =
+    ap (λ (o : ReadOutcome). o .page)
+    (reads-back pageSize (after pageSize sample ws .patch) (after pageSize sample ws .full) b [] x (lit≤ tt) (takes ws (to b x) h f) [] two refl (two-fits .page-length))
+
+-- where a fresh block reads as zeros
+pub reads-zeros : (b : ℕ) → b < 2 → readAt sample b [] two .page ≡ page []
+unfolding after accepted lastTo last page pageOf
+reads-zeros b h = ap (λ (o : ReadOutcome). o .page) (reads-none pageSize sample sample-fresh [] b (rw (two-blocks []) h) [] two two-fits refl)
+
+-- so the areas are changed, and are others for each page
+pub changes : (b : ℕ) → b < 2 → next pageSize sample (to b one) ≡ sample → ⊥
+unfolding after
+changes b h e =
+    let z : _≡_ {A = ℕ} 7 0 = same-bytes (7 ∷ []) [] (sym (reads [] b h one one-fits) ∙ ap (λ (s : Areas). readAt s b [] two .page) e ∙ reads-zeros b h) 0 in
+    omega arith
+
+pub same-page : (ws vs : List Lent) (x y : List ℕ) → PagesFit pageSize [] x → PagesFit pageSize [] y
+    → next pageSize (after pageSize sample ws) (to 0 x) ≡ next pageSize (after pageSize sample vs) (to 0 y) → x ≡ y
+same-page ws vs x y f g e =
+    sym (reads ws 0 (lit< tt) x f) ∙ ap (λ (s : Areas). readAt s 0 [] two .page) e ∙ reads vs 0 (lit< tt) y g
