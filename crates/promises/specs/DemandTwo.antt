@@ -15,15 +15,18 @@ use lib.ListN.{length}
 use Rattle.span.specs.Bytes.{zeros}
 use Rattle.layout.specs.Sizes.{pageSize}
 use Rattle.layout.specs.Slots.{emptySlot, fullSlot}
-use Rattle.stream.specs.Entries.{payloadStream, sound, applied}
+use Rattle.stream.specs.Entries.{start, payloadStream, sound, applied}
 use Rattle.stream.specs.Calls.{pageOf}
+use Rattle.stream.specs.Spelling.{Spelled, Bytes}
+use Rattle.stream.specs.Writer.{placed}
+use Rattle.stream.specs.ReadBack.{pokes}
 use Rattle.store.specs.Frame.{slotOf, placeOf}
 use Rattle.store.specs.Read.{ReadOutcome, readOutcome}
 use Rattle.store.specs.Write.{WriteOutcome, writeOutcome}
 use Rattle.promises.specs.Words.{blocks, places, FrameFits, PatchOf, SoundSlot, Large, streamOf, Stored, WriteGives, ReadGives}
 use Rattle.promises.specs.Tables.{write-table, read-table}
 use Rattle.promises.specs.StoreLaws.{write-stored}
-use Rattle.promises.specs.ReadLaws.{reads-empty, reads-patch, reads-unsound, reads-full, reads-missing, reads-sound, zero-bases}
+use Rattle.promises.specs.ReadLaws.{reads-empty, reads-patch, reads-unsound, reads-spelled, reads-unspelled, reads-full, reads-missing, reads-sound, zero-bases}
 use Rattle.promises.specs.WriteLaws.{write-length, kind-empty, kind-patch, kind-full, no-room, reads-back, others-read}
 
 module _ (patch full : List ℕ) (b : ℕ) (base page : List ℕ) where
@@ -87,6 +90,14 @@ module _ (patch full : List ℕ) (b : ℕ) (base page : List ℕ) where
     pub patch-slot-7 : (payload : List ℕ) → PatchOf (slotOf patch b) payload → sound pageSize payload ≡ false
         → read ≡ record { number = 7; kind = 0; page = page }
     patch-slot-7 = reads-unsound pageSize patch full b base page fits below
+
+    -- the same by the entries that spell the payload: each value at its entry's place over the base, and 7 where no entries spell it
+    pub patch-slot-spelled : (payload : List ℕ) → PatchOf (slotOf patch b) payload → (w : Spelled pageSize start payload)
+        → read ≡ record { number = 0; kind = 1; page = pokes (pageOf pageSize base) (placed 0 (w .entries)) }
+    patch-slot-spelled = reads-spelled pageSize patch full b base page fits below
+
+    pub patch-slot-unspelled : Bytes patch → (payload : List ℕ) → PatchOf (slotOf patch b) payload → (read .number ≡ 7) ↔ (Spelled pageSize start payload → ⊥)
+    patch-slot-unspelled = reads-unspelled pageSize patch full b base page fits below
 
     pub full-slot : slotOf patch b ≡ fullSlot → b < places pageSize full → read ≡ record { number = 0; kind = 2; page = placeOf pageSize full b }
     full-slot = reads-full pageSize patch full b base page fits below
