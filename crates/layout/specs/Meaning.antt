@@ -59,7 +59,7 @@ module _ (p : List ℕ) (h : length p ≤ room) where
   patch-numbers g = slot-patch (patchSlot p) (patch-slot-length p h) kind-one ∙ rw (patch-is g, payload-length-of)
 
 -- and a slot by its numbers: one of the images, or unsound
-patch-image : (s : List ℕ) → isPatch s ≡ true → (1 ≤ length (payloadOf s)) × (length (payloadOf s) ≤ room) × (s ≡ patchSlot (payloadOf s))
+pub patch-image : (s : List ℕ) → isPatch s ≡ true → (1 ≤ length (payloadOf s)) × (length (payloadOf s) ≤ room) × (s ≡ patchSlot (payloadOf s))
 unfolding isPatch payloadOf
 patch-image s e =
     let n : ℕ = payloadLength s in
