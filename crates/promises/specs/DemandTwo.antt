@@ -3,8 +3,8 @@
 -- block. Reading back over the same base gives the written page; every sound slot from elsewhere reads as the layout says, unless its
 -- payload is unsound or its full page missing."
 --
--- `writeOutcome` and `readOutcome` are what the contracts of Write and Read cite; the other words are in `Words`. Any lists are areas,
--- bases and pages here, and any number is a block.
+-- `writeOutcome`, `readOutcome` and `Show` are what the contracts of Write, Read and Show cite; the other words are in `Words`. Any lists
+-- are areas, bases and pages here, and any number is a block.
 use Prim.Native.Nat.{ℕ, _≤_, _<_}
 use mathlib.Core.Path.{_≡_}
 use mathlib.Core.Bool.{true, false}
@@ -15,16 +15,21 @@ use lib.ListN.{length}
 use Rattle.span.specs.Bytes.{zeros}
 use Rattle.layout.specs.Sizes.{pageSize}
 use Rattle.layout.specs.Slots.{emptySlot, fullSlot}
-use Rattle.stream.specs.Entries.{payloadStream, sound, applied}
+use Rattle.stream.specs.Entries.{start, payloadStream, sound, applied}
 use Rattle.stream.specs.Calls.{pageOf}
+use Rattle.stream.specs.Spelling.{Spelled, Bytes}
+use Rattle.stream.specs.Writer.{placed}
+use Rattle.stream.specs.ReadBack.{pokes}
 use Rattle.store.specs.Frame.{slotOf, placeOf}
 use Rattle.store.specs.Read.{ReadOutcome, readOutcome}
 use Rattle.store.specs.Write.{WriteOutcome, writeOutcome}
-use Rattle.promises.specs.Words.{blocks, places, FrameFits, PatchOf, SoundSlot, Large, streamOf, Stored, WriteGives, ReadGives}
+use Rattle.store.specs.Show.{Show}
+use Rattle.promises.specs.Words.{blocks, places, FrameFits, PatchOf, SoundSlot, PatchFits, ShowsNothing, Large, streamOf, Stored, WriteGives, ReadGives}
 use Rattle.promises.specs.Tables.{write-table, read-table}
 use Rattle.promises.specs.StoreLaws.{write-stored}
-use Rattle.promises.specs.ReadLaws.{reads-empty, reads-patch, reads-unsound, reads-full, reads-missing, reads-sound, zero-bases}
+use Rattle.promises.specs.ReadLaws.{reads-empty, reads-patch, reads-unsound, reads-spelled, reads-unspelled, reads-full, reads-missing, reads-sound, zero-bases}
 use Rattle.promises.specs.WriteLaws.{write-length, kind-empty, kind-patch, kind-full, no-room, reads-back, others-read}
+use Rattle.promises.specs.ShowLaws.{shown-payload, nothing-shown}
 
 module _ (patch full : List ℕ) (b : ℕ) (base page : List ℕ) where
   abbrev pub written : WriteOutcome
@@ -88,6 +93,14 @@ module _ (patch full : List ℕ) (b : ℕ) (base page : List ℕ) where
         → read ≡ record { number = 7; kind = 0; page = page }
     patch-slot-7 = reads-unsound pageSize patch full b base page fits below
 
+    -- the same by the entries that spell the payload: each value at its entry's place over the base, and 7 where no entries spell it
+    pub patch-slot-spelled : (payload : List ℕ) → PatchOf (slotOf patch b) payload → (w : Spelled pageSize start payload)
+        → read ≡ record { number = 0; kind = 1; page = pokes (pageOf pageSize base) (placed 0 (w .entries)) }
+    patch-slot-spelled = reads-spelled pageSize patch full b base page fits below
+
+    pub patch-slot-unspelled : Bytes patch → (payload : List ℕ) → PatchOf (slotOf patch b) payload → (read .number ≡ 7) ↔ (Spelled pageSize start payload → ⊥)
+    patch-slot-unspelled = reads-unspelled pageSize patch full b base page fits below
+
     pub full-slot : slotOf patch b ≡ fullSlot → b < places pageSize full → read ≡ record { number = 0; kind = 2; page = placeOf pageSize full b }
     full-slot = reads-full pageSize patch full b base page fits below
 
@@ -97,6 +110,14 @@ module _ (patch full : List ℕ) (b : ℕ) (base page : List ℕ) where
     -- "unless its payload is unsound or its full page missing": no other number is given for a sound slot
     pub sound-slot : SoundSlot (slotOf patch b) → (read .number ≡ 0) ⊎ (read .number ≡ 7) ⊎ (read .number ≡ 8)
     sound-slot = reads-sound pageSize patch full b base page fits below
+
+-- Show hands out the payload of a sound PATCH, and otherwise an empty part
+module _ (patch : List ℕ) (b : ℕ) (shown : List ℕ) (call : Show pageSize patch b shown) where
+  pub shows-payload : PatchFits pageSize patch b → (payload : List ℕ) → PatchOf (slotOf patch b) payload → shown ≡ payload
+  shows-payload = shown-payload pageSize patch b shown call
+
+  pub shows-nothing : (shown ≡ []) ↔ ShowsNothing pageSize patch b
+  shows-nothing = nothing-shown pageSize patch b shown call
 
 -- a base of 0 bytes and one of 8,192 zeros are one base page
 pub zero-base : pageOf pageSize [] ≡ pageOf pageSize (zeros pageSize)

@@ -2,7 +2,7 @@
 use Prim.Native.Nat.{ℕ, _-_, _≤_}
 use native.Mathlib.Omega.{arith}
 use mathlib.Core.Path.{_≡_, refl, sym, _∙_}
-use mathlib.Core.Bool.{Bool, true, false, not, _&&_, _||_, cond, true≢false, or-true}
+use mathlib.Core.Bool.{Bool, true, false, not, _&&_, cond, true≢false}
 use mathlib.Core.Logic.{_⊎_, inl, inr, _↔_}
 use mathlib.Core.List.{List, [], _∷_}
 use lib.Dec.{eqb}
@@ -16,7 +16,7 @@ use Rattle.layout.specs.Headers.{patchHeader, fullHeader, headRows, patchHeadRo
 use Rattle.layout.specs.Areas.{patchFits, fullFits, lengthRows, patch-fits-is, full-fits-is}
 use Rattle.layout.specs.Meaning.{patch-header-length, head-none, head-like, headers-sound, sound-headers, fits-full}
 use Rattle.stream.specs.Calls.{pagesFit, pageRows}
-use Rattle.stream.specs.Laws.{page-length, base-length}
+use Rattle.stream.specs.Laws.{pages-fit, page-length, base-length}
 use Rattle.store.specs.Frame.{frameRows}
 use Rattle.promises.specs.Cells.{emptied, emptied-part, emptied-length, emptied-same}
 use Rattle.promises.specs.Words.{blocks, PagesFit, LengthsFit, HeadersFit, HeadRefuses, magic, version, rest, FrameRefuses, pages, lengths, patch-head, full-head, FrameFits, SameFrame}
@@ -37,19 +37,14 @@ tells-same : (xs ys : List ℕ) → Tells (same xs ys) (xs ≡ ys)
 tells-same xs ys = (same-is xs ys, same-true xs ys)
 
 tells-pages : (P : ℕ) (base page : List ℕ) → Tells (pagesFit P base page) (PagesFit P base page)
-unfolding pagesFit
-tells-pages P base page = (there, λ h. rw (eq-eqb (length page) P (h .page-length)) (back (h .base-length)))
+tells-pages P base page = (
+  λ e. record { base-length = go e (eqb (length base) 0) refl; page-length = page-length P base page e },
+  λ h. pages-fit P base page (h .base-length) (h .page-length),
+)
   where
-    there : ((eqb (length base) 0 || eqb (length base) P) && eqb (length page) P) ≡ true → PagesFit P base page
-    there e = record { base-length = go (eqb (length base) 0) refl; page-length = page-length P base page e }
-      where
-        go : (t : Bool) → eqb (length base) 0 ≡ t → (length base ≡ 0) ⊎ (length base ≡ P)
-        go true q = inl (eqb-true (length base) 0 q)
-        go false q = inr (base-length P base page e (eqb-false (length base) 0 q))
-
-    back : (length base ≡ 0) ⊎ (length base ≡ P) → ((eqb (length base) 0 || eqb (length base) P) && true) ≡ true
-    back (inl q) = rw (eq-eqb (length base) 0 q)
-    back (inr q) = rw (eq-eqb (length base) P q, or-true (eqb (length base) 0))
+    go : pagesFit P base page ≡ true → (t : Bool) → eqb (length base) 0 ≡ t → (length base ≡ 0) ⊎ (length base ≡ P)
+    go e true q = inl (eqb-true (length base) 0 q)
+    go e false q = inr (base-length P base page e (eqb-false (length base) 0 q))
 
 -- the test of both lengths
 abbrev pub lengthsFit : ℕ → List ℕ → List ℕ → Bool

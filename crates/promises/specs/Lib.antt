@@ -7,6 +7,7 @@ pub mod Tables
 pub mod StoreLaws
 pub mod ReadLaws
 pub mod WriteLaws
+pub mod ShowLaws
 pub mod DemandTwo
 pub mod RunWords
 pub mod RunStore

@@ -4,19 +4,23 @@ use native.Mathlib.Omega.{arith}
 use native.Mathlib.Decide.{decLt}
 use mathlib.Core.Path.{_≡_, refl, sym, ap, _∙_}
 use mathlib.Core.Bool.{Bool, true, false}
-use mathlib.Core.Logic.{_⊎_, inl, inr}
+use mathlib.Core.Logic.{_↔_, _⊎_, inl, inr}
 use mathlib.Core.List.{List, []}
 use lib.ListN.{length}
 use Rattle.span.specs.Bytes.{zeros}
+use Rattle.layout.specs.Sizes.{slotSize, slotAt}
 use Rattle.layout.specs.Refusals.{firstOf, decided-done, decided-refused}
 use Rattle.layout.specs.Slots.{emptySlot, fullSlot, SlotNumbers, soundSlot, slotNumbers}
 use Rattle.layout.specs.Meaning.{empty-numbers, full-numbers}
-use Rattle.stream.specs.Entries.{payloadStream, sound, applied}
+use Rattle.stream.specs.Entries.{start, payloadStream, sound, applied}
 use Rattle.stream.specs.Calls.{pageOf}
 use Rattle.stream.specs.Laws.{base-none, base-some}
-use Rattle.stream.specs.ReadBack.{Back, read-back}
+use Rattle.stream.specs.Spelling.{Spelled, Bytes, bytes-part, payload-bytes, spelled-sound, sound-spelled}
+use Rattle.stream.specs.Writer.{placed}
+use Rattle.stream.specs.ReadBack.{pokes, Back, read-back}
+use Rattle.stream.specs.Landing.{spelled-lands}
 use Rattle.store.specs.Frame.{slotOf, placeOf}
-use Rattle.store.specs.Read.{readRows, contents, readOutcome}
+use Rattle.store.specs.Read.{readRows, contents, ReadOutcome, readOutcome}
 use Rattle.promises.specs.Words.{blocks, places, PagesFit, FrameFits, PatchOf, SoundSlot, Large, streamOf, StoredAs, Readable, ReadGives}
 use Rattle.promises.specs.SlotLaws.{patch-of}
 use Rattle.promises.specs.Tables.{read-number, read-table}
@@ -55,6 +59,30 @@ module _ (P : ℕ) (patch full : List ℕ) (b : ℕ) (base page : List ℕ) wher
     pub reads-unsound : (payload : List ℕ) → PatchOf (slotOf patch b) payload → sound P payload ≡ false
         → readOutcome P patch full b base page ≡ record { number = 7; kind = 0; page = page }
     reads-unsound payload p u = read-not 7 (gives 7 (ReadGives.payload fits below payload p u)) (λ z. omega arith)
+
+    -- a payload by the entries that spell it, in an area of bytes
+    pub reads-spelled : (payload : List ℕ) → PatchOf (slotOf patch b) payload → (w : Spelled P start payload)
+        → readOutcome P patch full b base page ≡ record { number = 0; kind = 1; page = pokes (pageOf P base) (placed 0 (w .entries)) }
+    reads-spelled payload p w =
+        reads-patch payload p (spelled-sound P payload (p .some) (p .room-for) w)
+        ∙ ap (λ (l : List ℕ). record { number = 0; kind = 1; page = l }) (spelled-lands P payload w .page (pageOf P base))
+
+    pub reads-unspelled : Bytes patch → (payload : List ℕ) → PatchOf (slotOf patch b) payload
+        → (readOutcome P patch full b base page .number ≡ 7) ↔ (Spelled P start payload → ⊥)
+    unfolding slotOf
+    reads-unspelled h payload p = (
+      λ e w.
+          let z : readOutcome P patch full b base page .number ≡ 0 = ap (λ (o : ReadOutcome). o .number) (reads-spelled payload p w) in
+          omega arith,
+      λ n. go (sound P payload) refl n,
+    )
+      where
+        bytes : Bytes payload
+        bytes = payload-bytes (slotOf patch b) payload (bytes-part (slotAt b) slotSize patch h) (p .image) (p .room-for)
+
+        go : (t : Bool) → sound P payload ≡ t → (Spelled P start payload → ⊥) → readOutcome P patch full b base page .number ≡ 7
+        go true u n = absurd (n (sound-spelled P payload bytes .0 u .2))
+        go false u n = gives 7 (ReadGives.payload fits below payload p u)
 
     pub reads-full : slotOf patch b ≡ fullSlot → b < places P full → readOutcome P patch full b base page ≡ record { number = 0; kind = 2; page = placeOf P full b }
     unfolding contents

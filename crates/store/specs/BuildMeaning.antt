@@ -1,28 +1,30 @@
 -- What Build promises, said again without its rows and without its recursion. First the definitions, then the promises (`BlockMeans`,
--- `BuildMeans`), then the theorems that a block and a call keep them.
+-- `BuildMeans`), then the theorems that a block and a call keep them. `BlockGives` and `BuildGives` say it once more of an area of bytes, as
+-- iffs, with payloads told by the entries that spell them and no test of a definition in them.
 use Prim.Native.Nat.{ℕ, zero, suc, _*_, _≤_, _<_}
 use native.Mathlib.Omega.{arith}
 use native.Mathlib.Decide.{decLt}
-use mathlib.Core.Path.{_≡_, refl, sym, ap, _∙_}
+use mathlib.Core.Path.{_≡_, refl, sym, ap, _∙_, subst}
 use mathlib.Core.Logic.{_↔_, _⊎_, inl, inr}
-use mathlib.Core.Bool.{Bool, true, false, not, _&&_}
+use mathlib.Core.Bool.{Bool, true, false, not, _&&_, true≢false}
 use mathlib.Core.List.{List}
 use lib.Dec.{eqb, leb}
 use lib.ListN.{length, getD}
 use borrow.Author.Tests.{le-ltb, leb-true}
 use Rattle.span.specs.Bytes.{zeros, part, same, splice}
-use Rattle.span.specs.Laws.{same-is, same-true, same-false, and-left, and-right}
-use Rattle.layout.specs.Sizes.{blocksAtMost, patchHead, fullHead, room, slotAt, pageAt}
+use Rattle.span.specs.Laws.{same-is, same-true, same-false, differ-is, and-left, and-right}
+use Rattle.layout.specs.Sizes.{blocksAtMost, patchHead, fullHead, slotSize, room, slotAt, pageAt}
 use Rattle.layout.specs.Numbers.{refusalNumber, refusal-one, refusal-some}
 use Rattle.layout.specs.Refusals.{firstOf, orElse}
 use Rattle.layout.specs.Headers.{patchHeader, fullHeader}
 use Rattle.layout.specs.Areas.{blocksIn, pagesIn, patchFits, fullFits, lengthRows, patch-fits-is, full-fits-is, patch-fits}
-use Rattle.layout.specs.Slots.{SlotNumbers, slotNumbers, soundSlot, emptySlot, patchSlot, fullSlot, payloadOf}
+use Rattle.layout.specs.Slots.{SlotNumbers, slotNumbers, soundSlot, unsoundSlot, emptySlot, patchSlot, fullSlot, payloadOf}
 use Rattle.layout.specs.declared.Refusal.{Refusal}
-use Rattle.stream.specs.Entries.{sound}
-use Rattle.blockmap.specs.Pairs.{mapBytes, pairAt, pairs}
+use Rattle.stream.specs.Entries.{start, sound}
+use Rattle.stream.specs.Spelling.{Spelled, Bytes, bytes-part, payload-bytes, spelled-sound, sound-spelled}
+use Rattle.blockmap.specs.Pairs.{mapBytes, pairAt, pairs, patchPair, fullPair}
 use Rattle.blockmap.specs.Pack.{pairOf}
-use Rattle.blockmap.specs.Meaning.{upTo, keep}
+use Rattle.blockmap.specs.Meaning.{upTo, keep, blocksWith, pairs-count, JustThose, HasPair, blocks-with}
 use Rattle.blockmap.specs.Calls.{TalliedNumbers, tallyNumbers, Tally}
 use Rattle.blockmap.specs.CallLaws.{tally-done}
 use Rattle.store.specs.Frame.{slotOf, placeOf, frameRows}
@@ -99,6 +101,49 @@ pub record BuildMeans (P : ℕ) (patch full map : List ℕ) (answer : Built) (ma
   pub size : length map′ ≡ length map
   -- what Tally says of the map
   pub tally : answer ≡ Done → tallyNumbers P map′ (blocksIn (length patch)) ≡ record { number = 0; patch = slotsOf 1 patch; full = slotsOf 2 patch }
+
+-- The same with payloads told by their entries
+
+-- a sound slot that wants no place in the full area
+pub data Placeless (P : ℕ) (s : List ℕ) : Type 0 where
+  blank : s ≡ emptySlot → Placeless P s
+  spelt : (payload : List ℕ) → Fits payload → s ≡ patchSlot payload → Spelled P start payload → Placeless P s
+
+-- a block's number, and just when: its first fault in the order 6, 8, 7, 10, and 0 where it has none
+pub data BlockGives (P : ℕ) (patch full : List ℕ) (b : ℕ) : ℕ → Type 0 where
+  -- the slot is none of the sound ones
+  slot-6 : (slotOf patch b ≡ emptySlot → ⊥) → ((payload : List ℕ) → Fits payload → slotOf patch b ≡ patchSlot payload → ⊥) → (slotOf patch b ≡ fullSlot → ⊥)
+      → BlockGives P patch full b 6
+  -- FULL_REF, and not below m
+  page-8 : slotOf patch b ≡ fullSlot → pagesIn P (length full) ≤ b → BlockGives P patch full b 8
+  -- PATCH of a payload that no entries spell
+  payload-7 : (payload : List ℕ) → Fits payload → slotOf patch b ≡ patchSlot payload → (Spelled P start payload → ⊥) → BlockGives P patch full b 7
+  -- none of these and not FULL_REF, and its place lies in the full area and is not zero
+  place-10 : Placeless P (slotOf patch b) → b < pagesIn P (length full) → (placeOf P full b ≡ zeros P → ⊥) → BlockGives P patch full b 10
+  placeless-0 : Placeless P (slotOf patch b) → CleanPlace P full b → BlockGives P patch full b 0
+  full-0 : slotOf patch b ≡ fullSlot → b < pagesIn P (length full) → BlockGives P patch full b 0
+
+-- the blocks with a PATCH, and with a FULL_REF slot
+abbrev pub IsPatch : List ℕ → ℕ → Type 0
+IsPatch patch b = (b < blocksIn (length patch)) × ((payload : List ℕ) × Fits payload × (slotOf patch b ≡ patchSlot payload))
+
+abbrev pub IsFull : List ℕ → ℕ → Type 0
+IsFull patch b = (b < blocksIn (length patch)) × (slotOf patch b ≡ fullSlot)
+
+-- Tally's numbers are the lengths of the lists of just those blocks, in rising order
+pub record Tallies (P : ℕ) (patch map : List ℕ) : Type 0 where
+  pub patches : List ℕ
+  pub fulls : List ℕ
+  pub just-patches : JustThose (IsPatch patch) patches
+  pub just-fulls : JustThose (IsFull patch) fulls
+  pub numbers : tallyNumbers P map (blocksIn (length patch)) ≡ record { number = 0; patch = length patches; full = length fulls }
+
+pub record BuildGives (P : ℕ) (patch full map : List ℕ) (answer : Built) (map′ : List ℕ) : Type 0 where
+  pub accepts : (answer ≡ Done) ↔ (SoundFrame P patch full map × ((b : ℕ) → b < blocksIn (length patch) → BlockGives P patch full b 0))
+  -- the lowest block that gives another number than 0
+  pub refuses : SoundFrame P patch full map → (r : Refusal) (b : ℕ)
+      → (answer ≡ Refused r b) ↔ ((b < blocksIn (length patch)) × BlockGives P patch full b (refusalNumber r) × ((i : ℕ) → i < b → BlockGives P patch full i 0))
+  pub tally : answer ≡ Done → Tallies P patch map′
 
 -- One block
 
@@ -187,6 +232,78 @@ module _ (P : ℕ) (patch full : List ℕ) (b : ℕ) where
         payload = λ p f e h. block-payload P patch full b (length p) (is-patch p f e) (judged p f e ∙ h);
         place = placed;
       }
+
+-- in an area of bytes
+module _ (P : ℕ) (patch full : List ℕ) (bytes : Bytes patch) (b : ℕ) where
+  payload-of-bytes : (payload : List ℕ) → Fits payload → slotOf patch b ≡ patchSlot payload → Bytes payload
+  unfolding slotOf
+  payload-of-bytes payload f e = payload-bytes (slotOf patch b) payload (bytes-part (slotAt b) slotSize patch bytes) e (f .1)
+
+  unspelled : (payload : List ℕ) → Fits payload → slotOf patch b ≡ patchSlot payload → (Spelled P start payload → ⊥) → sound P payload ≡ false
+  unspelled payload f e n = go (sound P payload) refl
+    where
+      go : (t : Bool) → sound P payload ≡ t → sound P payload ≡ false
+      go true q = absurd (n (sound-spelled P payload (payload-of-bytes payload f e) .0 q .2))
+      go false q = q
+
+  gives-fault : {k : ℕ} → BlockGives P patch full b k → blockFault P patch full b ≡ k
+  gives-fault (slot-6 e f g) = block-means P patch full b .slot e f g
+  gives-fault (page-8 e l) = block-means P patch full b .page e l
+  gives-fault (payload-7 p f e n) = block-means P patch full b .payload p f e (unspelled p f e n)
+  gives-fault (place-10 (blank e) l h) = block-means P patch full b .place (inl e) l h
+  gives-fault (place-10 (spelt p f e w) l h) = block-means P patch full b .place (inr (p, e, spelled-sound P p (f .0) (f .1) w)) l h
+  gives-fault (placeless-0 (blank e) c) = sound-zero P patch full b (empty e c)
+  gives-fault (placeless-0 (spelt p f e w) c) = sound-zero P patch full b (patched p e (spelled-sound P p (f .0) (f .1) w) c)
+  gives-fault (full-0 e l) = sound-zero P patch full b (whole e l)
+
+  strays-give : Placeless P (slotOf patch b) → BlockGives P patch full b (straysIn P full b)
+  strays-give p =
+      elim (decLt b (pagesIn P (length full))) [
+        | yes l ↦ go (same (placeOf P full b) (zeros P)) refl l
+        | no l ↦ rw (no-place P full b (omega arith)) (placeless-0 p (λ h. absurd (omega arith)))
+      ]
+    where
+      go : (t : Bool) → same (placeOf P full b) (zeros P) ≡ t → b < pagesIn P (length full) → BlockGives P patch full b (straysIn P full b)
+      go true q l = rw (clean-place P full b q) (placeless-0 p (λ _. same-is (placeOf P full b) (zeros P) q))
+      go false q l = rw (stray-place P full b l q) (place-10 p l (differ-is (placeOf P full b) (zeros P) q))
+
+  fault-gives : BlockGives P patch full b (blockFault P patch full b)
+  fault-gives =
+      by-image (slotOf patch b)
+      (λ e. rw (block-empty P patch full b (is-empty P patch full b e)) (strays-give (blank e)))
+      (λ g h e. paid (sound P (payloadOf (slotOf patch b))) refl (g, h) e (is-patch P patch full b (payloadOf (slotOf patch b)) (g, h) e))
+      (λ e.
+      elim (decLt b (pagesIn P (length full))) [
+        | yes l ↦ rw (block-full P patch full b (is-full P patch full b e) l) (full-0 e l)
+        | no l ↦ rw (block-full-none P patch full b (is-full P patch full b e) (omega arith)) (page-8 e (omega arith))
+      ])
+      (λ e.
+      rw (block-unsound P patch full b e)
+      (slot-6 (λ q. apart e (is-empty P patch full b q)) (λ p f q. apart e (is-patch P patch full b p f q)) (λ q. apart e (is-full P patch full b q))))
+    where
+      apart : {k n : ℕ} → slotNumbers (slotOf patch b) ≡ unsoundSlot → slotNumbers (slotOf patch b) ≡ soundSlot k n → ⊥
+      apart e q =
+          let z : _≡_ {A = ℕ} 6 0 = ap (λ (x : SlotNumbers). x .number) (sym e ∙ q) in
+          omega arith
+
+      paid : (t : Bool) → sound P (payloadOf (slotOf patch b)) ≡ t → Fits (payloadOf (slotOf patch b)) → slotOf patch b ≡ patchSlot (payloadOf (slotOf patch b))
+          → slotNumbers (slotOf patch b) ≡ soundSlot 1 (length (payloadOf (slotOf patch b))) → BlockGives P patch full b (blockFault P patch full b)
+      paid true q f e n =
+          let p : List ℕ = payloadOf (slotOf patch b) in
+          rw (block-patch P patch full b (length p) n q) (strays-give (spelt p f e (sound-spelled P p (payload-of-bytes p f e) .0 q .2)))
+      paid false q f e n =
+          let p : List ℕ = payloadOf (slotOf patch b) in
+          rw (block-payload P patch full b (length p) n q) (payload-7 p f e (λ w. true≢false (sym (spelled-sound P p (f .0) (f .1) w) ∙ q)))
+
+  pub block-gives : (k : ℕ) → (blockFault P patch full b ≡ k) ↔ BlockGives P patch full b k
+  block-gives k = (λ e. subst (λ (j : ℕ). BlockGives P patch full b j) e fault-gives, λ g. gives-fault g)
+
+  -- and so 0 just where the block is sound
+  gives-sound : BlockGives P patch full b 0 → SoundBlock P patch full b
+  gives-sound g = zero-sound P patch full b (gives-fault g)
+
+  sound-gives : SoundBlock P patch full b → BlockGives P patch full b 0
+  sound-gives s = block-gives 0 .0 (sound-zero P patch full b s)
 
 -- The frame
 
@@ -334,4 +451,67 @@ module _ (P : ℕ) (patch full map : List ℕ) (answer : Built) (map′ : List �
         later = later-bytes answer refl;
         size = same-size answer refl;
         tally = tallied;
+      }
+
+  module _ (e : answer ≡ Done) where
+    patch-pair : (b : ℕ) → HasPair patchPair map′ (blocksIn (length patch)) b ↔ IsPatch patch b
+    patch-pair b = (λ h. (h .0, go (h .0) (h .1) (accepted e .1 b (h .0))), λ h. (h .0, build-means .patches e b (h .0) (h .1 .0) (h .1 .1) (h .1 .2)))
+      where
+        go : b < blocksIn (length patch) → pairAt map′ b ≡ patchPair → SoundBlock P patch full b → (payload : List ℕ) × Fits payload × (slotOf patch b ≡ patchSlot payload)
+        go h k (empty q c) = absurd (omega (arith, k, build-means .empties e b h q))
+        go h k (patched p q s c) = (p, fits P p s, q)
+        go h k (whole q l) = absurd (omega (arith, k, build-means .wholes e b h q))
+
+    full-pair : (b : ℕ) → HasPair fullPair map′ (blocksIn (length patch)) b ↔ IsFull patch b
+    full-pair b = (λ h. (h .0, go (h .0) (h .1) (accepted e .1 b (h .0))), λ h. (h .0, build-means .wholes e b (h .0) (h .1)))
+      where
+        go : b < blocksIn (length patch) → pairAt map′ b ≡ fullPair → SoundBlock P patch full b → slotOf patch b ≡ fullSlot
+        go h k (empty q c) = absurd (omega (arith, k, build-means .empties e b h q))
+        go h k (patched p q s c) = absurd (omega (arith, k, build-means .patches e b h p (fits P p s) q))
+        go h k (whole q l) = q
+
+    -- the blocks of a pair, told another way
+    just : (v : ℕ) {those : ℕ → Type 0} → ((b : ℕ) → HasPair v map′ (blocksIn (length patch)) b ↔ those b) → JustThose those (blocksWith v map′ (blocksIn (length patch)))
+    just v f =
+        let j : JustThose (HasPair v map′ (blocksIn (length patch))) (blocksWith v map′ (blocksIn (length patch))) = blocks-with v map′ (blocksIn (length patch)) in
+        record { rising = j .rising; members = λ b. (λ i. f b .0 (j .members b .0 i), λ h. j .members b .1 (f b .1 h)) }
+
+    counted : Tallies P patch map′
+    unfolding slotsOf
+    counted =
+        let n : ℕ = blocksIn (length patch) in
+        let l : mapBytes n ≤ length map = long-enough e in
+        let p : slotsOf 1 patch ≡ length (blocksWith patchPair map′ n) =
+        sym (built-patches patch map l) ∙ ap (λ (x : List ℕ). pairs patchPair x n) (sym (map-is e)) ∙ pairs-count patchPair map′ n in
+        let f : slotsOf 2 patch ≡ length (blocksWith fullPair map′ n) =
+        sym (built-fulls patch map l) ∙ ap (λ (x : List ℕ). pairs fullPair x n) (sym (map-is e)) ∙ pairs-count fullPair map′ n in
+        record {
+          patches = blocksWith patchPair map′ n;
+          fulls = blocksWith fullPair map′ n;
+          just-patches = just patchPair patch-pair;
+          just-fulls = just fullPair full-pair;
+          numbers = tallied e ∙ (λ i. record { number = 0; patch = p i; full = f i });
+        }
+
+  pub build-gives : Bytes patch → BuildGives P patch full map answer map′
+  build-gives bytes =
+      record {
+        accepts = (
+          λ e. (accepted e .0, λ b h. sound-gives P patch full bytes b (accepted e .1 b h)),
+          λ g. accepting (g .0, λ b h. gives-sound P patch full bytes b (g .1 b h)),
+        );
+        refuses =
+            λ s r b. (
+              λ e.
+                  let l : Lowest P patch full b (refusalNumber r) = refused s r b e in
+                  (l .below, block-gives P patch full bytes b (refusalNumber r) .0 (l .fault), λ i h. sound-gives P patch full bytes i (l .lower i h)),
+              λ g.
+                  refusing s r b
+                  (record {
+                    below = g .0;
+                    fault = block-gives P patch full bytes b (refusalNumber r) .1 (g .1);
+                    lower = λ i h. gives-sound P patch full bytes i (g .2 i h);
+                  }),
+            );
+        tally = counted;
       }

@@ -2,8 +2,9 @@
 use Prim.Native.Nat.{ℕ, zero, suc, _<_, _≤_}
 use native.Mathlib.Omega.{arith}
 use mathlib.Core.Path.{_≡_, refl, sym, ap, _∙_, subst}
-use mathlib.Core.Bool.{Bool, true, false, not, cond, _&&_, _||_, and-true, and-false, true≢false, false≢true}
+use mathlib.Core.Bool.{Bool, true, false, not, cond, _&&_, _||_, and-true, and-false, or-true, true≢false, false≢true}
 use mathlib.Core.List.{List, [], _∷_, _++_}
+use mathlib.Core.Logic.{_⊎_, inl, inr}
 use lib.Dec.{eqb, leb, ltb}
 use lib.ListN.{length}
 use lib.IntN.{ℤ, pos}
@@ -34,6 +35,11 @@ fits-none P base page h k = rw (eq-eqb (length base) 0 k, eq-eqb (length page) P
 pub fits-some : (P : ℕ) (base page : List ℕ) → length page ≡ P → (length base ≡ 0 → ⊥) → pagesFit P base page ≡ eqb (length base) P
 unfolding pagesFit
 fits-some P base page h k = rw (ne-eqb (length base) 0 k) (ap (λ (t : Bool). eqb (length base) P && t) (eq-eqb (length page) P h) ∙ and-true (eqb (length base) P))
+
+pub pages-fit : (P : ℕ) (base page : List ℕ) → (length base ≡ 0) ⊎ (length base ≡ P) → length page ≡ P → pagesFit P base page ≡ true
+unfolding pagesFit
+pages-fit P base page (inl k) h = fits-none P base page h k
+pages-fit P base page (inr k) h = rw (eq-eqb (length page) P h, eq-eqb (length base) P k, or-true (eqb (length base) 0))
 
 pub page-length : (P : ℕ) (base page : List ℕ) → pagesFit P base page ≡ true → length page ≡ P
 unfolding pagesFit

@@ -9,5 +9,6 @@ pub mod StreamLaws
 pub mod Spelling
 pub mod Writer
 pub mod ReadBack
+pub mod Landing
 pub mod Kinds
 pub mod Wrong

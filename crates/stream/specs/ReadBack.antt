@@ -24,7 +24,7 @@ before-next at =
     let e : at + 1 - 1 ≡ at = omega arith in
     rw (le-ltb (at + 1) 1 (omega arith)) (ap pos e)
 
-moved : (next j : ℕ) → before next +ℤ pos (j + 1) ≡ pos (next + j)
+pub moved : (next j : ℕ) → before next +ℤ pos (j + 1) ≡ pos (next + j)
 moved zero j =
     let e : j + 1 - 1 ≡ 0 + j = omega arith in
     rw (le-ltb (j + 1) 1 (omega arith)) (ap pos e)

@@ -7,11 +7,14 @@ use mathlib.Core.Bool.{Bool, true, false, false≢true}
 use mathlib.Core.List.{List, [], _∷_, _++_}
 use mathlib.Core.Logic.{_↔_, _⊎_, inl, inr}
 use lib.Dec.{eqb}
-use lib.ListN.{length}
+use lib.ListN.{length, take, drop}
 use lib.IntN.{ℤ, pos, negsuc, _+ℤ_}
 use borrow.Author.Tests.{eqb-true, eqb-false, lt-ltb, ltb-true}
-use Rattle.layout.specs.Sizes.{room}
+use Rattle.span.specs.Bytes.{part}
+use Rattle.layout.specs.Sizes.{payloadAt, room}
 use Rattle.layout.specs.Numbers.{le}
+use Rattle.layout.specs.Slots.{patchSlot, payloadLength, payloadOf}
+use Rattle.layout.specs.Meaning.{payload-of}
 use Rattle.stream.specs.Entries.{Stream, done, cut, out, entry, code, low, high, value, inPage, stream, start, payloadStream, whole, sound}
 use Rattle.stream.specs.StreamLaws.{code-short, code-long, value-is, short-in, long-in, Parts, sound-parts, parts-sound}
 
@@ -63,6 +66,25 @@ pub record Spelled (n : ℕ) (p : ℤ) (payload : List ℕ) : Type 0 where
 abbrev pub Bytes : List ℕ → Type 0
 Bytes [] = Unit {0}
 Bytes (b ∷ bs) = (b < 256) × Bytes bs
+
+-- a part of bytes is bytes, and so is the payload of a slot of bytes
+bytes-take : (n : ℕ) (bs : List ℕ) → Bytes bs → Bytes (take n bs)
+bytes-take zero bs h = tt {0}
+bytes-take (suc n) [] h = tt {0}
+bytes-take (suc n) (b ∷ bs) h = (h .0, bytes-take n bs (h .1))
+
+bytes-drop : (n : ℕ) (bs : List ℕ) → Bytes bs → Bytes (drop n bs)
+bytes-drop zero bs h = h
+bytes-drop (suc n) [] h = tt {0}
+bytes-drop (suc n) (b ∷ bs) h = bytes-drop n bs (h .1)
+
+pub bytes-part : (at n : ℕ) (bs : List ℕ) → Bytes bs → Bytes (part at n bs)
+unfolding part
+bytes-part at n bs h = bytes-take n (drop at bs) (bytes-drop at bs h)
+
+pub payload-bytes : (s payload : List ℕ) → Bytes s → s ≡ patchSlot payload → length payload ≤ room → Bytes payload
+unfolding payloadOf
+payload-bytes s payload h e l = subst (λ (x : List ℕ). Bytes x) (ap payloadOf e ∙ payload-of payload l) (bytes-part payloadAt (payloadLength s) s h)
 
 -- an entry takes 2 or 4 bytes
 pub width : (f : Form) (jump v : ℕ) → (length (bytes f jump v) ≡ 2) ⊎ (length (bytes f jump v) ≡ 4)
@@ -173,17 +195,20 @@ module _ (n : ℕ) where
       go false e near far = short-case b v (c ∷ d ∷ bs) p (eqb-false b 255 e) (h .0) near w
 
 -- a payload is sound iff it has 1 to 504 bytes, and some entries spell it whose positions stay in the page
+pub spelled-sound : (n : ℕ) (payload : List ℕ) → 1 ≤ length payload → length payload ≤ room → Spelled n start payload → sound n payload ≡ true
+spelled-sound n payload some few s =
+    parts-sound n payload
+    (record {
+      some = some;
+      few = few;
+      wholly = ap (λ (l : List ℕ). whole (stream n start code l)) (s .spells) ∙ spelled-whole n (s .entries) start (s .coded) (s .stays);
+    })
+
 pub sound-spelled : (n : ℕ) (payload : List ℕ) → Bytes payload
     → (sound n payload ≡ true) ↔ ((1 ≤ length payload) × (length payload ≤ room) × Spelled n start payload)
 sound-spelled n payload h = (
   λ s.
       let p : Parts n payload = sound-parts n payload s in
       (p .some, p .few, whole-spelled n payload start h (p .wholly)),
-  λ s.
-      parts-sound n payload
-      (record {
-        some = s .0;
-        few = s .1;
-        wholly = ap (λ (l : List ℕ). whole (stream n start code l)) (s .2 .spells) ∙ spelled-whole n (s .2 .entries) start (s .2 .coded) (s .2 .stays);
-      }),
+  λ s. spelled-sound n payload (s .0) (s .1) (s .2),
 )
