@@ -22,12 +22,11 @@ use Rattle.store.specs.declared.Built.the-variants.{Done, Refused}
 unfoldable pub placeRows : ℕ → List ℕ → List ℕ → ℕ → List Row
 placeRows P s full b = (10 ⇐ not (eqb (slotNumbers s .kind) 2) && (ltb b (pagesIn P (length full)) && not (same (placeOf P full b) (zeros P)))) ∷ []
 
--- what is wrong with one block
-unfoldable pub blockFault : ℕ → List ℕ → List ℕ → ℕ → ℕ
-blockFault P patch full b =
+-- what may be wrong with one block, and what is
+abbrev pub faultRows : ℕ → List ℕ → List ℕ → ℕ → List Row
+faultRows P patch full b =
     let s = slotOf patch b in
-    firstOf
-    (ordered
+    ordered
     (record {
       pages = [];
       lengths = [];
@@ -39,7 +38,10 @@ blockFault P patch full b =
       payload = payloadRows P s;
       place = placeRows P s full b;
       pair = [];
-    }))
+    })
+
+unfoldable pub blockFault : ℕ → List ℕ → List ℕ → ℕ → ℕ
+blockFault P patch full b = firstOf (faultRows P patch full b)
 
 pub record BlockFault : Type 0 where
   pub number : ℕ

@@ -10,4 +10,5 @@ pub mod Spelling
 pub mod Writer
 pub mod ReadBack
 pub mod Kinds
+pub mod Given
 pub mod Wrong
