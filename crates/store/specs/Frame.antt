@@ -66,14 +66,10 @@ module _ (P : ℕ) (patch full : List ℕ) where
   unfolding frameRows frameNumber firstOf lengthRows
   frame-is a b = refl
 
-  -- a call without pages, or without a buffer, has nothing of theirs to refuse
+  -- a call without a buffer has no short one
   pub frame-pages : (a : Bool) → firstOf (frameRows P ((1 ⇐ not a) ∷ []) [] patch full) ≡ firstOf (frameRows P ((1 ⇐ not a) ∷ []) ((9 ⇐ not true) ∷ []) patch full)
   unfolding frameRows firstOf orElse lengthRows
   frame-pages a = refl
-
-  pub frame-buffer : (b : Bool) → firstOf (frameRows P [] ((9 ⇐ not b) ∷ []) patch full) ≡ firstOf (frameRows P ((1 ⇐ not true) ∷ []) ((9 ⇐ not b) ∷ []) patch full)
-  unfolding frameRows firstOf orElse
-  frame-buffer b = refl
 
   -- a frame that is sound has sound lengths and headers
   pub frame-sound : (a b : Bool) → frameNumber a (lengthsFit P patch full) b (firstOf (headerRows P patch full)) ≡ 0
@@ -124,7 +120,6 @@ pub record Sound (P : ℕ) (patch full base page : List ℕ) : Type 0 where
   pub base-size : (length base ≡ 0 → ⊥) → length base ≡ P
   pub patch-fit : patchFits P (length patch) ≡ true
   pub full-fit : fullFits P (blocksIn (length patch)) (length full) ≡ true
-  pub heads : firstOf (headerRows P patch full) ≡ 0
 
 pub sound-frame : (P : ℕ) (patch full base page : List ℕ) → firstOf (frameRows P (pageRows P base page) [] patch full) ≡ 0 → Sound P patch full base page
 sound-frame P patch full base page e =
@@ -134,5 +129,4 @@ sound-frame P patch full base page e =
       base-size = base-length P base page (f .0);
       patch-fit = and-left (patchFits P (length patch)) (fullFits P (blocksIn (length patch)) (length full)) (f .1);
       full-fit = and-right (patchFits P (length patch)) (fullFits P (blocksIn (length patch)) (length full)) (f .1);
-      heads = f .3;
     }

@@ -133,9 +133,6 @@ pub near-is : (page : List ℕ) → length page ≤ farthest → near page ≡ p
 unfolding part
 near-is page h = take-all farthest page h
 
-pub reach-is : (n : ℕ) → n ≤ farthest → reach n ≡ n
-reach-is n h = omega arith
-
 pub differs-near : (base page room₀ after : List ℕ) (d : Difference) → length page ≤ farthest → Differs base (near page) room₀ d after → Differs base page room₀ d after
 differs-near base page room₀ after d h w = subst (λ (l : List ℕ). Differs base l room₀ d after) (near-is page h) w
 
