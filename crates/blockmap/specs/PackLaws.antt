@@ -5,17 +5,13 @@ use native.Mathlib.Nat.{div-one, div-div-eq-div-mul, div-add-mod, mod-mod, mod-e
 use native.Mathlib.Numerals.{add-one}
 use native.Mathlib.Decide.{decLt}
 use mathlib.Core.Path.{_≡_, refl, sym, ap, _∙_}
-use mathlib.Core.Logic.{inl, inr}
-use mathlib.Core.Bool.{Bool, true, false}
 use mathlib.Core.List.{List, [], _∷_, _++_}
-use lib.Dec.{eqb}
 use lib.ListN.{length, getD, length-append, List·getD-append, List·getD-eq-default}
 use lib.Seq.{getD-at}
 use borrow.Author.Tests.{lt-ltb, le-ltb}
 use Rattle.span.specs.Laws.{ext}
-use Rattle.blockmap.specs.Pairs.{mapBytes, pairAt, pairs, reservedPair, badPairs}
+use Rattle.blockmap.specs.Pairs.{mapBytes, pairAt, reservedPair}
 use Rattle.blockmap.specs.PairLaws.{pair-in}
-use Rattle.blockmap.specs.Meaning.{upTo, keep, keep-same, up-to-below, blocksWith, pairs-count, BadPair, bad-iff}
 use Rattle.blockmap.specs.Pack.{pairOf, byteOf, pairIn, packedByte, packedFirst, packed}
 
 -- Kinds

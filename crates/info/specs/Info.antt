@@ -11,8 +11,8 @@ use borrow.Author.Tests.{eq-eqb, ne-eqb}
 use Rattle.span.specs.Bytes.{part}
 use Rattle.layout.specs.Sizes.{slotSize, payloadAt}
 use Rattle.layout.specs.Numbers.{kindNumber, refusalNumber, kind-one, refusal-one, refusal-some}
-use Rattle.layout.specs.Refusals.{Row, _⇐_, firstOf, orElse, decided, Groups, ordered, decided-done, decided-refused, Exactly, exactly, decided-number, no-row, row}
-use Rattle.layout.specs.Slots.{SlotNumbers, slotNumbers, soundSlot, unsoundSlot}
+use Rattle.layout.specs.Refusals.{Row, _⇐_, firstOf, orElse, decided, ordered, decided-done, decided-refused, Exactly, exactly, decided-number, no-row, row}
+use Rattle.layout.specs.Slots.{slotNumbers, soundSlot, unsoundSlot}
 use Rattle.stream.specs.Entries.{stream, start, payloadStream, sound, entries as entriesOf, last as lastOf}
 use Rattle.info.specs.declared.Info.{Info}
 use Rattle.info.specs.declared.Info.the-variants.{Slot, Refused}

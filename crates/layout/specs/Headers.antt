@@ -6,7 +6,7 @@ use mathlib.Core.Bool.{Bool, true, false, not, cond, _&&_}
 use mathlib.Core.List.{List, [], _∷_, _++_}
 use lib.Dec.{eqb}
 use borrow.Author.Tests.{eq-eqb, ne-eqb}
-use lib.ListN.{length, take, getD, length-take, length-append}
+use lib.ListN.{length, take, length-take, length-append}
 use lib.Seq.{getD-take}
 use Rattle.span.specs.Bytes.{zeros, part, splice, same}
 use Rattle.span.specs.Laws.{ext, zeros-length, zeros-after, splice-zeros, part-join, part-first, part-second, part-length, same-parts}

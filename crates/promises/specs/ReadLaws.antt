@@ -19,7 +19,8 @@ use Rattle.store.specs.Frame.{slotOf, placeOf}
 use Rattle.store.specs.Read.{readRows, contents, readOutcome}
 use Rattle.promises.specs.Words.{blocks, places, PagesFit, FrameFits, PatchOf, SoundSlot, Large, streamOf, StoredAs, Readable, ReadGives}
 use Rattle.promises.specs.SlotLaws.{patch-of}
-use Rattle.promises.specs.Tables.{read-number, read-table}
+use Rattle.store.specs.Given.{read-number}
+use Rattle.promises.specs.Tables.{read-table}
 use Rattle.promises.specs.StoreLaws.{base-page-length}
 
 module _ (P : ℕ) (patch full : List ℕ) (b : ℕ) (base page : List ℕ) where

@@ -13,7 +13,7 @@ use Rattle.layout.specs.Areas.{freshPatch, freshFull, patch-fits, full-fits, bl
 use Rattle.store.specs.Format.{FormatOutcome, formatOutcome, format-done}
 use Rattle.store.specs.Write.{writeOutcome}
 use Rattle.promises.specs.Words.{blocks, places, PagesFit, WriteGives}
-use Rattle.promises.specs.FrameLaws.{lengthsFit}
+use Rattle.store.specs.Frame.{lengthsFit}
 use Rattle.promises.specs.Tables.{write-table}
 use Rattle.promises.specs.RunWords.{Areas, Lent, after, FreshAreas}
 use Rattle.promises.specs.RunLaws.{kept, run-fits}

@@ -1,23 +1,21 @@
 -- What the writer's pass tells: the kind, the length and the payload of the decision.
 use Prim.Native.Nat.{ℕ, _-_, _≤_, min}
 use native.Mathlib.Omega.{arith}
-use mathlib.Core.Path.{_≡_, refl, sym, ap, _∙_, subst}
+use mathlib.Core.Path.{_≡_, refl, sym, ap, _∙_}
 use mathlib.Core.Bool.{Bool, true, false, cond}
 use mathlib.Core.List.{List}
-use lib.Dec.{eqb, leb, lit≤}
+use lib.Dec.{eqb}
 use lib.ListN.{length, take, length-take}
-use lib.Seq.{take-all}
-use borrow.Author.Tests.{eqb-true, leb-true, eq-eqb}
+use borrow.Author.Tests.{eqb-true, eq-eqb}
 use Rattle.span.specs.Bytes.{part, splice}
 use Rattle.span.specs.Laws.{part-splice}
-use Rattle.layout.specs.Sizes.{pageSize, room}
+use Rattle.layout.specs.Sizes.{pageSize, room, slotAt}
 use Rattle.stream.specs.Differences.{written}
-use Rattle.stream.specs.Calls.{pageOf, kindFor}
+use Rattle.stream.specs.Calls.{kindFor}
 use Rattle.stream.specs.Laws.{base-some, patch-fits, differs-near, differs-fits}
-use Rattle.stream.specs.Steps.{farthest, near, Differs}
+use Rattle.stream.specs.Steps.{near, Differs}
 use Rattle.stream.specs.declared.Difference.{Difference}
 use Rattle.store.specs.Write.{decidedStream, decidedKind, carriedPatch, slot-payload}
-use Rattle.layout.specs.Sizes.{slotAt}
 use Rattle.layout.specs.Slots.{slotImage}
 
 module _ (base page room₀ room₁ : List ℕ) (d : Difference) (k : ℕ) (lb : length base ≡ pageSize) (lp : length page ≡ pageSize) (lr : length room₀ ≡ room)

@@ -1,6 +1,5 @@
 -- What the check of a payload tells once its answer is known, and what copying and laying over leave in a page of its size.
 use Prim.Native.Nat.{ℕ}
-use native.Mathlib.Omega.{arith}
 use mathlib.Core.Path.{_≡_, sym, ap, _∙_, subst}
 use mathlib.Core.Bool.{true, false}
 use mathlib.Core.List.{List}
@@ -9,7 +8,7 @@ use Rattle.span.specs.Bytes.{splice}
 use Rattle.span.specs.Laws.{copied-whole}
 use Rattle.layout.specs.Sizes.{pageSize}
 use Rattle.stream.specs.Entries.{payloadStream, sound, applied}
-use Rattle.stream.specs.Steps.{reach, Judges, SoundAs}
+use Rattle.stream.specs.Steps.{reach, Judges}
 use Rattle.stream.specs.declared.Checked.{Checked}
 use Rattle.stream.specs.declared.Checked.the-variants.{Unsound, Sound}
 

@@ -1,16 +1,16 @@
 -- Build the block map: every slot, payload and place is checked, block by block.
 use Prim.Native.Nat.{ℕ, zero, suc, _+_}
 use mathlib.Core.Path.{_≡_}
-use mathlib.Core.Bool.{Bool, not, _&&_}
+use mathlib.Core.Bool.{not, _&&_}
 use mathlib.Core.List.{List, [], _∷_}
 use lib.Dec.{eqb, ltb}
 use lib.ListN.{length}
 use Rattle.span.specs.Bytes.{zeros, same, splice}
 use Rattle.layout.specs.Numbers.{refusalNumber}
-use Rattle.layout.specs.Refusals.{Row, _⇐_, firstOf, decided, Groups, ordered}
+use Rattle.layout.specs.Refusals.{Row, _⇐_, firstOf, decided, ordered}
 use Rattle.layout.specs.Headers.{headerRows}
 use Rattle.layout.specs.Areas.{blocksIn, pagesIn, lengthRows}
-use Rattle.layout.specs.Slots.{SlotNumbers, slotNumbers}
+use Rattle.layout.specs.Slots.{slotNumbers}
 use Rattle.blockmap.specs.Pairs.{mapBytes}
 use Rattle.blockmap.specs.Pack.{pairOf, packed}
 use Rattle.store.specs.Frame.{slotOf, placeOf}

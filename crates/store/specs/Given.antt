@@ -55,18 +55,24 @@ module _ (P : ℕ) where
       let short : length (part (slotAt b + payloadAt) n patch) ≡ 0 = ap (λ (l : List ℕ). length l) (sym (ap (λ (x : Place). part (x .at) (x .len) patch) place) ∙ e) in
       omega arith
 
+  pub read-number : (patch full : List ℕ) (b : ℕ) (base page : List ℕ) → readOutcome P patch full b base page .number ≡ firstOf (readRows P patch full b base page)
+  unfolding readOutcome
+  read-number patch full b base page = decided-number (λ (o : ReadOutcome). o .number) _ _ (firstOf (readRows P patch full b base page)) refl (λ k. refl)
+
   pub read-exactly : (patch full : List ℕ) (b : ℕ) (base page : List ℕ) → Exactly (readRows P patch full b base page) (readOutcome P patch full b base page .number)
-  unfolding readOutcome readRows ordered lengthRows slotRows fullRows payloadRows
+  unfolding readRows ordered lengthRows slotRows fullRows payloadRows
   read-exactly patch full b base page =
-      exactly (readRows P patch full b base page) _
-      (decided-number (λ (o : ReadOutcome). o .number) _ _ (firstOf (readRows P patch full b base page)) refl (λ k. refl))
+      exactly (readRows P patch full b base page) _ (read-number patch full b base page)
       (row (row (both (headers-numbered P patch full) (row (row (row (row no-row)))))))
 
+  pub write-number : (patch full : List ℕ) (b : ℕ) (base page : List ℕ) → writeOutcome P patch full b base page .number ≡ firstOf (writeRows P patch full b base page)
+  unfolding writeOutcome
+  write-number patch full b base page = decided-number (λ (o : WriteOutcome). o .number) _ _ (firstOf (writeRows P patch full b base page)) refl (λ k. refl)
+
   pub write-exactly : (patch full : List ℕ) (b : ℕ) (base page : List ℕ) → Exactly (writeRows P patch full b base page) (writeOutcome P patch full b base page .number)
-  unfolding writeOutcome writeRows ordered lengthRows
+  unfolding writeRows ordered lengthRows
   write-exactly patch full b base page =
-      exactly (writeRows P patch full b base page) _
-      (decided-number (λ (o : WriteOutcome). o .number) _ _ (firstOf (writeRows P patch full b base page)) refl (λ k. refl))
+      exactly (writeRows P patch full b base page) _ (write-number patch full b base page)
       (row (row (both (headers-numbered P patch full) (row (row no-row)))))
 
 -- Build: the frame, and then "blocks in rising order"

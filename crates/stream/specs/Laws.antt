@@ -2,21 +2,21 @@
 use Prim.Native.Nat.{ℕ, zero, suc, _<_, _≤_}
 use native.Mathlib.Omega.{arith}
 use mathlib.Core.Path.{_≡_, refl, sym, ap, _∙_, subst}
-use mathlib.Core.Bool.{Bool, true, false, not, cond, _&&_, _||_, and-true, and-false, true≢false, false≢true}
-use mathlib.Core.List.{List, [], _∷_, _++_}
-use lib.Dec.{eqb, leb, ltb}
+use mathlib.Core.Bool.{Bool, true, false, not, cond, _&&_, _||_, and-true, and-false, false≢true}
+use mathlib.Core.List.{List, [], _∷_}
+use lib.Dec.{eqb, ltb}
 use lib.ListN.{length}
-use lib.IntN.{ℤ, pos}
+use lib.IntN.{pos}
 use borrow.Author.Tests.{eq-eqb, ne-eqb, eqb-true, eqb-false, le-leb, lt-leb}
 use native.Mathlib.Decide.{decLt}
 use lib.Seq.{take-all}
 use Rattle.span.specs.Bytes.{zeros, splice, part}
 use Rattle.span.specs.Laws.{zeros-length}
 use Rattle.layout.specs.Sizes.{room}
-use Rattle.layout.specs.Refusals.{Row, _⇐_, firstOf, orElse, ordered}
+use Rattle.layout.specs.Refusals.{_⇐_, firstOf, orElse, ordered}
 use Rattle.stream.specs.Entries.{payloadStream, sound, entries, last, start, applied}
 use Rattle.stream.specs.Differences.{diffs, coded, written}
-use Rattle.stream.specs.Steps.{farthest, reach, near, Differs}
+use Rattle.stream.specs.Steps.{farthest, near, Differs}
 use Rattle.stream.specs.declared.Difference.{Difference}
 use Rattle.stream.specs.Calls.{pageOf, pagesFit, kindFor, compareRows, comparison, compareNumbers, compareBuffer, ComparedNumbers, applyRows, applyNumbers, applyPage, AppliedNumbers}
 

@@ -1,14 +1,9 @@
-use Rattle.layout.specs.Areas.{patchFits, fullFits, blocksIn}
+use Rattle.layout.specs.Areas.{patchFits, fullFits}
 use Rattle.layout.specs.Sizes.{pageSize}
-use mathlib.Core.Bool.{Bool, true, false, _&&_}
+use mathlib.Core.Bool.{true, false}
 use borrow.Author.Tests.{not-true, not-false}
-use borrow.Author.Tests.{eq-eqb, ne-eqb, le-leb, lt-leb}
-use lib.Dec.{eqb, leb}
-use mathlib.Core.Bool.{Bool, _&&_, _||_, and-true, and-false}
 use mathlib.Core.Path.{_≡_, sym, ap, _∙_}
-use Prim.Native.Nat.{ℕ, _+_, _-_, _*_, _/_}
-use native.Mathlib.Omega.{arith}
-use Rattle.span.specs.Tests.{tests}
+use Prim.Native.Nat.{ℕ}
 use borrow.Author.Needs.{needs}
 use Rattle.layout.proofs.area.lengths_fit.Statement.{statement}
 use Rattle.layout.proofs.area.lengths_fit.Tie as tie

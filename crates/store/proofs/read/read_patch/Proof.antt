@@ -1,14 +1,9 @@
 use Rattle.store.proofs.Pages.{unsound-told, sound-told, laid-page}
-use Rattle.store.proofs.Told.{on, off}
-use Rattle.store.specs.Frame.{slotOf, placeOf}
-use Rattle.stream.specs.Entries.{payloadStream, sound, applied}
-use Rattle.layout.specs.Sizes.{pageSize, slotSize, slotAt, pageAt, payloadAt, blocksAtMost}
+use Rattle.stream.specs.Entries.{sound}
+use Rattle.layout.specs.Sizes.{pageSize}
 use lib.ListN.{length}
-use mathlib.Core.Bool.{Bool, true, false, cond}
-use mathlib.Core.List.{List}
-use mathlib.Core.Path.{_≡_, refl, sym, ap, _∙_}
-use native.Mathlib.Omega.{arith}
-use Prim.Native.Nat.{ℕ, _+_, _≤_, _<_}
+use mathlib.Core.Bool.{true, false}
+use mathlib.Core.Path.{_≡_}
 use borrow.Author.Needs.{needs}
 use Rattle.store.proofs.read.read_patch.Statement.{statement}
 use Rattle.store.proofs.read.read_patch.Tie as tie
