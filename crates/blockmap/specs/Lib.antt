@@ -6,3 +6,4 @@ pub mod Pack
 pub mod PackLaws
 pub mod Calls
 pub mod CallLaws
+pub mod Given

@@ -5,17 +5,13 @@ use native.Mathlib.Nat.{div-one, div-div-eq-div-mul, div-add-mod, mod-mod, mod-e
 use native.Mathlib.Numerals.{add-one}
 use native.Mathlib.Decide.{decLt}
 use mathlib.Core.Path.{_≡_, refl, sym, ap, _∙_}
-use mathlib.Core.Logic.{inl, inr}
-use mathlib.Core.Bool.{Bool, true, false}
 use mathlib.Core.List.{List, [], _∷_, _++_}
-use lib.Dec.{eqb}
 use lib.ListN.{length, getD, length-append, List·getD-append, List·getD-eq-default}
 use lib.Seq.{getD-at}
 use borrow.Author.Tests.{lt-ltb, le-ltb}
 use Rattle.span.specs.Laws.{ext}
-use Rattle.blockmap.specs.Pairs.{mapBytes, pairAt, pairs, reservedPair, badPairs}
+use Rattle.blockmap.specs.Pairs.{mapBytes, pairAt, reservedPair}
 use Rattle.blockmap.specs.PairLaws.{pair-in}
-use Rattle.blockmap.specs.Meaning.{upTo, keep, keep-same, up-to-below, blocksWith, pairs-count, BadPair, bad-iff}
 use Rattle.blockmap.specs.Pack.{pairOf, byteOf, pairIn, packedByte, packedFirst, packed}
 
 -- Kinds
@@ -166,18 +162,7 @@ pub map-one : (xs ys : List ℕ) (n : ℕ) → length xs ≡ mapBytes n → leng
     → ((b : ℕ) → b < 4 * mapBytes n → pairAt xs b ≡ pairAt ys b) → xs ≡ ys
 map-one xs ys n lx ly bx by e = ext xs ys (lx ∙ sym ly) (λ i h. byte-one xs ys i (bx i) (by i) (λ b k _. e b (omega arith)))
 
--- the packed map is the one map with these pairs
-pub packed-only : (f : ℕ → ℕ) (n : ℕ) (xs : List ℕ) → length xs ≡ mapBytes n → ((i : ℕ) → getD xs i 0 < 256)
-    → ((b : ℕ) → b < n → (f b < 4) × (pairAt xs b ≡ f b)) → ((b : ℕ) → n ≤ b → b < 4 * mapBytes n → pairAt xs b ≡ 0) → xs ≡ packed f n
-packed-only f n xs l bytes used unused =
-    map-one xs (packed f n) n l (packed-length f n) bytes (packed-below f n)
-    (λ b h.
-    elim (decLt b n) [
-      | yes k ↦ used b k .1 ∙ sym (packed-used f n b k (used b k .0))
-      | no k ↦ unused b (omega arith) h ∙ sym (packed-unused f n b (omega arith) h)
-    ])
-
--- and depends on the pairs of its n blocks alone
+-- so a packed map depends on the pairs of its n blocks alone
 pub packed-same : (f g : ℕ → ℕ) (n : ℕ) → ((b : ℕ) → b < n → f b ≡ g b) → packed f n ≡ packed g n
 packed-same f g n e =
     map-one (packed f n) (packed g n) n (packed-length f n) (packed-length g n) (packed-below f n) (packed-below g n)
@@ -189,27 +174,3 @@ packed-same f g n e =
           | yes k ↦ pair-used f n b k ∙ e b k ∙ sym (pair-used g n b k)
           | no k ↦ pair-unused f n b (omega arith) ∙ sym (pair-unused g n b (omega arith))
         ]
-
--- What Tally finds in a packed map of kinds: nothing bad, and as many blocks of a pair as f gives it to
-
-pub packed-good : (f : ℕ → ℕ) (n : ℕ) → ((b : ℕ) → b < n → f b < reservedPair) → badPairs (packed f n) n ≡ false
-packed-good f n small = go (badPairs (packed f n) n) refl
-  where
-    never : (b : ℕ) → BadPair (packed f n) n b → ⊥
-    never b (inl h) =
-        let l : f b < reservedPair = small b (h .0) in
-        let e : pairAt (packed f n) b ≡ f b = packed-used f n b (h .0) (omega arith) in
-        omega (arith, h .1)
-    never b (inr h) = h .2 (packed-unused f n b (h .0) (h .1))
-
-    go : (t : Bool) → badPairs (packed f n) n ≡ t → t ≡ false
-    go false e = refl
-    go true e = let w = bad-iff (packed f n) n .0 e in absurd (never (w .0) (w .1))
-
-pub packed-count : (f : ℕ → ℕ) (n v : ℕ) → ((b : ℕ) → b < n → f b < 4) → pairs v (packed f n) n ≡ length (keep (λ b. eqb (f b) v) (upTo n))
-unfolding blocksWith
-packed-count f n v small =
-    pairs-count v (packed f n) n
-    ∙ ap length
-    (keep-same (λ b. eqb (pairAt (packed f n) b) v) (λ b. eqb (f b) v) (upTo n)
-    (λ b m. let h : b < n = up-to-below n b m in ap (λ (p : ℕ). eqb p v) (packed-used f n b h (small b h))))

@@ -19,10 +19,6 @@ pair-in map i k b h e =
     let r : b % 4 ≡ k = omega arith in
     rw (q, r)
 
-pub pair-below : (map : List ℕ) (b : ℕ) → pairAt map b < 4
-unfolding pairAt
-pair-below map b = omega arith
-
 one-most : (t : Bool) → cond t 1 0 ≤ 1
 one-most true = omega arith
 one-most false = omega arith

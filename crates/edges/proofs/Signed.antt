@@ -1,5 +1,5 @@
 -- A position that is not below 0, read back from its bits as r.
-use Prim.Native.Nat.{_<_, _^_, ℕ}
+use Prim.Native.Nat.{_<_, _^_}
 use native.Mathlib.Omega.{arith}
 use mathlib.Core.Path.{_≡_, sym, ap, _∙_}
 use mathlib.Core.Bool.{false, true≢false}

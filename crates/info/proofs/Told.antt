@@ -1,7 +1,6 @@
 -- What the answers of the slot's and the payload's checks tell, over plain lists and numbers.
 use Prim.Native.Nat.{ℕ}
-use mathlib.Core.Path.{_≡_, refl, sym, ap, _∙_, subst}
-use mathlib.Core.Bool.{true, false}
+use mathlib.Core.Path.{_≡_, sym, ap, _∙_, subst}
 use mathlib.Core.List.{List}
 use lib.ListN.{length as lengthOf}
 use lib.IntN.{ℤ}
@@ -12,7 +11,7 @@ use Rattle.stream.specs.Entries.{sound}
 use Rattle.stream.specs.Steps.{Judges, SoundAs}
 use Rattle.stream.specs.declared.Checked.{Checked}
 use Rattle.stream.specs.declared.Checked.the-variants.{Unsound, Sound}
-use Rattle.info.specs.Info.{InfoNumbers, infoNumbers, refusedInfo, info-broken, info-patch}
+use Rattle.info.specs.Info.{infoNumbers, refusedInfo, info-broken, info-patch}
 
 module _ (P : ℕ) (bytes payload : List ℕ) (n : ℕ) (r : Checked) (l : lengthOf bytes ≡ slotSize) (e : slotNumbers bytes ≡ soundSlot 1 n)
     (p : payload ≡ part payloadAt n bytes) (j : Judges P payload r) where

@@ -4,14 +4,14 @@ use native.Mathlib.Omega.{arith}
 use native.Mathlib.Nat.{pow-suc, one-le-pow, pow-le-pow-right, zero-lt-suc}
 use native.Mathlib.Decide.{decLt}
 use mathlib.Core.Path.{_≡_, refl, sym, ap, _∙_, subst}
-use mathlib.Core.Bool.{Bool, true, false, cond, true≢false, false≢true}
-use mathlib.Core.List.{List, [], _∷_, _++_, append-nil, append-assoc}
+use mathlib.Core.Bool.{true, false, true≢false, false≢true}
+use mathlib.Core.List.{List, [], _∷_, _++_}
 use lib.Dec.{ltb, T}
 use lib.IntN.{ℤ, pos, negsuc, natAbs}
 use lib.Signed.{ltZ, nonNeg}
 use mir.Syntax.{w32, w64}
 use mir.Val.{Fits, SFits}
-use lib.ListN.{length, set, take, getD, length-append, length-take}
+use lib.ListN.{length, set, take, getD, length-append}
 use lib.Seq.{sets, take-suc, take-all, length-take-le}
 use borrow.Author.Tests.{lt-ltb, le-ltb, ne-eqb}
 use Rattle.layout.specs.Numbers.{kindNumber, refusalNumber, refusal-some}

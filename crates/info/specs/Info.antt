@@ -11,8 +11,8 @@ use borrow.Author.Tests.{eq-eqb, ne-eqb}
 use Rattle.span.specs.Bytes.{part}
 use Rattle.layout.specs.Sizes.{slotSize, payloadAt}
 use Rattle.layout.specs.Numbers.{kindNumber, refusalNumber, kind-one, refusal-one, refusal-some}
-use Rattle.layout.specs.Refusals.{Row, _⇐_, firstOf, orElse, decided, Groups, ordered, decided-done, decided-refused}
-use Rattle.layout.specs.Slots.{SlotNumbers, slotNumbers, soundSlot, unsoundSlot}
+use Rattle.layout.specs.Refusals.{Row, _⇐_, firstOf, orElse, decided, ordered, decided-done, decided-refused, Exactly, exactly, decided-number, no-row, row}
+use Rattle.layout.specs.Slots.{slotNumbers, soundSlot, unsoundSlot}
 use Rattle.stream.specs.Entries.{stream, start, payloadStream, sound, entries as entriesOf, last as lastOf}
 use Rattle.info.specs.declared.Info.{Info}
 use Rattle.info.specs.declared.Info.the-variants.{Slot, Refused}
@@ -80,6 +80,14 @@ told-one (Refused r) (Refused r′) q = ap Refused (refusal-one r r′ (ap (λ (
 
 pub inspect-only : (P : ℕ) (bytes : List ℕ) (a b : Info) → Inspect P bytes a → Inspect P bytes b → a ≡ b
 inspect-only P bytes a b x y = told-one a b (x .numbers ∙ sym (y .numbers))
+
+-- "Each refusal is given when its condition holds and no earlier one does, and at no other time."
+pub inspect-exactly : (P : ℕ) (bytes : List ℕ) (a : Info) → Inspect P bytes a → Exactly (infoRows P bytes) (toldNumbers a .number)
+unfolding infoNumbers infoRows ordered slotInfo
+inspect-exactly P bytes a x =
+    exactly (infoRows P bytes) _
+    (ap (λ (n : InfoNumbers). n .number) (x .numbers) ∙ decided-number (λ (n : InfoNumbers). n .number) _ _ (firstOf (infoRows P bytes)) refl (λ k. refl))
+    (row (row (row no-row)))
 
 -- Laws: what is told, by what the slot is
 

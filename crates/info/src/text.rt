@@ -2,7 +2,6 @@
 use crate::Info;
 use layout::Kind;
 ghost use mathlib.Core.Path.{_≡_};
-ghost use mathlib.Core.List.{[], _∷_, _++_};
 ghost use Prim.Native.Nat.{_+_, _≤_};
 ghost use lib.ListN.{length, set};
 ghost use Rattle.layout.specs.Sizes.{pageSize};

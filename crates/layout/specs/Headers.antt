@@ -2,17 +2,17 @@
 use Prim.Native.Nat.{ℕ, _+_, _-_, _≤_, _<_, min}
 use native.Mathlib.Omega.{arith}
 use mathlib.Core.Path.{_≡_, refl, sym, ap, _∙_}
-use mathlib.Core.Bool.{Bool, not, cond, _&&_}
+use mathlib.Core.Bool.{Bool, true, false, not, cond, _&&_}
 use mathlib.Core.List.{List, [], _∷_, _++_}
 use lib.Dec.{eqb}
 use borrow.Author.Tests.{eq-eqb, ne-eqb}
-use lib.ListN.{length, take, getD, length-take, length-append}
+use lib.ListN.{length, take, length-take, length-append}
 use lib.Seq.{getD-take}
 use Rattle.span.specs.Bytes.{zeros, part, splice, same}
 use Rattle.span.specs.Laws.{ext, zeros-length, zeros-after, splice-zeros, part-join, part-first, part-second, part-length, same-parts}
 use Rattle.layout.specs.Sizes.{patchHead, fullHead, slotSize, versionAt, restAt}
 use Rattle.layout.specs.Numbers.{le}
-use Rattle.layout.specs.Refusals.{Row, _⇐_, firstOf, orElse, first-append, or-skip, or-some}
+use Rattle.layout.specs.Refusals.{Row, _⇐_, firstOf, orElse, first-append, or-skip, or-some, Numbered, no-row, row}
 
 -- `PBKPATCH`
 abbrev pub patchMagic : List ℕ
@@ -123,3 +123,11 @@ headers-patch P k patch full e h =
 pub headers-full : (P : ℕ) (patch full : List ℕ) → firstOf (patchHeadRows P patch) ≡ 0 → (length full ≡ 0 → ⊥) → firstOf (headerRows P patch full) ≡ firstOf (headRows (fullHeader P) fullHead full)
 unfolding headerRows fullHeadRows
 headers-full P patch full e f = first-append (patchHeadRows P patch) (fullHeadRows P full) ∙ or-skip (firstOf (patchHeadRows P patch)) (firstOf (fullHeadRows P full)) e ∙ rw (ne-eqb (length full) 0 f)
+
+pub headers-numbered : (P : ℕ) (patch full : List ℕ) → Numbered (headerRows P patch full)
+unfolding headerRows patchHeadRows fullHeadRows headRows
+headers-numbered P patch full = row (row (row (go (eqb (length full) 0))))
+  where
+    go : (t : Bool) → Numbered (cond t [] (headRows (fullHeader P) fullHead full))
+    go true = no-row
+    go false = row (row (row no-row))

@@ -2,34 +2,38 @@
 -- part where it hands a part out. A refused call changes no byte it was lent."
 --
 -- That every call takes anything and ends is what the prover checks: no call has a `requires`. The rest stands here, over the predicates
--- that the contracts cite: where the answer's number is not 0, every lent byte is as it was, and the other numbers of the answer are 0,
--- "except that Build gives the block with 6, 7, 8 and 10". Judge, Look up and Tally are lent nothing to write.
+-- that the contracts cite: each number is given exactly when its condition holds and no earlier one does; and where the answer's number is
+-- not 0, every lent byte is as it was, and the other numbers of the answer are 0, "except that Build gives the block with 6, 7, 8 and 10".
+-- Judge, Look up and Tally are lent nothing to write.
 use Prim.Native.Nat.{ℕ, _≤_}
 use native.Mathlib.Omega.{arith}
-use mathlib.Core.Path.{_≡_, refl, ap, _∙_}
-use mathlib.Core.Logic.{_⊎_}
+use mathlib.Core.Path.{_≡_, refl, sym, ap, _∙_}
+use mathlib.Core.Logic.{_⊎_, _↔_}
 use mathlib.Core.List.{List, []}
 use lib.IntN.{pos}
 use Rattle.layout.specs.Numbers.{refusalNumber}
-use Rattle.layout.specs.Refusals.{firstOf}
+use Rattle.layout.specs.Refusals.{NoneHolds, Exactly}
 use Rattle.layout.specs.declared.Refusal.{Refusal}
 use Rattle.layout.specs.declared.Refusal.the-variants.{Page, Length, Header, Version, Block, Slot, Payload, Room, Buffer, Place, Pair}
-use Rattle.blockmap.specs.Calls.{lookedNumbers, talliedNumbers}
+use Rattle.blockmap.specs.Calls.{lookUpRows, lookedNumbers, LookUp, tallyRows, talliedNumbers, Tally}
+use Rattle.blockmap.specs.Given.{look-up-exactly, tally-exactly}
 use Rattle.blockmap.specs.declared.Looked.{Looked}
 use Rattle.blockmap.specs.declared.Looked.the-variants.{Done as LookedDone, Refused as LookedRefused}
 use Rattle.blockmap.specs.declared.Tallied.{Tallied}
 use Rattle.blockmap.specs.declared.Tallied.the-variants.{Done as TalliedDone, Refused as TalliedRefused}
-use Rattle.stream.specs.Calls.{ComparedNumbers, comparedNumbers, Compare, AppliedNumbers, appliedNumbers, Apply}
+use Rattle.stream.specs.Calls.{ComparedNumbers, compareRows, comparedNumbers, Compare, AppliedNumbers, applyRows, appliedNumbers, Apply}
+use Rattle.stream.specs.Given.{compare-exactly, apply-exactly}
 use Rattle.stream.specs.declared.Compared.{Compared}
 use Rattle.stream.specs.declared.Compared.the-variants.{Done as ComparedDone, Refused as ComparedRefused}
 use Rattle.stream.specs.declared.Applied.{Applied}
 use Rattle.stream.specs.declared.Applied.the-variants.{Done as AppliedDone, Refused as AppliedRefused}
-use Rattle.store.specs.Format.{formattedNumber, Format}
-use Rattle.store.specs.Judge.{judgedNumbers}
+use Rattle.store.specs.Format.{formatRows, formattedNumber, Format}
+use Rattle.store.specs.Judge.{judgeRows, judgedNumbers, Judge}
 use Rattle.store.specs.Show.{showRows, Show}
-use Rattle.store.specs.Read.{ReadNumbers, readingNumbers, Read}
-use Rattle.store.specs.Write.{WriteNumbers, writtenNumbers, Write}
-use Rattle.store.specs.Build.{BuildNumbers, builtNumbers, Build}
+use Rattle.store.specs.Read.{ReadNumbers, readRows, readingNumbers, Read}
+use Rattle.store.specs.Write.{WriteNumbers, writeRows, writtenNumbers, Write}
+use Rattle.store.specs.Build.{faultRows, blockFault, BuildNumbers, builtNumbers, Build}
+use Rattle.store.specs.Given.{format-exactly, judge-exactly, show-exactly, show-some, read-exactly, write-exactly, block-exactly, allRows, build-exactly}
 use Rattle.store.specs.declared.Formatted.{Formatted}
 use Rattle.store.specs.declared.Judged.{Judged}
 use Rattle.store.specs.declared.Judged.the-variants.{Done as JudgedDone, Refused as JudgedRefused}
@@ -56,6 +60,50 @@ from-the-table Place = (omega arith, omega arith)
 from-the-table Pair = (omega arith, omega arith)
 
 module _ (P : ℕ) where
+  -- "Each refusal is given when its condition holds and no earlier one does, and at no other time." One statement a call, over its rows
+
+  pub format-refuses : (patch full : List ℕ) (a : Formatted) (p f : List ℕ) → Format P patch full a p f → Exactly (formatRows P patch full) (formattedNumber a)
+  format-refuses patch full a p f x = rw (x .numbers) (format-exactly P patch full)
+
+  pub compare-refuses : (base page buffer : List ℕ) (a : Compared) (after : List ℕ) → Compare P base page buffer a after
+      → Exactly (compareRows P base page buffer) (comparedNumbers a .number)
+  compare-refuses base page buffer a after x = rw (x .numbers) (compare-exactly P base page buffer)
+
+  pub apply-refuses : (base payload page : List ℕ) (a : Applied) (after : List ℕ) → Apply P base payload page a after
+      → Exactly (applyRows P base payload page) (appliedNumbers a .number)
+  apply-refuses base payload page a after x = rw (x .numbers) (apply-exactly P base payload page)
+
+  pub judge-refuses : (slot : List ℕ) (a : Judged) → Judge slot a → Exactly (judgeRows slot) (judgedNumbers a .number)
+  judge-refuses slot a x = rw (x .numbers) (judge-exactly slot)
+
+  -- "an empty part where it hands a part out"
+  pub show-hands-nothing : (patch : List ℕ) (b : ℕ) (shown : List ℕ) → Show P patch b shown → (shown ≡ []) ↔ (NoneHolds (showRows P patch b) → ⊥)
+  show-hands-nothing patch b shown x = (
+    λ e none. show-some P patch b none (sym (x .bytes) ∙ e),
+    λ h. x .bytes ∙ show-kept P patch b (λ z. h (show-exactly P patch b .done .0 z)),
+  )
+
+  pub read-refuses : (patch full : List ℕ) (b : ℕ) (base page : List ℕ) (a : Reading) (after : List ℕ) → Read P patch full b base page a after
+      → Exactly (readRows P patch full b base page) (readingNumbers a .number)
+  read-refuses patch full b base page a after x = rw (x .numbers) (read-exactly P patch full b base page)
+
+  pub write-refuses : (patch full : List ℕ) (b : ℕ) (base page : List ℕ) (a : Written) (p f : List ℕ) → Write P patch full b base page a p f
+      → Exactly (writeRows P patch full b base page) (writtenNumbers a .number)
+  write-refuses patch full b base page a p f x = rw (x .numbers) (write-exactly P patch full b base page)
+
+  -- Build's rows are those of the frame and then each block's, in rising order. Which block it gives stands in `BuildMeans`, by the number of each block
+  pub build-refuses : (patch full map : List ℕ) (a : Built) (after : List ℕ) → Build P patch full map a after → Exactly (allRows P patch full map) (builtNumbers a .number)
+  build-refuses patch full map a after x = rw (x .numbers) (build-exactly P patch full map)
+
+  pub block-refuses : (patch full : List ℕ) (b : ℕ) → Exactly (faultRows P patch full b) (blockFault P patch full b)
+  block-refuses = block-exactly P
+
+  pub look-up-refuses : (map : List ℕ) (n b : ℕ) (a : Looked) → LookUp P map n b a → Exactly (lookUpRows P map n b) (lookedNumbers a .number)
+  look-up-refuses map n b a x = rw (x .numbers) (look-up-exactly P map n b)
+
+  pub tally-refuses : (map : List ℕ) (n : ℕ) (a : Tallied) → Tally P map n a → Exactly (tallyRows P map n) (talliedNumbers a .number)
+  tally-refuses map n a x = rw (x .numbers) (tally-exactly P map n)
+
   -- Every lent byte is as it was
 
   pub format-keeps : (patch full : List ℕ) (a : Formatted) (p f : List ℕ) → Format P patch full a p f → (formattedNumber a ≡ 0 → ⊥) → (p ≡ patch) × (f ≡ full)
@@ -72,10 +120,6 @@ module _ (P : ℕ) where
       → (appliedNumbers a .number ≡ 0 → ⊥) → after ≡ page
   apply-keeps base payload page a after x h =
       x .bytes ∙ apply-kept P base payload page (λ e. h (ap (λ (n : AppliedNumbers). n .number) (x .numbers) ∙ e))
-
-  -- "an empty part where it hands a part out"
-  pub show-hands-nothing : (patch : List ℕ) (b : ℕ) (shown : List ℕ) → Show P patch b shown → (firstOf (showRows P patch b) ≡ 0 → ⊥) → shown ≡ []
-  show-hands-nothing patch b shown x h = x .bytes ∙ show-kept P patch b h
 
   pub read-keeps : (patch full : List ℕ) (b : ℕ) (base page : List ℕ) (a : Reading) (after : List ℕ) → Read P patch full b base page a after
       → (readingNumbers a .number ≡ 0 → ⊥) → after ≡ page

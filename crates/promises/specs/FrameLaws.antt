@@ -17,7 +17,7 @@ use Rattle.layout.specs.Areas.{patchFits, fullFits, lengthRows, patch-fits-is, 
 use Rattle.layout.specs.Meaning.{patch-header-length, head-none, head-like, headers-sound, sound-headers, fits-full}
 use Rattle.stream.specs.Calls.{pagesFit, pageRows}
 use Rattle.stream.specs.Laws.{pages-fit, page-length, base-length}
-use Rattle.store.specs.Frame.{frameRows}
+use Rattle.store.specs.Frame.{frameRows, lengthsFit}
 use Rattle.promises.specs.Cells.{emptied, emptied-part, emptied-length, emptied-same}
 use Rattle.promises.specs.Words.{blocks, PagesFit, LengthsFit, HeadersFit, HeadRefuses, magic, version, rest, FrameRefuses, pages, lengths, patch-head, full-head, FrameFits, SameFrame}
 
@@ -36,7 +36,7 @@ no-tells false T h = refl
 tells-same : (xs ys : List ℕ) → Tells (same xs ys) (xs ≡ ys)
 tells-same xs ys = (same-is xs ys, same-true xs ys)
 
-tells-pages : (P : ℕ) (base page : List ℕ) → Tells (pagesFit P base page) (PagesFit P base page)
+pub tells-pages : (P : ℕ) (base page : List ℕ) → Tells (pagesFit P base page) (PagesFit P base page)
 tells-pages P base page = (
   λ e. record { base-length = go e (eqb (length base) 0) refl; page-length = page-length P base page e },
   λ h. pages-fit P base page (h .base-length) (h .page-length),
@@ -45,10 +45,6 @@ tells-pages P base page = (
     go : pagesFit P base page ≡ true → (t : Bool) → eqb (length base) 0 ≡ t → (length base ≡ 0) ⊎ (length base ≡ P)
     go e true q = inl (eqb-true (length base) 0 q)
     go e false q = inr (base-length P base page e (eqb-false (length base) 0 q))
-
--- the test of both lengths
-abbrev pub lengthsFit : ℕ → List ℕ → List ℕ → Bool
-lengthsFit P patch full = patchFits P (length patch) && fullFits P (blocks patch) (length full)
 
 pub tells-lengths : (P : ℕ) (patch full : List ℕ) → Tells (lengthsFit P patch full) (LengthsFit P patch full)
 unfolding patchFits

@@ -13,9 +13,10 @@ use Rattle.layout.specs.Refusals.{_⇐_, firstOf, orElse, decided, ordered, dec
 use Rattle.layout.specs.Slots.{slotNumbers, payloadOf}
 use Rattle.layout.specs.Areas.{blocksIn, pagesIn}
 use Rattle.stream.specs.Entries.{sound}
-use Rattle.stream.specs.Calls.{compareRows, compareNumbers, compareBuffer, AppliedNumbers, applyRows, applyNumbers, applyPage}
-use Rattle.stream.specs.Laws.{compare-not, apply-done, apply-not}
+use Rattle.stream.specs.Calls.{compareRows, compareNumbers, compareBuffer, applyRows, applyNumbers, applyPage}
+use Rattle.stream.specs.Laws.{compare-not, apply-not}
 use Rattle.stream.specs.Kinds.{compare-gives}
+use Rattle.stream.specs.Given.{apply-gives}
 use Rattle.store.specs.Frame.{slotOf, placeOf}
 use Rattle.store.specs.Format.{FormatOutcome, formatRows, formatOutcome}
 use Rattle.store.specs.Show.{showRows, showPlace}
@@ -51,7 +52,7 @@ pub apply-kept : (P : ℕ) (base payload page : List ℕ) → (applyNumbers P ba
 apply-kept P base payload page h = go (firstOf (applyRows P base payload page)) refl
   where
     go : (k : ℕ) → firstOf (applyRows P base payload page) ≡ k → applyPage P base payload page ≡ page
-    go zero e = absurd (h (ap (λ (x : AppliedNumbers). x .number) (apply-done P base payload page e .0)))
+    go zero e = absurd (h (apply-gives P base payload page ∙ e))
     go (suc m) e = apply-not P base payload page m e .1
 
 pub show-kept : (P : ℕ) (patch : List ℕ) (b : ℕ) → (firstOf (showRows P patch b) ≡ 0 → ⊥) → part (showPlace P patch b .at) (showPlace P patch b .len) patch ≡ []

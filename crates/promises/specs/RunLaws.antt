@@ -21,8 +21,7 @@ use Rattle.store.specs.Write.{decidedKind}
 use Rattle.promises.specs.Words.{blocks, places, PagesFit, FrameFits, SameFrame, Large}
 use Rattle.promises.specs.FrameLaws.{lengths-by, lengths-moved, headers-moved}
 use Rattle.promises.specs.Cells.{emptied, emptied-length, emptied-same}
-use Rattle.promises.specs.StoreLaws.{base-page-length, imageOf, contentOf, stored-so}
-use Rattle.promises.specs.StoreLaws.{accepted as acceptedIs}
+use Rattle.promises.specs.StoreLaws.{base-page-length, imageOf, contentOf, stored-so, accepted as acceptedIs}
 use Rattle.promises.specs.ReadLaws.{reads-empty, stored-reads}
 use Rattle.promises.specs.RunBuild.{empty-fine, stored-fine, builds}
 use Rattle.promises.specs.Runs.{run, last, later, Fresh, Taken, writes, lastWrite, LastWrites, lastWrites, NoRepeats, WritesOver, ReadSame, last-writes-are, last-writes-apart, writes-taken, writes-same, writes-at, last-in, writes-frame, writes-same-iff-read-same}

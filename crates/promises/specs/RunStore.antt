@@ -17,7 +17,8 @@ use Rattle.store.specs.Frame.{slotOf, placeOf}
 use Rattle.store.specs.Write.{decidedKind, WriteOutcome}
 use Rattle.promises.specs.Words.{blocks, places, LengthsFit, SameFrame, Stored}
 use Rattle.promises.specs.FrameLaws.{frameNumber, frame-emptied, lengths-moved}
-use Rattle.promises.specs.Tables.{write-number, write-rows}
+use Rattle.store.specs.Given.{write-number}
+use Rattle.promises.specs.Tables.{write-rows}
 use Rattle.promises.specs.Cells.{cells-ext, emptied, emptied-length, emptied-part, emptied-same}
 use Rattle.promises.specs.StoreLaws.{write-done, write-not, Accepted, accepted, write-stored, imageOf, contentOf, carried-slot, carried-place, content-none}
 use Rattle.promises.specs.Runs.{Store, write, wipe, Laws}

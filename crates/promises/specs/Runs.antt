@@ -49,11 +49,6 @@ NoRepeats number (x ∷ xs) = ((y : _) → List·Memᴰ y xs → number y ≡ nu
 
 -- Lists: what is proved
 
-pub run-append : {S O : Type 0} (step : S → O → S) (s : S) (os os′ : List O) → run step s (os ++ os′) ≡ run step (run step s os) os′
-unfolding run
-run-append step s [] os′ = refl
-run-append step s (o ∷ os) os′ = run-append step (step s o) os os′
-
 run-map : {S O W : Type 0} (step : S → O → S) (f : W → O) (s : S) (ws : List W) → run step s (map f ws) ≡ run (λ s w. step s (f w)) s ws
 unfolding run
 run-map step f s [] = refl
@@ -258,10 +253,7 @@ module _ (S : Store) where
     unfoldable pub Over : (ℕ → Base) → Frame → Ops → Type 0
     Over bases f os = (w : Write) → standing f (block w) os ≡ some (write w) → baseOf w ≡ bases (block w)
 
-    -- more than that: every accepted write was
-    unfoldable pub AllOver : (ℕ → Base) → Frame → Ops → Type 0
-    AllOver bases f os = (w : Write) → List·Memᴰ (write w) os → accepts f (write w) ≡ true → baseOf w ≡ bases (block w)
-
+    -- of writes alone, and more than that: every accepted one was
     unfoldable pub WritesOver : (ℕ → Base) → Frame → List Write → Type 0
     WritesOver bases f ws = (w : Write) → List·Memᴰ w ws → accepts f (write w) ≡ true → baseOf w ≡ bases (block w)
 
@@ -456,11 +448,6 @@ module _ (S : Store) where
   module _ (L : Laws) (R : Reading) (Q : ReadLaws R) where
     open Reading R using (Base, Page, Fits, basePage, reads, canon, baseOf, pageOf)
 
-    -- it is enough that all accepted writes were made over their block's base
-    pub all-over : (bases : ℕ → Base) (f : Frame) (os : Ops) → AllOver R bases f os → Over R bases f os
-    unfolding AllOver Over
-    all-over bases f os h w e = let t = stands os e in h w (t .0) (t .1)
-
     over-writes : (bases : ℕ → Base) (f : Frame) (ws : List Write) → WritesOver R bases f ws → Over R bases f (map write ws)
     unfolding WritesOver Over lastWrite
     over-writes bases f ws h w e = let i = last-in _ ws (write-stands f ws w .0 e) in h w (i .0) (hit (i .1) .0)
@@ -495,17 +482,6 @@ module _ (S : Store) where
         λ e b h. ap (λ (t : State). reads (bases b) (at t b)) e,
         λ e. same-run L s (fresh .good) os os′ (λ b h. sym (run-canon os over b h) ∙ ap (canon (bases b)) (e b h) ∙ run-canon os′ over′ b h),
       )
-
-      pub writes-read : (ws : List Write) → WritesOver R bases (frame s) ws → (b : ℕ) → b < blocks (frame s)
-          → reads (bases b) (at (writes s ws) b) ≡ Option·elim (lastWrite (frame s) b ws) (basePage (bases b)) pageOf
-      unfolding writes shown Option·elim
-      writes-read ws over b h =
-          rw (← run-map step write s ws)
-          (run-reads (map write ws) (over-writes bases (frame s) ws over) b h ∙ rw (writes-stand (frame s) b ws) (go (lastWrite (frame s) b ws)))
-        where
-          go : (m : Option Write) → shown R (bases b) (Option·map write m) ≡ Option·elim m (basePage (bases b)) pageOf
-          go none = refl
-          go (some w) = refl
 
       pub writes-same-iff-read-same : (ws ws′ : List Write) → WritesOver R bases (frame s) ws → WritesOver R bases (frame s) ws′
           → (writes s ws ≡ writes s ws′) ↔ ReadSame R bases (blocks (frame s)) (writes s ws) (writes s ws′)

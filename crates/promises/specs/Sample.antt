@@ -16,12 +16,11 @@ use Rattle.layout.specs.Slots.{slotImage}
 use Rattle.layout.specs.Areas.{freshPatch, freshFull, patch-fits, full-fits, blocks-of, pages-of, fresh-patch-length, fresh-full-length}
 use Rattle.stream.specs.Differences.{diffs, spelled, coded, written}
 use Rattle.stream.specs.Calls.{pageOf, kindFor}
-use Rattle.store.specs.Frame.{slotOf}
+use Rattle.store.specs.Frame.{slotOf, lengthsFit}
 use Rattle.store.specs.Format.{FormatOutcome, formatOutcome, format-done}
 use Rattle.store.specs.Read.{ReadOutcome}
 use Rattle.store.specs.Write.{decidedKind, decidedStream}
 use Rattle.promises.specs.Words.{blocks, places, PagesFit, WriteGives, streamOf}
-use Rattle.promises.specs.FrameLaws.{lengthsFit}
 use Rattle.promises.specs.Tables.{write-table}
 use Rattle.promises.specs.WriteLaws.{reads-back}
 use Rattle.promises.specs.Runs.{last}

@@ -1,5 +1,5 @@
 -- The laws of a run from buffers.
-use Prim.Native.Nat.{ℕ, zero, suc, _+_, _*_, _≤_, _<_}
+use Prim.Native.Nat.{ℕ, suc, _+_, _*_, _≤_, _<_}
 use native.Mathlib.Omega.{arith}
 use native.Mathlib.Nat.{mul-suc, mul-zero}
 use native.Mathlib.Numerals.{add-one}
@@ -12,7 +12,7 @@ use borrow.Author.Tests.{eq-eqb, ne-eqb}
 use lib.Dec.{eqb}
 use Rattle.span.specs.Bytes.{part, splice}
 use Rattle.layout.specs.Numbers.{refusalNumber, refusal-some}
-use Rattle.store.specs.Write.{Write, WriteNumbers, WriteOutcome, writtenNumbers, writeNumbers, writeOutcome}
+use Rattle.store.specs.Write.{Write, WriteNumbers, writtenNumbers, writeOutcome}
 use Rattle.layout.specs.declared.Kind.{Kind}
 use Rattle.layout.specs.declared.Refusal.{Refusal}
 use Rattle.store.specs.declared.Written.{Written}

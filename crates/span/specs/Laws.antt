@@ -1,10 +1,10 @@
 -- The laws of zeros, parts and splices that the whole project cites. Lengths first, then a byte at a place, then equations of lists,
 -- each of which follows from the bytes at every place.
-use Prim.Native.Nat.{ℕ, zero, suc, _+_, _-_, _≤_, _<_, min}
+use Prim.Native.Nat.{ℕ, _+_, _-_, _≤_, _<_, min}
 use native.Mathlib.Omega.{arith}
 use native.Mathlib.Decide.{decLt}
-use mathlib.Core.Path.{_≡_, refl, sym, ap, _∙_, subst}
-use mathlib.Core.Bool.{Bool, true, false, _&&_, true≢false, false≢true, and-true, and-assoc}
+use mathlib.Core.Path.{_≡_, refl, sym, ap, _∙_}
+use mathlib.Core.Bool.{Bool, true, false, _&&_, false≢true, and-true, and-assoc}
 use mathlib.Core.List.{List, [], _∷_, _++_}
 use lib.Dec.{eqb}
 use lib.ListN.{length, take, drop, getD, set, replicate, length-set, replicate-append-replicate, length-replicate, getD-replicate, length-append, length-take, length-drop, List·getD-append, List·getD-eq-default, drop-of-length-le}
@@ -185,59 +185,6 @@ splice-is xs at ys zs h e before inside after =
           ]
     ])
 
--- laid again at the same place, the first is gone
-pub splice-again : (xs : List ℕ) (at : ℕ) (ys zs : List ℕ) → length ys ≡ length zs → at + length zs ≤ length xs → splice (splice xs at ys) at zs ≡ splice xs at zs
-splice-again xs at ys zs e h =
-    let f : length (splice xs at ys) ≡ length xs = splice-length xs at ys (omega arith) in
-    let g : length (splice (splice xs at ys) at zs) ≡ length (splice xs at ys) = splice-length (splice xs at ys) at zs (omega arith) in
-    splice-is xs at zs (splice (splice xs at ys) at zs) h (omega arith)
-    (λ i k. splice-before (splice xs at ys) at zs (omega arith) i k ∙ splice-before xs at ys (omega arith) i k)
-    (λ j k. splice-in (splice xs at ys) at zs (omega arith) j k)
-    (λ i k l. splice-after (splice xs at ys) at zs (omega arith) i k ∙ splice-after xs at ys (omega arith) i (omega arith))
-
--- two splices apart from each other may be made in either order
-pub splice-comm : (xs : List ℕ) (a : ℕ) (ys : List ℕ) (b : ℕ) (zs : List ℕ) → a + length ys ≤ b → b + length zs ≤ length xs → splice (splice xs a ys) b zs ≡ splice (splice xs b zs) a ys
-splice-comm xs a ys b zs h k =
-    let f : length (splice xs a ys) ≡ length xs = splice-length xs a ys (omega arith) in
-    let g : length (splice xs b zs) ≡ length xs = splice-length xs b zs k in
-    let u : length (splice (splice xs a ys) b zs) ≡ length (splice xs a ys) = splice-length (splice xs a ys) b zs (omega arith) in
-    splice-is (splice xs b zs) a ys (splice (splice xs a ys) b zs) (omega arith) (omega arith)
-    (λ i l.
-    splice-before (splice xs a ys) b zs (omega arith) i (omega arith)
-    ∙ splice-before xs a ys (omega arith) i l
-    ∙ sym (splice-before xs b zs (omega arith) i (omega arith)))
-    (λ j l. splice-before (splice xs a ys) b zs (omega arith) (a + j) (omega arith) ∙ splice-in xs a ys (omega arith) j l)
-    (λ i l m.
-    elim (decLt i b) [
-      | yes n ↦
-          splice-before (splice xs a ys) b zs (omega arith) i n
-          ∙ splice-after xs a ys (omega arith) i l
-          ∙ sym (splice-before xs b zs (omega arith) i n)
-      | no n ↦
-          elim (decLt i (b + length zs)) [
-            | yes o ↦
-                let j : ℕ = i - b in
-                let q : b + j ≡ i = omega arith in
-                ap (λ (p : ℕ). getD (splice (splice xs a ys) b zs) p 0) (sym q)
-                ∙ splice-in (splice xs a ys) b zs (omega arith) j (omega arith)
-                ∙ sym (splice-in xs b zs (omega arith) j (omega arith))
-                ∙ ap (λ (p : ℕ). getD (splice xs b zs) p 0) q
-            | no o ↦
-                splice-after (splice xs a ys) b zs (omega arith) i (omega arith)
-                ∙ splice-after xs a ys (omega arith) i l
-                ∙ sym (splice-after xs b zs (omega arith) i (omega arith))
-          ]
-    ])
-
--- a part that is put back as it was
-pub splice-back : (xs : List ℕ) (at n : ℕ) → at + n ≤ length xs → splice xs at (part at n xs) ≡ xs
-splice-back xs at n h =
-    let e : length (part at n xs) ≡ n = part-length at n xs h in
-    sym
-    (splice-is xs at (part at n xs) xs (omega arith) refl (λ i l. refl)
-    (λ j l. sym (part-at at n xs j (omega arith)))
-    (λ i l m. refl))
-
 -- A part lent by `&mut s[a..e]` comes back as a splice
 
 pub put-splice : (a k : ℕ) (xs ys : List ℕ) → length ys ≡ k → putMid a k xs ys ≡ splice xs a ys
@@ -272,9 +219,6 @@ same-false xs ys h = go (same xs ys) refl
     go : (b : Bool) → same xs ys ≡ b → b ≡ false
     go true e = absurd (h (same-is xs ys e))
     go false e = refl
-
-pub differ-is : (xs ys : List ℕ) → same xs ys ≡ false → xs ≡ ys → ⊥
-differ-is xs ys h e = true≢false (sym (same-true xs ys e) ∙ h)
 
 -- One byte more
 

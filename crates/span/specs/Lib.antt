@@ -1,4 +1,5 @@
 pub mod Bytes
 pub mod Laws
 pub mod Tests
+pub mod Told
 pub mod Differ

@@ -10,7 +10,7 @@ use borrow.Author.Tests.{leb-true}
 use lib.IntN.{ℤ}
 use Rattle.span.specs.Bytes.{zeros, part, same}
 use Rattle.layout.specs.Sizes.{blocksAtMost, slotSize, payloadAt, slotAt, pageAt}
-use Rattle.layout.specs.Slots.{SlotNumbers, slotNumbers, stateNumbers, payloadOf, told-patch}
+use Rattle.layout.specs.Slots.{slotNumbers, stateNumbers, payloadOf, told-patch}
 use Rattle.layout.specs.declared.SlotState.{SlotState}
 use Rattle.layout.specs.declared.SlotState.the-variants.{Empty, Patch, Full, Unsound}
 use Rattle.stream.specs.Entries.{sound}

@@ -1,46 +1,34 @@
 -- What the writer's pass tells: the kind, the length and the payload of the decision.
 use Prim.Native.Nat.{ℕ, _-_, _≤_, min}
 use native.Mathlib.Omega.{arith}
-use mathlib.Core.Path.{_≡_, refl, sym, ap, _∙_, subst}
+use mathlib.Core.Path.{_≡_, refl, sym, ap, _∙_}
 use mathlib.Core.Bool.{Bool, true, false, cond}
 use mathlib.Core.List.{List}
-use lib.Dec.{eqb, leb, lit≤}
+use lib.Dec.{eqb}
 use lib.ListN.{length, take, length-take}
-use lib.Seq.{take-all}
-use borrow.Author.Tests.{eqb-true, leb-true, eq-eqb}
+use borrow.Author.Tests.{eqb-true, eq-eqb}
 use Rattle.span.specs.Bytes.{part, splice}
 use Rattle.span.specs.Laws.{part-splice}
-use Rattle.layout.specs.Sizes.{pageSize, room}
+use Rattle.layout.specs.Sizes.{pageSize, room, slotAt}
 use Rattle.stream.specs.Differences.{written}
-use Rattle.stream.specs.Calls.{pageOf, kindFor}
-use Rattle.stream.specs.Laws.{base-some}
-use Rattle.stream.specs.Steps.{farthest, near, Differs}
+use Rattle.stream.specs.Calls.{kindFor}
+use Rattle.stream.specs.Laws.{base-some, patch-fits, differs-near, differs-fits}
+use Rattle.stream.specs.Steps.{near, Differs}
 use Rattle.stream.specs.declared.Difference.{Difference}
 use Rattle.store.specs.Write.{decidedStream, decidedKind, carriedPatch, slot-payload}
-use Rattle.layout.specs.Sizes.{slotAt}
 use Rattle.layout.specs.Slots.{slotImage}
-
-patch-length : (n : ℕ) → kindFor n ≡ 1 → n ≤ room
-unfolding kindFor
-patch-length n h = go (eqb n 0) (leb n room) refl h
-  where
-    go : (a b : Bool) → leb n room ≡ b → _≡_ {A = ℕ} (cond a 0 (cond b 1 2)) 1 → n ≤ room
-    go true b e k = absurd (omega arith)
-    go false true e k = leb-true n room e
-    go false false e k = absurd (omega arith)
-
-near-page : (page : List ℕ) → length page ≡ pageSize → near page ≡ page
-unfolding part
-near-page page e = take-all farthest page (omega arith)
 
 module _ (base page room₀ room₁ : List ℕ) (d : Difference) (k : ℕ) (lb : length base ≡ pageSize) (lp : length page ≡ pageSize) (lr : length room₀ ≡ room)
     (w : Differs base (near page) room₀ d room₁) (e : k ≡ kindFor (d .length)) where
+  w′ : Differs base page room₀ d room₁
+  w′ = differs-near base page room₀ room₁ d (omega arith) w
+
   stream-is : decidedStream pageSize base page ≡ written base page
   unfolding decidedStream
   stream-is = ap (λ (l : List ℕ). written l page) (base-some pageSize base (λ q. omega arith))
 
   pub length-is : d .length ≡ length (decidedStream pageSize base page)
-  length-is = w .numbers .length ∙ ap (λ (l : List ℕ). length (written base l)) (near-page page lp) ∙ ap (λ (l : List ℕ). length l) (sym stream-is)
+  length-is = w′ .numbers .length ∙ ap (λ (l : List ℕ). length l) (sym stream-is)
 
   pub kind-is : k ≡ decidedKind pageSize base page
   unfolding decidedKind
@@ -51,21 +39,19 @@ module _ (base page room₀ room₁ : List ℕ) (d : Difference) (k : ℕ) (lb :
     where
       go : (t : Bool) → eqb k 1 ≡ t → used ≡ cond t (d .length) 0 → used ≤ room
       go true h q =
-          let m : d .length ≤ room = patch-length (d .length) (sym e ∙ eqb-true k 1 h) in
+          let m : d .length ≤ room = patch-fits (d .length) (sym (eqb-true k 1 h) ∙ e) in
           omega arith
       go false h q = omega arith
 
   pub payload-is : (used : ℕ) → used ≡ cond (eqb k 1) (d .length) 0 → k ≡ 1 → take (used - 0) room₁ ≡ decidedStream pageSize base page
   unfolding part
   payload-is used u h =
-      let m : d .length ≤ room = patch-length (d .length) (sym e ∙ h) in
+      let m : d .length ≤ room = patch-fits (d .length) (sym h ∙ e) in
       let s : List ℕ = decidedStream pageSize base page in
       let n : d .length ≡ length s = length-is in
       let v : used ≡ d .length = u ∙ rw (eq-eqb k 1 h) in
       let z : used - 0 ≡ length s = omega arith in
-      let y : written base (near page) ≡ s = ap (λ (l : List ℕ). written base l) (near-page page lp) ∙ sym stream-is in
-      let x : room₁ ≡ splice room₀ 0 s =
-      w .bytes ∙ ap (λ (l : List ℕ). splice room₀ 0 (take (length room₀) l)) y ∙ ap (λ (l : List ℕ). splice room₀ 0 l) (take-all (length room₀) s (omega arith)) in
+      let x : room₁ ≡ splice room₀ 0 s = differs-fits base page room₀ room₁ d w′ (omega arith) ∙ ap (λ (l : List ℕ). splice room₀ 0 l) (sym stream-is) in
       ap (λ (n : ℕ). take n room₁) z ∙ ap (λ (l : List ℕ). take (length s) l) x ∙ part-splice room₀ 0 s (length s) refl (omega arith)
 
   -- the slot that is stored is the decision's

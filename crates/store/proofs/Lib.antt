@@ -1,4 +1,3 @@
-pub mod Told
 pub mod Pages
 pub mod Decisions
 pub mod BuildTold

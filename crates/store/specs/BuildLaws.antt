@@ -10,18 +10,18 @@ use lib.Dec.{eqb, ltb, leb}
 use lib.ListN.{length, getD, set}
 use borrow.Author.Tests.{lt-ltb, le-ltb, le-leb, lt-leb, eq-eqb, ne-eqb, eqb-true, eqb-false, not-false}
 use Rattle.span.specs.Bytes.{zeros, part, same, splice}
-use Rattle.span.specs.Laws.{part-at, splice-more, splice-in, splice-after, splice-length}
+use Rattle.span.specs.Laws.{same-true, part-at, splice-more, splice-in, splice-after, splice-length}
 use Rattle.layout.specs.Sizes.{slotSize, slotAt}
-use Rattle.layout.specs.Refusals.{Row, _⇐_, firstOf, orElse, decided, Groups, ordered, decided-done, decided-refused, or-none, row-off}
+use Rattle.layout.specs.Refusals.{Row, _⇐_, firstOf, orElse, decided, ordered, decided-done, decided-refused, or-none, row-off}
 use Rattle.layout.specs.Headers.{headerRows}
-use Rattle.layout.specs.Areas.{blocksIn, pagesIn, patchFits, fullFits, lengthRows}
+use Rattle.layout.specs.Areas.{blocksIn, pagesIn}
 use Rattle.layout.specs.Slots.{SlotNumbers, slotNumbers, soundSlot, unsoundSlot, emptySlot, fullSlot, payloadOf, payloadLength, isPatch, plainNumbers, slot-short, slot-patch, slot-other}
 use Rattle.stream.specs.Entries.{sound}
 use Rattle.blockmap.specs.Pairs.{mapBytes, pairAt, pairs, patchPair, fullPair, reservedPair, badPairs}
 use Rattle.blockmap.specs.Meaning.{upTo, keep, keep-same, up-to-below, blocksWith, pairs-count, BadPair, bad-iff}
 use Rattle.blockmap.specs.Pack.{pairOf, packedByte, packedFirst, packed}
 use Rattle.blockmap.specs.PackLaws.{pair-of-below, packed-length, packed-used, packed-unused, packed-more, packed-first-length, packed-same}
-use Rattle.store.specs.Frame.{slotOf, placeOf, frameRows, ordered-frame}
+use Rattle.store.specs.Frame.{slotOf, placeOf, frameRows, ordered-frame, lengthsFit, frame-is, frame-sound}
 use Rattle.store.specs.Read.{slotRows, fullRows, payloadRows}
 use Rattle.store.specs.Build.{placeRows, blockFault, BlockFault, firstFault, buildRows, builtMap, BuildOutcome, buildOutcome, BuildNumbers}
 
@@ -56,6 +56,14 @@ module _ (P : ℕ) (full : List ℕ) (b : ℕ) where
   pub stray-place : b < pagesIn P (length full) → same (placeOf P full b) (zeros P) ≡ false → straysIn P full b ≡ 10
   unfolding straysIn
   stray-place h e = rw (lt-ltb b (pagesIn P (length full)) h, e)
+
+  -- a place that holds zeros, if there is one
+  pub no-strays : (b < pagesIn P (length full) → placeOf P full b ≡ zeros P) → straysIn P full b ≡ 0
+  no-strays h =
+      elim (decLt b (pagesIn P (length full))) [
+        | yes l ↦ clean-place (same-true (placeOf P full b) (zeros P) (h l))
+        | no l ↦ no-place (omega arith)
+      ]
 
 -- A block, by what its slot is
 
@@ -135,14 +143,10 @@ map-turn buffer map f n at v h e q =
 
 module _ (P : ℕ) (patch full : List ℕ) where
   pub frame-none : (fits : Bool) → firstOf (frameRows P ((1 ⇐ false) ∷ []) ((9 ⇐ not fits) ∷ []) patch full) ≡ 0
-      → ((patchFits P (length patch) && fullFits P (blocksIn (length patch)) (length full)) ≡ true) × (fits ≡ true) × (firstOf (headerRows P patch full) ≡ 0)
-  unfolding frameRows firstOf orElse lengthRows
+      → (lengthsFit P patch full ≡ true) × (fits ≡ true) × (firstOf (headerRows P patch full) ≡ 0)
   frame-none fits e =
-      let lengths : Bool = patchFits P (length patch) && fullFits P (blocksIn (length patch)) (length full) in
-      let rest : ℕ = orElse (cond (not fits) 9 0) (firstOf (headerRows P patch full)) in
-      let a : _≡_ {A = ℕ} (cond (not lengths) 2 0) 0 × (rest ≡ 0) = or-none (cond (not lengths) 2 0) rest e in
-      let b : _≡_ {A = ℕ} (cond (not fits) 9 0) 0 × (firstOf (headerRows P patch full) ≡ 0) = or-none (cond (not fits) 9 0) (firstOf (headerRows P patch full)) (a .1) in
-      (not-false lengths (row-off 1 (not lengths) (a .0)), not-false fits (row-off 8 (not fits) (b .0)), b .1)
+      let f = frame-sound P patch full true fits (sym (frame-is P patch full true fits) ∙ e) in
+      (f .1, f .2, f .3)
 
   fault-none : (b k : ℕ) (x : ℕ) → decided x (firstFault P patch full (b + 1) k) (λ n. record { number = n; block = b }) .number ≡ 0 → (x ≡ 0) × (firstFault P patch full (b + 1) k .number ≡ 0)
   unfolding decided

@@ -2,17 +2,18 @@
 use Prim.Native.Nat.{ℕ, _≤_}
 use native.Mathlib.Nat.{le-of-eq}
 use native.Mathlib.Omega.{arith}
-use mathlib.Core.Path.{_≡_, refl, sym, ap, _∙_}
-use mathlib.Core.Bool.{Bool, true, false, not, _&&_, cond}
+use mathlib.Core.Path.{_≡_, refl, _∙_}
+use mathlib.Core.Bool.{Bool, true, false, not, cond}
 use mathlib.Core.Logic.{_⊎_, inl, inr}
-use mathlib.Core.List.{List, [], _∷_}
+use mathlib.Core.List.{List, []}
 use lib.ListN.{length, take}
 use lib.Seq.{take-all}
 use Rattle.layout.specs.Numbers.{refusalNumber}
-use Rattle.layout.specs.Refusals.{Row, firstOf, orElse, decided, Groups, ordered, decided-done, decided-refused}
+use Rattle.layout.specs.Refusals.{Row, firstOf, orElse, decided, ordered, decided-done, decided-refused}
 use Rattle.layout.specs.Areas.{blocksIn, pagesIn, patchFits, fullFits, lengthRows, freshPatch, freshFull, patch-fits-is, full-fits-is, fresh-patch-length, fresh-full-length}
 use Rattle.layout.specs.Sizes.{fullHead, slotAt, pageAt}
 use Rattle.span.specs.Laws.{and-left, and-right}
+use Rattle.store.specs.Frame.{lengthsFit}
 use Rattle.store.specs.declared.Formatted.{Formatted}
 use Rattle.store.specs.declared.Formatted.the-variants.{Done, Refused}
 
@@ -54,32 +55,29 @@ pub record Format (P : ℕ) (patch full : List ℕ) (answer : Formatted) (patch�
 
 -- Laws
 
-abbrev Lengths : ℕ → List ℕ → List ℕ → Bool
-Lengths P patch full = patchFits P (length patch) && fullFits P (blocksIn (length patch)) (length full)
-
-format-rows : (P : ℕ) (patch full : List ℕ) → firstOf (formatRows P patch full) ≡ cond (not (Lengths P patch full)) 2 0
+format-rows : (P : ℕ) (patch full : List ℕ) → firstOf (formatRows P patch full) ≡ cond (not (lengthsFit P patch full)) 2 0
 unfolding formatRows ordered firstOf orElse lengthRows
-format-rows P patch full = go (Lengths P patch full)
+format-rows P patch full = go (lengthsFit P patch full)
   where
     go : (t : Bool) → orElse (cond (not t) 2 0) 0 ≡ cond (not t) 2 0
     go true = refl
     go false = refl
 
-pub format-refused : (P : ℕ) (patch full : List ℕ) → Lengths P patch full ≡ false → formatOutcome P patch full ≡ record { number = 2; patch = patch; full = full }
+pub format-refused : (P : ℕ) (patch full : List ℕ) → lengthsFit P patch full ≡ false → formatOutcome P patch full ≡ record { number = 2; patch = patch; full = full }
 unfolding formatOutcome
 format-refused P patch full e = decided-refused _ _ (firstOf (formatRows P patch full)) 2 (format-rows P patch full ∙ rw e) (λ q. omega arith)
 
-pub format-done : (P : ℕ) (patch full : List ℕ) → Lengths P patch full ≡ true → formatOutcome P patch full ≡ record { number = 0; patch = freshPatch P (length patch); full = freshFull P (length full) }
+pub format-done : (P : ℕ) (patch full : List ℕ) → lengthsFit P patch full ≡ true → formatOutcome P patch full ≡ record { number = 0; patch = freshPatch P (length patch); full = freshFull P (length full) }
 unfolding formatOutcome
 format-done P patch full e = decided-done _ _ (firstOf (formatRows P patch full)) (format-rows P patch full ∙ rw e)
 
 -- what the code makes of areas of sound lengths
-pub format-patch : (P : ℕ) (patch full : List ℕ) → Lengths P patch full ≡ true → take (length patch) (freshPatch P (length patch)) ≡ freshPatch P (length patch)
+pub format-patch : (P : ℕ) (patch full : List ℕ) → lengthsFit P patch full ≡ true → take (length patch) (freshPatch P (length patch)) ≡ freshPatch P (length patch)
 format-patch P patch full e =
     let l : length patch ≡ slotAt (blocksIn (length patch)) = patch-fits-is P (length patch) (and-left (patchFits P (length patch)) (fullFits P (blocksIn (length patch)) (length full)) e) .0 in
     take-all (length patch) (freshPatch P (length patch)) (le-of-eq (fresh-patch-length P (length patch) (omega arith)))
 
-pub format-full : (P : ℕ) (patch full : List ℕ) → Lengths P patch full ≡ true → take (length full) (freshFull P (length full)) ≡ freshFull P (length full)
+pub format-full : (P : ℕ) (patch full : List ℕ) → lengthsFit P patch full ≡ true → take (length full) (freshFull P (length full)) ≡ freshFull P (length full)
 format-full P patch full e =
     take-all (length full) (freshFull P (length full))
     (le-of-eq (fresh-full-length P (length full) (present (full-fits-is P (blocksIn (length patch)) (length full) (and-right (patchFits P (length patch)) (fullFits P (blocksIn (length patch)) (length full)) e)))))

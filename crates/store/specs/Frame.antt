@@ -58,27 +58,23 @@ abbrev pub lengthsFit : ℕ → List ℕ → List ℕ → Bool
 lengthsFit P patch full = patchFits P (length patch) && fullFits P (blocksIn (length patch)) (length full)
 
 -- the number of a frame, by its tests and the headers' number
-unfoldable pub frameNumber : Bool → Bool → Bool → ℕ → ℕ
-frameNumber pages lengths buffers headers = orElse (cond (not pages) 1 0) (orElse (cond (not lengths) 2 0) (orElse (cond (not buffers) 9 0) headers))
+unfoldable pub frameBy : Bool → Bool → Bool → ℕ → ℕ
+frameBy pages lengths buffers headers = orElse (cond (not pages) 1 0) (orElse (cond (not lengths) 2 0) (orElse (cond (not buffers) 9 0) headers))
 
 module _ (P : ℕ) (patch full : List ℕ) where
-  pub frame-is : (a b : Bool) → firstOf (frameRows P ((1 ⇐ not a) ∷ []) ((9 ⇐ not b) ∷ []) patch full) ≡ frameNumber a (lengthsFit P patch full) b (firstOf (headerRows P patch full))
-  unfolding frameRows frameNumber firstOf lengthRows
+  pub frame-is : (a b : Bool) → firstOf (frameRows P ((1 ⇐ not a) ∷ []) ((9 ⇐ not b) ∷ []) patch full) ≡ frameBy a (lengthsFit P patch full) b (firstOf (headerRows P patch full))
+  unfolding frameRows frameBy firstOf lengthRows
   frame-is a b = refl
 
-  -- a call without pages, or without a buffer, has nothing of theirs to refuse
+  -- a call without a buffer has no short one
   pub frame-pages : (a : Bool) → firstOf (frameRows P ((1 ⇐ not a) ∷ []) [] patch full) ≡ firstOf (frameRows P ((1 ⇐ not a) ∷ []) ((9 ⇐ not true) ∷ []) patch full)
   unfolding frameRows firstOf orElse lengthRows
   frame-pages a = refl
 
-  pub frame-buffer : (b : Bool) → firstOf (frameRows P [] ((9 ⇐ not b) ∷ []) patch full) ≡ firstOf (frameRows P ((1 ⇐ not true) ∷ []) ((9 ⇐ not b) ∷ []) patch full)
-  unfolding frameRows firstOf orElse
-  frame-buffer b = refl
-
   -- a frame that is sound has sound lengths and headers
-  pub frame-sound : (a b : Bool) → frameNumber a (lengthsFit P patch full) b (firstOf (headerRows P patch full)) ≡ 0
+  pub frame-sound : (a b : Bool) → frameBy a (lengthsFit P patch full) b (firstOf (headerRows P patch full)) ≡ 0
       → (a ≡ true) × (lengthsFit P patch full ≡ true) × (b ≡ true) × (firstOf (headerRows P patch full) ≡ 0)
-  unfolding frameNumber orElse
+  unfolding frameBy orElse
   frame-sound a b e = go a (lengthsFit P patch full) b e
     where
       go : (a l b : Bool) → orElse (cond (not a) 1 0) (orElse (cond (not l) 2 0) (orElse (cond (not b) 9 0) (firstOf (headerRows P patch full)))) ≡ 0
@@ -89,7 +85,7 @@ module _ (P : ℕ) (patch full : List ℕ) where
       go false l b e = absurd (omega arith)
 
 -- an absent full area has no place
-none-in : (P l : ℕ) → l ≡ 0 → pagesIn P l ≡ 0
+pub none-in : (P l : ℕ) → l ≡ 0 → pagesIn P l ≡ 0
 unfolding pagesIn
 none-in P l e =
     let q : l - fullHead ≡ 0 = omega arith in
@@ -124,7 +120,6 @@ pub record Sound (P : ℕ) (patch full base page : List ℕ) : Type 0 where
   pub base-size : (length base ≡ 0 → ⊥) → length base ≡ P
   pub patch-fit : patchFits P (length patch) ≡ true
   pub full-fit : fullFits P (blocksIn (length patch)) (length full) ≡ true
-  pub heads : firstOf (headerRows P patch full) ≡ 0
 
 pub sound-frame : (P : ℕ) (patch full base page : List ℕ) → firstOf (frameRows P (pageRows P base page) [] patch full) ≡ 0 → Sound P patch full base page
 sound-frame P patch full base page e =
@@ -134,5 +129,4 @@ sound-frame P patch full base page e =
       base-size = base-length P base page (f .0);
       patch-fit = and-left (patchFits P (length patch)) (fullFits P (blocksIn (length patch)) (length full)) (f .1);
       full-fit = and-right (patchFits P (length patch)) (fullFits P (blocksIn (length patch)) (length full)) (f .1);
-      heads = f .3;
     }

@@ -1,15 +1,15 @@
 -- Judge one 512-byte slot: its kind and payload length.
 use Prim.Native.Nat.{ℕ}
 use native.Mathlib.Omega.{arith}
-use mathlib.Core.Path.{_≡_, refl, sym, ap, _∙_}
-use mathlib.Core.Bool.{true, false, not}
+use mathlib.Core.Path.{_≡_, ap, _∙_}
+use mathlib.Core.Bool.{not}
 use mathlib.Core.List.{List, [], _∷_}
 use lib.Dec.{eqb}
 use lib.ListN.{length}
 use borrow.Author.Tests.{eq-eqb, ne-eqb}
 use Rattle.layout.specs.Sizes.{slotSize}
 use Rattle.layout.specs.Numbers.{kindNumber, refusalNumber}
-use Rattle.layout.specs.Refusals.{Row, _⇐_, firstOf, orElse, decided, Groups, ordered, decided-done, decided-refused}
+use Rattle.layout.specs.Refusals.{Row, _⇐_, firstOf, orElse, decided, ordered, decided-done, decided-refused}
 use Rattle.layout.specs.Slots.{SlotNumbers, slotNumbers, soundSlot, unsoundSlot}
 use Rattle.store.specs.declared.Judged.{Judged}
 use Rattle.store.specs.declared.Judged.the-variants.{Done, Refused}

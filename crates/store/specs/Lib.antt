@@ -6,4 +6,5 @@ pub mod Read
 pub mod Write
 pub mod Build
 pub mod BuildLaws
+pub mod Given
 pub mod BuildMeaning

@@ -6,14 +6,13 @@ use mathlib.Core.Bool.{Bool, true, false, not, _&&_, cond}
 use mathlib.Core.List.{List, [], _∷_, _++_, append-nil}
 use lib.Dec.{eqb, leb}
 use lib.ListN.{length}
-use borrow.Author.Tests.{le-leb, lt-leb, eq-eqb}
+use borrow.Author.Tests.{le-leb, lt-leb}
 use Rattle.span.specs.Bytes.{zeros}
-use Rattle.span.specs.Laws.{zeros-length}
 use Rattle.layout.specs.Numbers.{kindNumber, refusalNumber}
-use Rattle.layout.specs.Refusals.{Row, _⇐_, firstOf, orElse, decided, Groups, ordered, first-hit, first-skip, or-skip, or-some, decided-done, decided-refused}
+use Rattle.layout.specs.Refusals.{Row, _⇐_, firstOf, orElse, decided, ordered, first-hit, first-skip, or-skip, or-some, decided-done, decided-refused}
 use Rattle.layout.specs.Headers.{headerRows}
 use Rattle.layout.specs.Areas.{blocksIn, pagesIn, lengthRows}
-use Rattle.layout.specs.Slots.{SlotNumbers, slotNumbers, soundSlot, unsoundSlot, payloadOf}
+use Rattle.layout.specs.Slots.{slotNumbers, soundSlot, unsoundSlot, payloadOf}
 use Rattle.stream.specs.Entries.{payloadStream, sound, applied}
 use Rattle.stream.specs.Calls.{pageOf, pageRows}
 use Rattle.store.specs.Frame.{slotOf, placeOf, blockRows, frameRows, ordered-frame}

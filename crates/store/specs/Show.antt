@@ -1,15 +1,15 @@
 -- Show a block's payload, handed out as a part of the patch area itself.
-use Prim.Native.Nat.{ℕ, zero, suc, _+_, _≤_, _<_}
+use Prim.Native.Nat.{ℕ, _+_, _≤_, _<_}
 use native.Mathlib.Omega.{arith}
-use mathlib.Core.Path.{_≡_, refl, sym, ap, _∙_}
-use mathlib.Core.Bool.{Bool, true, false, not, cond}
+use mathlib.Core.Path.{_≡_, sym, ap, _∙_}
+use mathlib.Core.Bool.{true, false, not, cond}
 use mathlib.Core.List.{List, [], _∷_}
 use lib.Dec.{leb}
 use borrow.Author.Tests.{le-leb, lt-leb}
 use lib.ListN.{length}
 use Rattle.span.specs.Bytes.{part}
 use Rattle.layout.specs.Sizes.{payloadAt, slotAt}
-use Rattle.layout.specs.Refusals.{Row, _⇐_, firstOf, orElse, decided, Groups, ordered, first-append, or-some, decided-done, decided-refused}
+use Rattle.layout.specs.Refusals.{Row, _⇐_, firstOf, orElse, decided, ordered, first-append, or-some, decided-done, decided-refused}
 use Rattle.layout.specs.Headers.{patchHeadRows}
 use Rattle.layout.specs.Areas.{blocksIn, patchFits}
 use Rattle.layout.specs.Slots.{isPatch, payloadLength}

@@ -12,7 +12,7 @@ use Rattle.span.specs.Laws.{mid-length, put-splice, put-copied, put-filled}
 use Rattle.span.specs.Bytes.{zeros, splice}
 use Rattle.layout.specs.Sizes.{slotSize, room, slotAt, pageAt}
 use Rattle.layout.specs.Numbers.{kindNumber, refusalNumber}
-use Rattle.layout.specs.Refusals.{Row, _⇐_, firstOf, orElse, decided, Groups, ordered, first-hit, first-skip, or-skip, or-some, decided-done, decided-refused}
+use Rattle.layout.specs.Refusals.{Row, _⇐_, firstOf, orElse, decided, ordered, first-hit, first-skip, or-skip, or-some, decided-done, decided-refused}
 use Rattle.layout.specs.Headers.{headerRows}
 use Rattle.layout.specs.Areas.{blocksIn, pagesIn, lengthRows}
 use Rattle.layout.specs.Slots.{emptySlot, patchSlot, fullSlot, slotImage, slot-image-length}

@@ -1,4 +1,3 @@
-pub mod Told
 pub mod Signed
 pub mod Reading
 pub mod Turns

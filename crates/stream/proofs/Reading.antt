@@ -1,19 +1,18 @@
 -- What the reader finds at a place of a payload, over plain lists.
-use Prim.Native.Nat.{ℕ, zero, suc, _+_, _-_, _*_, _≤_, _<_}
+use Prim.Native.Nat.{ℕ, _+_, _-_, _*_, _≤_, _<_}
 use native.Mathlib.Omega.{arith}
 use native.Mathlib.Numerals.{add-one}
 use mathlib.Core.Path.{_≡_, refl, sym, ap, _∙_, subst}
 use mathlib.Core.Bool.{Bool, true, false}
 use mathlib.Core.List.{List, [], _∷_}
-use mathlib.Core.Logic.{_⊎_, inl, inr}
+use mathlib.Core.Logic.{inr}
 use lib.ListN.{length, drop, getD, length-drop, drop-of-length-le}
 use lib.Seq.{drop-cons}
 use lib.IntN.{ℤ, pos, _+ℤ_}
-use Rattle.stream.specs.Entries.{Stream, done, cut, out, entry, Next, code, low, high, value, inPage, stream}
-use Rattle.stream.specs.StreamLaws.{code-short, code-long, value-is}
-use Rattle.stream.specs.Steps.{Follows, Entered, landing}
+use Rattle.stream.specs.Entries.{Stream, done, cut, out, entry, code, low, high, value, inPage, stream}
+use Rattle.stream.specs.StreamLaws.{code-short, code-long}
+use Rattle.stream.specs.Steps.{Follows, landing}
 use Rattle.stream.specs.declared.Step.{Step}
-use Rattle.stream.specs.declared.Step.the-variants.{End, Broken, Entry}
 
 -- the list at a place: its byte there, and the list at the next place
 pub peel : (s : List ℕ) (m m′ : ℕ) → m < length s → m′ ≡ m + 1 → drop m s ≡ getD s m 0 ∷ drop m′ s

@@ -1,10 +1,10 @@
 -- Signed numbers of the code, over plain numbers: a position that moved, and whether it lies in a page.
-use Prim.Native.Nat.{ℕ, zero, suc, _+_, _-_, _^_, _≤_, _<_}
+use Prim.Native.Nat.{ℕ, suc, _-_, _^_, _≤_, _<_}
 use native.Mathlib.Omega.{arith}
 use mathlib.Core.Path.{_≡_, refl, sym, ap, _∙_, subst}
 use mathlib.Core.Bool.{Bool, true, false, cond, true≢false, false≢true}
 use lib.Dec.{ltb, T}
-use lib.IntN.{ℤ, pos, negsuc, natAbs, subℕ, _+ℤ_}
+use lib.IntN.{ℤ, pos, negsuc, natAbs, _+ℤ_}
 use lib.Signed.{ltZ, nonNeg, natAbs-le}
 use mir.Syntax.{w32, w64}
 use mir.Val.{Fits, SFits, toZ, ofZ}
@@ -13,8 +13,7 @@ use mir.Facts.{sfits-widen}
 use borrow.Author.Tests.{lt-ltb, le-ltb}
 use Rattle.stream.specs.Entries.{inPage}
 use Rattle.stream.specs.Steps.{landing}
-use Rattle.stream.specs.declared.Step.{Step}
-use Rattle.stream.specs.declared.Step.the-variants.{End, Broken, Entry}
+use Rattle.stream.specs.declared.Step.the-variants.{Broken, Entry}
 
 -- A sum of a position and a distance fits 64 bits.
 pub moved-fits : (p : ℤ) (by : ℕ) → SFits w32 p → by < 2 ^ 32 → SFits w64 (p +ℤ pos by)

@@ -1,12 +1,11 @@
 -- What one turn of each loop over a payload gives, over plain lists.
-use Prim.Native.Nat.{ℕ, zero, suc, _+_, _-_, _≤_, _<_}
+use Prim.Native.Nat.{ℕ, suc, _+_, _≤_, _<_}
 use native.Mathlib.Omega.{arith}
-use native.Mathlib.Numerals.{add-one}
 use mathlib.Core.Path.{_≡_, refl, sym, ap, _∙_, subst}
-use mathlib.Core.Bool.{Bool, true, false, _&&_, and-true, and-false, false≢true}
-use mathlib.Core.List.{List, [], _∷_}
-use mathlib.Core.Logic.{_⊎_, inl, inr, ⊎-elim}
-use lib.Dec.{leb, ltb, T}
+use mathlib.Core.Bool.{Bool, true, false, _&&_, and-false, false≢true}
+use mathlib.Core.List.{List}
+use mathlib.Core.Logic.{_⊎_, ⊎-elim}
+use lib.Dec.{leb, T}
 use lib.ListN.{length, drop, set, length-set}
 use lib.IntN.{ℤ, pos, negsuc, natAbs}
 use lib.Signed.{nonNeg}
@@ -15,7 +14,7 @@ use mir.Val.{Fits, SFits, toZ, ofZ}
 use mir.ValLaws.{toZ-ofZ}
 use borrow.Author.Tests.{le-leb, lt-leb, ltb-true}
 use Rattle.layout.specs.Sizes.{room}
-use Rattle.stream.specs.Entries.{Stream, done, cut, out, entry, Next, code, inPage, stream, start, payloadStream, whole, sound, entries, last, put, applied}
+use Rattle.stream.specs.Entries.{Stream, done, cut, out, code, inPage, stream, start, payloadStream, whole, sound, entries, last, put, applied}
 use Rattle.stream.specs.Steps.{Follows, Entered, SoundAs}
 use Rattle.stream.specs.declared.Step.{Step}
 

@@ -10,8 +10,8 @@ use lib.IntN.{ℤ, pos}
 use Rattle.span.specs.Bytes.{zeros, splice}
 use Rattle.layout.specs.Sizes.{room}
 use Rattle.layout.specs.Numbers.{kindNumber, refusalNumber}
-use Rattle.layout.specs.Refusals.{Row, _⇐_, firstOf, Groups, ordered}
-use Rattle.stream.specs.Entries.{Stream, start, payloadStream, sound, entries, last, applied}
+use Rattle.layout.specs.Refusals.{Row, _⇐_, firstOf, ordered}
+use Rattle.stream.specs.Entries.{start, payloadStream, sound, entries, last, applied}
 use Rattle.stream.specs.Differences.{Change, diffs, coded, lastPlace}
 use Rattle.stream.specs.declared.Compared.{Compared}
 use Rattle.stream.specs.declared.Compared.the-variants.{Done as ComparedDone, Refused as ComparedRefused}

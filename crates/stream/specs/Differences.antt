@@ -1,9 +1,9 @@
 -- The writer's stream: which bytes differ, and how they are spelled.
 use Prim.Native.Nat.{ℕ, _+_, _-_}
-use mathlib.Core.Bool.{Bool, true, false, cond}
+use mathlib.Core.Bool.{true, false, cond}
 use mathlib.Core.List.{List, [], _∷_, _++_}
 use lib.Dec.{eqb, ltb}
-use lib.IntN.{ℤ, pos, negsuc}
+use lib.IntN.{ℤ, pos}
 use Rattle.layout.specs.Numbers.{le}
 
 -- a byte of the modified page that is not its base's

@@ -2,20 +2,19 @@
 -- over a base of zeros. The lent buffer and the lent page are any that the calls take.
 use Prim.Native.Nat.{ℕ, _≤_}
 use native.Mathlib.Omega.{arith}
-use mathlib.Core.Path.{_≡_, refl, sym, ap, _∙_}
-use mathlib.Core.Bool.{Bool, true, false, cond}
+use mathlib.Core.Path.{_≡_, refl, ap, _∙_}
+use mathlib.Core.Bool.{true, false}
 use mathlib.Core.List.{List, [], _∷_}
-use lib.Dec.{ltb}
 use lib.ListN.{length, set}
 use lib.IntN.{ℤ, pos, negsuc}
-use borrow.Author.Tests.{eq-eqb, le-ltb}
+use borrow.Author.Tests.{le-ltb}
 use Rattle.span.specs.Bytes.{zeros, splice}
 use Rattle.layout.specs.Sizes.{pageSize, room}
 use Rattle.layout.specs.Numbers.{le}
 use Rattle.layout.specs.Refusals.{firstOf}
 use Rattle.stream.specs.Entries.{stream, inPage, whole, sound, entries, last, put, applied, payloadStream, start}
-use Rattle.stream.specs.Differences.{diffs, spelled, coded, lastPlace, Change}
-use Rattle.stream.specs.Calls.{pageOf, pagesFit, kindFor, comparison, compareRows, compareNumbers, compareBuffer, ComparedNumbers, applyRows, applyNumbers, applyPage, AppliedNumbers}
+use Rattle.stream.specs.Differences.{diffs, spelled, coded, lastPlace}
+use Rattle.stream.specs.Calls.{pageOf, kindFor, comparison, compareNumbers, compareBuffer, ComparedNumbers, applyRows, applyNumbers, applyPage}
 use Rattle.stream.specs.Laws.{fits-none, compare-number, compare-done, compare-written, compare-kept, apply-number, apply-done, apply-not}
 
 -- Compare finds this answer, and leaves these bytes at the start of any buffer that is long enough

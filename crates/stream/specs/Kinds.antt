@@ -3,22 +3,21 @@
 use Prim.Native.Nat.{ℕ, zero, suc, _+_, _-_, _≤_, _<_}
 use native.Mathlib.Omega.{arith}
 use native.Mathlib.Decide.{decLt}
-use mathlib.Core.Path.{_≡_, refl, sym, ap, _∙_, subst}
+use mathlib.Core.Path.{_≡_, refl, sym, ap, _∙_}
 use mathlib.Core.Bool.{Bool, true, false, cond, _&&_, _||_}
 use mathlib.Core.List.{List, [], _∷_, _++_}
 use mathlib.Core.Logic.{_↔_}
-use lib.Dec.{eqb, ltb, leb}
+use lib.Dec.{eqb, ltb}
 use lib.ListN.{length, take}
-use lib.IntN.{ℤ}
 use borrow.Author.Tests.{eq-eqb, eqb-true, ltb-false}
-use Rattle.span.specs.Bytes.{splice, part}
+use Rattle.span.specs.Bytes.{part}
 use Rattle.span.specs.Laws.{part-splice}
 use Rattle.layout.specs.Sizes.{room}
 use Rattle.layout.specs.Numbers.{le}
 use Rattle.layout.specs.Refusals.{firstOf}
-use Rattle.stream.specs.Entries.{payloadStream, sound, entries, last, start, applied}
-use Rattle.stream.specs.Differences.{Change, diffs, spelled, coded, written, lastPlace}
-use Rattle.stream.specs.Calls.{pageOf, pagesFit, kindFor, comparison, compareRows, compareNumbers, compareBuffer, ComparedNumbers, applyRows, applyNumbers, applyPage, AppliedNumbers}
+use Rattle.stream.specs.Entries.{sound, entries, last}
+use Rattle.stream.specs.Differences.{Change, diffs, spelled, coded, written}
+use Rattle.stream.specs.Calls.{pageOf, pagesFit, kindFor, comparison, compareRows, compareNumbers, compareBuffer, ComparedNumbers, applyRows, applyNumbers, applyPage}
 use Rattle.stream.specs.Laws.{page-length, present-length, kind-none, kind-large, kind-patch, patch-fits, compare-number, compare-done, compare-not, compare-written, apply-number, apply-done}
 use Rattle.stream.specs.ReadBack.{Back, read-back}
 

@@ -7,17 +7,17 @@ use mathlib.Core.List.{List, [], _∷_, _++_}
 use mathlib.Core.Logic.{_⊎_, inl, inr}
 use lib.Dec.{eqb, leb, ltb}
 use lib.ListN.{length}
-use lib.IntN.{ℤ, pos}
+use lib.IntN.{pos}
 use borrow.Author.Tests.{eq-eqb, ne-eqb, eqb-true, eqb-false, le-leb, lt-leb}
 use native.Mathlib.Decide.{decLt}
 use lib.Seq.{take-all}
 use Rattle.span.specs.Bytes.{zeros, splice, part}
 use Rattle.span.specs.Laws.{zeros-length}
 use Rattle.layout.specs.Sizes.{room}
-use Rattle.layout.specs.Refusals.{Row, _⇐_, firstOf, orElse, ordered}
+use Rattle.layout.specs.Refusals.{_⇐_, firstOf, orElse, ordered}
 use Rattle.stream.specs.Entries.{payloadStream, sound, entries, last, start, applied}
 use Rattle.stream.specs.Differences.{diffs, coded, written}
-use Rattle.stream.specs.Steps.{farthest, reach, near, Differs}
+use Rattle.stream.specs.Steps.{farthest, near, Differs}
 use Rattle.stream.specs.declared.Difference.{Difference}
 use Rattle.stream.specs.Calls.{pageOf, pagesFit, kindFor, compareRows, comparison, compareNumbers, compareBuffer, ComparedNumbers, applyRows, applyNumbers, applyPage, AppliedNumbers}
 
@@ -138,9 +138,6 @@ patch-fits n e =
 pub near-is : (page : List ℕ) → length page ≤ farthest → near page ≡ page
 unfolding part
 near-is page h = take-all farthest page h
-
-pub reach-is : (n : ℕ) → n ≤ farthest → reach n ≡ n
-reach-is n h = omega arith
 
 pub differs-near : (base page room₀ after : List ℕ) (d : Difference) → length page ≤ farthest → Differs base (near page) room₀ d after → Differs base page room₀ d after
 differs-near base page room₀ after d h w = subst (λ (l : List ℕ). Differs base l room₀ d after) (near-is page h) w

@@ -11,4 +11,5 @@ pub mod Writer
 pub mod ReadBack
 pub mod Landing
 pub mod Kinds
+pub mod Given
 pub mod Wrong

@@ -1,8 +1,8 @@
 -- What the calls owe: no second outcome meets a call's predicate. The answer is the code's own enum, and the bytes are every lent byte.
 use Prim.Native.Nat.{ℕ}
-use mathlib.Core.Path.{_≡_, refl, sym, ap, _∙_}
+use mathlib.Core.Path.{_≡_, sym, ap, _∙_}
 use mathlib.Core.List.{List}
-use Rattle.layout.specs.Numbers.{kindNumber, refusalNumber, kind-one, refusal-one, refusal-some}
+use Rattle.layout.specs.Numbers.{kind-one, refusal-one, refusal-some}
 use Rattle.stream.specs.Calls.{ComparedNumbers, comparedNumbers, Compare, AppliedNumbers, appliedNumbers, Apply}
 use Rattle.stream.specs.declared.Compared.{Compared}
 use Rattle.stream.specs.declared.Compared.the-variants.{Done as ComparedDone, Refused as ComparedRefused}

@@ -1,17 +1,17 @@
 -- Applying the writer's stream to the base gives the page, with the writer's own numbers, in pages up to 65,536 bytes.
-use Prim.Native.Nat.{ℕ, zero, suc, _+_, _-_, _*_, _/_, _%_, _≤_, _<_}
+use Prim.Native.Nat.{ℕ, zero, suc, _+_, _-_, _/_, _%_, _≤_, _<_}
 use native.Mathlib.Omega.{arith}
-use mathlib.Core.Path.{_≡_, refl, sym, ap, _∙_, subst}
+use mathlib.Core.Path.{_≡_, refl, sym, ap, _∙_}
 use mathlib.Core.Bool.{Bool, true, false, cond}
 use mathlib.Core.List.{List, [], _∷_, _++_, append-assoc}
 use lib.Dec.{eqb, ltb}
 use lib.ListN.{length, set, length-append}
 use lib.Seq.{set-at}
-use lib.IntN.{ℤ, pos, negsuc, subℕ, _+ℤ_}
+use lib.IntN.{ℤ, pos, _+ℤ_}
 use borrow.Author.Tests.{eqb-true, ltb-true, le-ltb, lt-ltb}
 use Rattle.layout.specs.Sizes.{room}
 use Rattle.layout.specs.Numbers.{le}
-use Rattle.stream.specs.Entries.{Stream, done, cut, out, entry, code, inPage, stream, start, payloadStream, whole, sound, entries, last, put, applied}
+use Rattle.stream.specs.Entries.{Stream, done, entry, code, inPage, stream, start, payloadStream, whole, sound, entries, last, put, applied}
 use Rattle.stream.specs.Differences.{Change, diffs, spelled, coded, written, lastPlace}
 use Rattle.stream.specs.Steps.{before}
 use Rattle.stream.specs.StreamLaws.{short-in, long-in, parts-sound}

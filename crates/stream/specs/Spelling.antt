@@ -1,6 +1,6 @@
 -- When a payload is sound, said without reading it: some list of entries spells it, and their positions stay in the page. Nothing here
 -- is shared with the reader's definition, and the last theorem says that the two agree.
-use Prim.Native.Nat.{ℕ, zero, suc, _+_, _-_, _*_, _/_, _%_, _≤_, _<_}
+use Prim.Native.Nat.{ℕ, _+_, _*_, _/_, _%_, _≤_, _<_}
 use native.Mathlib.Omega.{arith}
 use mathlib.Core.Path.{_≡_, refl, sym, ap, _∙_, subst}
 use mathlib.Core.Bool.{Bool, true, false, false≢true}

@@ -1,15 +1,15 @@
 -- The laws of the stream's reading: what each byte does, that an entry takes two bytes at least, and what an entry of each form reads as.
-use Prim.Native.Nat.{ℕ, zero, suc, _+_, _-_, _*_, _≤_, _<_}
+use Prim.Native.Nat.{ℕ, _+_, _*_, _≤_}
 use native.Mathlib.Omega.{arith}
-use mathlib.Core.Path.{_≡_, refl, sym, ap, _∙_}
+use mathlib.Core.Path.{_≡_, refl, ap, _∙_}
 use mathlib.Core.Bool.{Bool, true, false, _&&_, false≢true}
 use mathlib.Core.List.{List, [], _∷_}
 use lib.Dec.{eqb, leb}
 use lib.ListN.{length}
-use lib.IntN.{ℤ, pos, negsuc, _+ℤ_}
+use lib.IntN.{ℤ, pos, _+ℤ_}
 use borrow.Author.Tests.{eq-eqb, ne-eqb, leb-true, le-leb}
 use Rattle.layout.specs.Sizes.{room}
-use Rattle.stream.specs.Entries.{Stream, done, cut, out, entry, Next, code, low, high, value, inPage, stream, start, payloadStream, whole, sound, entries}
+use Rattle.stream.specs.Entries.{Stream, out, entry, Next, code, low, high, value, inPage, stream, start, payloadStream, whole, sound, entries}
 
 module _ (n : ℕ) (p : ℤ) where
   pub code-short : (b : ℕ) (bs : List ℕ) → (b ≡ 255 → ⊥) → stream n p code (b ∷ bs) ≡ stream n p (value 2 b) bs

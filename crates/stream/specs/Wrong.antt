@@ -2,7 +2,7 @@
 -- half a page behind.
 use Prim.Native.Nat.{ℕ}
 use native.Mathlib.Omega.{arith}
-use mathlib.Core.Path.{_≡_, refl, sym, ap, _∙_}
+use mathlib.Core.Path.{_≡_, refl, ap, _∙_}
 use mathlib.Core.List.{List, [], _∷_}
 use lib.ListN.{getD}
 use Rattle.span.specs.Bytes.{zeros}
@@ -10,7 +10,7 @@ use Rattle.layout.specs.Sizes.{pageSize}
 use Rattle.layout.specs.declared.Refusal.the-variants.{Payload}
 use Rattle.stream.specs.Entries.{stream, inPage, put, applied, payloadStream}
 use Rattle.stream.specs.Calls.{pageOf, Apply}
-use Rattle.stream.specs.Edges.{Refuses, refuses-cut}
+use Rattle.stream.specs.Edges.{refuses-cut}
 use Rattle.stream.specs.declared.Applied.the-variants.{Refused as AppliedRefused}
 
 -- the page that it leaves when it refuses: the base, and the entries before the broken one

@@ -2,7 +2,7 @@
 use crate::Code;
 use crate::Step;
 ghost use mathlib.Core.Path.{_≡_};
-ghost use Prim.Native.Nat.{_+_, _≤_, _<_};
+ghost use Prim.Native.Nat.{_+_, _<_};
 ghost use lib.ListN.{drop};
 ghost use lib.IntN.{_+ℤ_, pos};
 ghost use Rattle.stream.specs.Entries.{stream, code as nextCode, inPage};

@@ -12,11 +12,11 @@ use lib.ListN.{length, length-append}
 use Rattle.layout.specs.Sizes.{pageSize, room}
 use Rattle.layout.specs.Numbers.{le}
 use Rattle.layout.specs.Refusals.{Row, _⇐_, firstOf, orElse, ordered, decided}
-use Rattle.layout.specs.Slots.{SlotNumbers, slotNumbers, soundSlot, unsoundSlot, payloadLength, payloadOf, isPatch, emptySlot, patchSlot, fullSlot}
+use Rattle.layout.specs.Slots.{slotNumbers, soundSlot, unsoundSlot, payloadLength, payloadOf, isPatch, emptySlot, patchSlot, fullSlot}
 use Rattle.stream.specs.Differences.{Change, diffs, spelled, coded, written}
 use Rattle.stream.specs.Entries.{sound, entries, payloadStream}
 use Rattle.stream.specs.StreamLaws.{sound-few}
-use Rattle.stream.specs.Calls.{pageOf, pagesFit, ComparedNumbers, comparedNumbers, compareRows, comparison, compareNumbers, Compare, AppliedNumbers, appliedNumbers, applyRows, applyNumbers, Apply}
+use Rattle.stream.specs.Calls.{pageOf, pagesFit, ComparedNumbers, comparedNumbers, comparison, compareNumbers, Compare, AppliedNumbers, appliedNumbers, applyRows, applyNumbers, Apply}
 use Rattle.stream.specs.Laws.{page-length, compare-done, apply-number, apply-done, apply-not}
 use Rattle.stream.specs.Kinds.{compare-gives, accepted-fits}
 use Rattle.store.specs.Judge.{Judge, JudgedNumbers, judgedNumbers, judgeRows, judgeNumbers}

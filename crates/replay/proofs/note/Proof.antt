@@ -1,5 +1,5 @@
 use lib.Seq.{set-out}
-use mathlib.Core.Path.{_≡_, sym}
+use mathlib.Core.Path.{sym}
 use borrow.Author.Needs.{needs}
 use Rattle.replay.proofs.note.Statement.{statement}
 use Rattle.replay.proofs.note.Tie as tie

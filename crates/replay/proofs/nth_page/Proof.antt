@@ -1,8 +1,8 @@
 use Rattle.layout.specs.Sizes.{pageSize}
 use Rattle.span.specs.Laws.{part-past}
-use Prim.Native.Nat.{ℕ, _*_}
+use Prim.Native.Nat.{_*_}
 use native.Mathlib.Omega.{arith}
-use mathlib.Core.Path.{_≡_, sym}
+use mathlib.Core.Path.{sym}
 use borrow.Author.Needs.{needs}
 use Rattle.replay.proofs.nth_page.Statement.{statement}
 use Rattle.replay.proofs.nth_page.Tie as tie

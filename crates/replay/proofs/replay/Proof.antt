@@ -2,8 +2,8 @@ use native.Mathlib.Omega.{arith}
 use Rattle.replay.specs.Laws.{Going, begin, go-on, countable, ended}
 use Rattle.layout.specs.Sizes.{pageSize}
 use lib.ListN.{length}
-use mathlib.Core.Path.{_≡_, refl, sym, ap, _∙_}
-use Prim.Native.Nat.{ℕ, _-_}
+use mathlib.Core.Path.{_≡_, refl}
+use Prim.Native.Nat.{_-_}
 use borrow.Author.Needs.{needs}
 use Rattle.replay.proofs.replay.Statement.{statement}
 use Rattle.replay.proofs.replay.Tie as tie

@@ -2,11 +2,10 @@ use Rattle.span.specs.Bytes.{zeros}
 use Rattle.stream.specs.Calls.{pagesFit}
 use mathlib.Core.Bool.{true}
 use mathlib.Core.Path.{_≡_, sym, _∙_}
-use Prim.Native.Nat.{ℕ}
 use native.Mathlib.Omega.{arith}
 use Rattle.layout.specs.Sizes.{pageSize}
 use Rattle.stream.specs.Laws.{page-length, base-length, base-none, base-some}
-use Rattle.stream.proofs.Told.{on, off}
+use Rattle.span.specs.Told.{on, off}
 use Rattle.stream.proofs.Answers.{apply-refused, apply-over}
 use borrow.Author.Needs.{needs}
 use Rattle.stream.proofs.apply.Statement.{statement}

@@ -3,9 +3,8 @@ use mir.Val.{toZ, ofZ}
 use mir.Syntax.{w32}
 use lib.IntN.{ℤ}
 use lib.ListN.{length}
-use mathlib.Core.List.{List}
 use Prim.Native.Nat.{ℕ}
-use mathlib.Core.Path.{_≡_, subst, sym, ap, _∙_}
+use mathlib.Core.Path.{subst}
 use Rattle.stream.specs.declared.Checked.{Checked}
 use Rattle.stream.specs.Steps.{reach, Judges, SoundAs}
 use Rattle.stream.proofs.Answers.{applies-unsound, applies-sound}

@@ -1,13 +1,12 @@
 use mathlib.Core.Bool.{true}
 use mathlib.Core.Path.{_≡_}
 use lib.ListN.{length}
-use Prim.Native.Nat.{ℕ}
 use native.Mathlib.Omega.{arith}
 use Rattle.layout.specs.Sizes.{pageSize}
 use Rattle.span.specs.Bytes.{zeros}
 use Rattle.stream.specs.Calls.{pagesFit}
 use Rattle.stream.specs.Laws.{page-length, base-none, base-some}
-use Rattle.stream.proofs.Told.{on, off}
+use Rattle.span.specs.Told.{on, off}
 use Rattle.stream.proofs.Answers.{compare-refused-page, compare-refused-buffer, compare-with}
 use borrow.Author.Needs.{needs}
 use Rattle.stream.proofs.compare.Statement.{statement}

@@ -1,11 +1,11 @@
 use mir.ValLaws.{toZ-ofZ}
 use mir.Val.{toZ, ofZ}
 use mir.Syntax.{w32}
-use Prim.Native.Nat.{ℕ, _-_}
+use Prim.Native.Nat.{_-_}
 use mathlib.Core.Path.{_≡_, sym, ap, subst, _∙_}
 use native.Mathlib.Omega.{arith}
 use Rattle.stream.specs.Calls.{kindFor}
-use Rattle.layout.specs.declared.Kind.the-variants.{Empty, Patch, Full}
+use Rattle.layout.specs.declared.Kind.the-variants.{Empty, Full}
 use Rattle.layout.specs.Numbers.{kindNumber}
 use Rattle.span.specs.Laws.{zeros-length}
 use Rattle.span.specs.Bytes.{zeros, part}

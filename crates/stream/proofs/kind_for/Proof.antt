@@ -1,5 +1,4 @@
 use Rattle.stream.specs.Laws.{kind-none, kind-large, kind-patch}
-use borrow.Author.Needs.{needs}
 use Rattle.stream.proofs.kind_for.Statement.{statement}
 use Rattle.stream.proofs.kind_for.Tie as tie
 

@@ -1,7 +1,6 @@
 use mathlib.Core.Path.{sym}
 use Rattle.layout.specs.Sizes.{pageSize}
 use Rattle.stream.specs.Laws.{fits-other, fits-none, fits-some}
-use borrow.Author.Needs.{needs}
 use Rattle.stream.proofs.pages_fit.Statement.{statement}
 use Rattle.stream.proofs.pages_fit.Tie as tie
 

@@ -1,7 +1,6 @@
 use Rattle.blockmap.proofs.Listed.{at}
 use Rattle.blockmap.specs.Pairs.{tallyEntry, inByte}
 use mathlib.Core.Path.{refl}
-use borrow.Author.Needs.{needs}
 use Rattle.blockmap.proofs.table.whole.Statement.{statement}
 use Rattle.blockmap.proofs.table.whole.Tie as tie
 

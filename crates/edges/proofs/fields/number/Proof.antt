@@ -1,6 +1,5 @@
 use lib.ListN.{length}
-use mathlib.Core.Path.{_≡_}
-use Prim.Native.Nat.{_+_, _-_, _≤_}
+use Prim.Native.Nat.{_-_, _≤_}
 use borrow.Author.Needs.{needs}
 use Rattle.edges.proofs.fields.number.Statement.{statement}
 use Rattle.edges.proofs.fields.number.Tie as tie

@@ -1,6 +1,6 @@
 use lib.ListN.{length}
 use mathlib.Core.Path.{_≡_}
-use Prim.Native.Nat.{_+_, _-_, _≤_}
+use Prim.Native.Nat.{_-_, _≤_}
 use borrow.Author.Needs.{needs}
 use Rattle.edges.proofs.make.spread.Statement.{statement}
 use Rattle.edges.proofs.make.spread.Tie as tie

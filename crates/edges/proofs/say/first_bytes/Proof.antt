@@ -1,6 +1,4 @@
-use lib.ListN.{length}
-use mathlib.Core.Path.{_≡_}
-use Prim.Native.Nat.{_+_, _-_, _≤_}
+use Prim.Native.Nat.{_-_, _≤_}
 use borrow.Author.Needs.{needs}
 use Rattle.edges.proofs.say.first_bytes.Statement.{statement}
 use Rattle.edges.proofs.say.first_bytes.Tie as tie

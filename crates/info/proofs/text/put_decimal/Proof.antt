@@ -1,10 +1,6 @@
 use Rattle.info.proofs.Words.{number-put}
-use Rattle.stream.specs.Steps.{Put}
-use lib.ListN.{length, take}
-use mathlib.Core.List.{List, [], _∷_, _++_}
-use mathlib.Core.Path.{_≡_, refl, sym, ap, _∙_, subst}
-use native.Mathlib.Omega.{arith}
-use Prim.Native.Nat.{ℕ, _+_, _-_, _≤_, _<_}
+use mathlib.Core.List.{List}
+use Prim.Native.Nat.{ℕ}
 use borrow.Author.Needs.{needs}
 use Rattle.info.proofs.text.put_decimal.Statement.{statement}
 use Rattle.info.proofs.text.put_decimal.Tie as tie

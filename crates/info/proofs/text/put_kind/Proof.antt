@@ -2,11 +2,8 @@ use Rattle.info.specs.Text.{kindLine}
 use Rattle.layout.specs.Numbers.{kindNumber}
 use Rattle.layout.specs.declared.Kind.{Kind}
 use Rattle.stream.specs.Steps.{Put}
-use lib.ListN.{length, take}
-use mathlib.Core.List.{List, [], _∷_, _++_}
-use mathlib.Core.Path.{_≡_, refl, sym, ap, _∙_, subst}
+use mathlib.Core.Path.{sym, subst}
 use native.Mathlib.Omega.{arith}
-use Prim.Native.Nat.{ℕ, _+_, _-_, _≤_, _<_}
 use borrow.Author.Needs.{needs}
 use Rattle.info.proofs.text.put_kind.Statement.{statement}
 use Rattle.info.proofs.text.put_kind.Tie as tie

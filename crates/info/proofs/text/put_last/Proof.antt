@@ -4,11 +4,10 @@ use mir.Val.{toZ, ofZ}
 use mir.Syntax.{w32}
 use lib.IntN.{ℤ}
 use Rattle.stream.specs.Steps.{Put}
-use lib.ListN.{length, take}
-use mathlib.Core.List.{List, [], _∷_, _++_}
-use mathlib.Core.Path.{_≡_, refl, sym, ap, _∙_, subst}
+use mathlib.Core.List.{List}
+use mathlib.Core.Path.{subst}
 use native.Mathlib.Omega.{arith}
-use Prim.Native.Nat.{ℕ, _+_, _-_, _≤_, _<_}
+use Prim.Native.Nat.{ℕ}
 use borrow.Author.Needs.{needs}
 use Rattle.info.proofs.text.put_last.Statement.{statement}
 use Rattle.info.proofs.text.put_last.Tie as tie

@@ -1,11 +1,7 @@
 use Rattle.info.specs.Text.{decimal, numberLine}
 use Rattle.info.proofs.Words.{put-then}
-use Rattle.stream.specs.Steps.{Put}
-use lib.ListN.{length, take}
-use mathlib.Core.List.{List, [], _∷_, _++_}
-use mathlib.Core.Path.{_≡_, refl, sym, ap, _∙_, subst}
+use mathlib.Core.List.{[], _∷_, _++_}
 use native.Mathlib.Omega.{arith}
-use Prim.Native.Nat.{ℕ, _+_, _-_, _≤_, _<_}
 use borrow.Author.Needs.{needs}
 use Rattle.info.proofs.text.put_line.Statement.{statement}
 use Rattle.info.proofs.text.put_line.Tie as tie

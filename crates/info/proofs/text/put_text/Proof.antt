@@ -1,16 +1,8 @@
 use Rattle.info.proofs.Words.{refused-put, slot-put}
 use mir.ValLaws.{toZ-ofZ}
-use mir.Val.{toZ, ofZ}
 use mir.Syntax.{w32}
 use lib.IntN.{ℤ}
-use Rattle.info.proofs.Words.{put-then}
-use Rattle.info.specs.Text.{text, lengthWord, entriesWord, refusedWord, numberLine, kindLine, lastLine}
-use Rattle.stream.specs.Steps.{Put}
-use lib.ListN.{length, take}
-use mathlib.Core.List.{List, [], _∷_, _++_}
-use mathlib.Core.Path.{_≡_, refl, sym, ap, _∙_, subst}
 use native.Mathlib.Omega.{arith}
-use Prim.Native.Nat.{ℕ, _+_, _-_, _≤_, _<_}
 use borrow.Author.Needs.{needs}
 use Rattle.info.proofs.text.put_text.Statement.{statement}
 use Rattle.info.proofs.text.put_text.Tie as tie

@@ -1,11 +1,9 @@
 use Rattle.info.proofs.Words.{word-turn, word-whole}
-use Prim.Native.Nat.{ℕ, _+_, _-_, _≤_, _<_}
+use Prim.Native.Nat.{_-_, _≤_}
 use native.Mathlib.Omega.{arith}
-use mathlib.Core.Path.{_≡_, refl, sym, ap, _∙_}
-use mathlib.Core.List.{List, [], _∷_, _++_}
-use lib.ListN.{length, take, getD}
-use lib.Seq.{sets, take-all}
-use Rattle.info.proofs.Words.{word-turn}
+use mathlib.Core.Path.{_≡_, _∙_}
+use lib.ListN.{length, take}
+use lib.Seq.{sets}
 use borrow.Author.Needs.{needs}
 use Rattle.info.proofs.text.put_word.Statement.{statement}
 use Rattle.info.proofs.text.put_word.Tie as tie

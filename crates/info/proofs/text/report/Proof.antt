@@ -1,11 +1,8 @@
 use Rattle.info.specs.Text.{text}
 use Rattle.info.specs.Info.{InfoNumbers}
 use Rattle.stream.specs.Steps.{Put}
-use lib.ListN.{length, take}
-use mathlib.Core.List.{List, [], _∷_, _++_}
-use mathlib.Core.Path.{_≡_, refl, sym, ap, _∙_, subst}
+use mathlib.Core.Path.{subst}
 use native.Mathlib.Omega.{arith}
-use Prim.Native.Nat.{ℕ, _+_, _-_, _≤_, _<_}
 use borrow.Author.Needs.{needs}
 use Rattle.info.proofs.text.report.Statement.{statement}
 use Rattle.info.proofs.text.report.Tie as tie

@@ -1,7 +1,5 @@
 use Rattle.layout.specs.Areas.{blocksIn}
 use native.Mathlib.Omega.{arith}
-use Rattle.span.specs.Tests.{tests}
-use borrow.Author.Needs.{needs}
 use Rattle.layout.proofs.area.blocks.Statement.{statement}
 use Rattle.layout.proofs.area.blocks.Tie as tie
 

@@ -1,7 +1,5 @@
 use Rattle.layout.specs.Areas.{pagesIn}
 use native.Mathlib.Omega.{arith}
-use Rattle.span.specs.Tests.{tests}
-use borrow.Author.Needs.{needs}
 use Rattle.layout.proofs.area.pages.Statement.{statement}
 use Rattle.layout.proofs.area.pages.Tie as tie
 

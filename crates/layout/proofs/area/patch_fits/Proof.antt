@@ -1,12 +1,11 @@
-use Rattle.layout.specs.Sizes.{pageSize, slotAt, pageAt, blocksAtMost}
-use borrow.Author.Tests.{eq-eqb, ne-eqb, le-leb, lt-leb}
+use Rattle.layout.specs.Sizes.{pageSize, slotAt, blocksAtMost}
+use borrow.Author.Tests.{ne-eqb, le-leb, lt-leb}
 use lib.Dec.{eqb, leb}
-use mathlib.Core.Bool.{Bool, true, false, _&&_, _||_, and-true, and-false}
+use mathlib.Core.Bool.{Bool, true, false, _&&_, and-true, and-false}
 use mathlib.Core.Path.{_≡_, sym, ap, _∙_}
-use Prim.Native.Nat.{ℕ, _+_, _-_, _*_, _/_}
+use Prim.Native.Nat.{ℕ}
 use Rattle.layout.specs.Areas.{patchFits, blocksIn}
 use native.Mathlib.Omega.{arith}
-use Rattle.span.specs.Tests.{tests}
 use borrow.Author.Needs.{needs}
 use Rattle.layout.proofs.area.patch_fits.Statement.{statement}
 use Rattle.layout.proofs.area.patch_fits.Tie as tie

@@ -2,10 +2,9 @@ use Rattle.layout.specs.Areas.{fresh-patch-is}
 use Rattle.layout.specs.Sizes.{pageSize}
 use Rattle.span.specs.Bytes.{zeros, splice}
 use lib.ListN.{length, take}
-use mathlib.Core.List.{List, [], _∷_, _++_}
-use mathlib.Core.Path.{_≡_, refl, sym, ap, _∙_}
-use native.Mathlib.Omega.{arith}
-use Prim.Native.Nat.{ℕ, suc, _+_, _-_, _≤_, _<_}
+use mathlib.Core.List.{List}
+use mathlib.Core.Path.{ap, _∙_}
+use Prim.Native.Nat.{ℕ}
 use borrow.Author.Needs.{needs}
 use Rattle.layout.proofs.head.begin_patch.Statement.{statement}
 use Rattle.layout.proofs.head.begin_patch.Tie as tie

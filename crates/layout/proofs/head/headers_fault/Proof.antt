@@ -1,13 +1,10 @@
-use Rattle.layout.specs.Numbers.{refusal-some}
-use Rattle.layout.specs.Headers.{header, headRows, patchHeader, fullHeader, patchHeadRows, headers-none, headers-patch, headers-full}
-use Rattle.layout.specs.Numbers.{faultNumber, refusalNumber}
+use Rattle.layout.specs.Numbers.{refusal-some, faultNumber, refusalNumber}
+use Rattle.layout.specs.Headers.{header, headRows, fullHeader, headers-none, headers-patch, headers-full}
 use Rattle.layout.specs.Refusals.{firstOf}
-use Rattle.layout.specs.Sizes.{pageSize, patchHead, fullHead}
-use lib.ListN.{length, take}
-use mathlib.Core.List.{List, [], _∷_, _++_}
-use mathlib.Core.Path.{_≡_, refl, sym, ap, _∙_}
-use native.Mathlib.Omega.{arith}
-use Prim.Native.Nat.{ℕ, suc, _+_, _-_, _≤_, _<_}
+use Rattle.layout.specs.Sizes.{pageSize, fullHead}
+use mathlib.Core.List.{List}
+use mathlib.Core.Path.{sym, ap, _∙_}
+use Prim.Native.Nat.{ℕ}
 use borrow.Author.Needs.{needs}
 use Rattle.layout.proofs.head.headers_fault.Statement.{statement}
 use Rattle.layout.proofs.head.headers_fault.Tie as tie

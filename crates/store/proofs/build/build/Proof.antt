@@ -1,6 +1,6 @@
 use Rattle.store.proofs.BuildTold.{frame-told, fits-told}
 use Rattle.store.specs.BuildLaws.{faultNumbers, kindPair, build-refused, build-faulty, build-done, built-kinds}
-use Rattle.store.specs.Build.{firstFault, BlockFault, builtMap, BuildOutcome, buildOutcome, BuildNumbers, builtNumbers}
+use Rattle.store.specs.Build.{firstFault, builtMap, buildOutcome, BuildNumbers, builtNumbers}
 use Rattle.store.specs.declared.Built.the-variants.{Done, Refused}
 use Rattle.blockmap.specs.Pack.{packed}
 use Rattle.layout.specs.Areas.{blocksIn}

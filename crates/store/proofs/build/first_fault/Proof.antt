@@ -1,6 +1,6 @@
 use Rattle.layout.specs.Numbers.{faultNumber, refusalNumber, refusal-some}
 use Rattle.store.specs.BuildLaws.{faultNumbers, fault-next, fault-here, fault-end}
-use Rattle.store.specs.Build.{firstFault, BlockFault}
+use Rattle.store.specs.Build.{firstFault}
 use Rattle.layout.specs.Sizes.{pageSize}
 use Prim.Native.Nat.{ℕ, _-_, _≤_}
 use native.Mathlib.Omega.{arith}

@@ -1,9 +1,8 @@
 use Rattle.store.specs.BuildLaws.{kindPair}
-use Rattle.layout.specs.Sizes.{blocksAtMost, slotSize, slotAt}
+use Rattle.layout.specs.Sizes.{blocksAtMost, slotSize, slotAt, pageSize}
 use Rattle.layout.specs.Areas.{blocksIn, patch-fits-is, slot-within}
 use Rattle.blockmap.specs.PackLaws.{pair-used, pair-unused}
 use Rattle.blockmap.specs.Pack.{pairOf}
-use Rattle.layout.specs.Sizes.{pageSize}
 use lib.ListN.{length, getD}
 use Prim.Native.Nat.{ℕ, _+_, _≤_}
 use native.Mathlib.Omega.{arith}

@@ -1,11 +1,10 @@
-use Rattle.layout.specs.Sizes.{blocksAtMost}
+use Rattle.layout.specs.Sizes.{blocksAtMost, pageSize}
 use Rattle.layout.specs.Areas.{blocksIn, patch-fits-is}
 use Rattle.store.specs.BuildLaws.{kindPair, map-turn}
 use Rattle.blockmap.specs.Pack.{packedFirst, packed}
 use Rattle.blockmap.specs.Pairs.{mapBytes}
 use Rattle.span.specs.Laws.{splice-none}
 use Rattle.span.specs.Bytes.{splice}
-use Rattle.layout.specs.Sizes.{pageSize}
 use lib.ListN.{length}
 use Prim.Native.Nat.{ℕ, _-_, _≤_}
 use native.Mathlib.Omega.{arith}

@@ -1,14 +1,11 @@
 use Rattle.store.specs.Write.{nothing-stored, zeros-stored, page-stored}
 use Rattle.layout.specs.Areas.{pagesIn}
 use Rattle.layout.specs.Numbers.{kindNumber}
-use Rattle.layout.specs.Sizes.{pageSize, slotSize, slotAt, pageAt}
+use Rattle.layout.specs.Sizes.{pageSize, pageAt}
 use lib.ListN.{length}
-use lib.Dec.{eqb, leb}
-use mathlib.Core.Bool.{Bool, true, false, cond}
-use mathlib.Core.List.{List}
-use mathlib.Core.Path.{_≡_, refl, sym, ap, _∙_}
+use mathlib.Core.Path.{_≡_, sym, ap, _∙_}
 use native.Mathlib.Omega.{arith}
-use Prim.Native.Nat.{ℕ, _+_, _-_, _≤_, _<_}
+use Prim.Native.Nat.{ℕ, _+_, _≤_, _<_}
 use borrow.Author.Needs.{needs}
 use Rattle.store.proofs.carry.store_place.Statement.{statement}
 use Rattle.store.proofs.carry.store_place.Tie as tie

@@ -1,13 +1,9 @@
-use Rattle.store.proofs.Told.{on, off}
-use Rattle.store.specs.Format.{FormatOutcome, formatOutcome, format-refused, format-done, format-patch, format-full}
+use Rattle.span.specs.Told.{on, off}
+use Rattle.store.specs.Format.{formatOutcome, format-refused, format-done, format-patch, format-full}
 use Rattle.layout.specs.Areas.{freshPatch, freshFull}
 use Rattle.layout.specs.Sizes.{pageSize}
-use lib.ListN.{length, take}
-use mathlib.Core.Bool.{Bool, true, false}
-use mathlib.Core.List.{List}
-use mathlib.Core.Path.{_≡_, refl, sym, ap, _∙_}
-use native.Mathlib.Omega.{arith}
-use Prim.Native.Nat.{ℕ, _+_, _≤_, _<_}
+use lib.ListN.{length}
+use mathlib.Core.Path.{_≡_, _∙_}
 use borrow.Author.Needs.{needs}
 use Rattle.store.proofs.format.format.Statement.{statement}
 use Rattle.store.proofs.format.format.Tie as tie

@@ -1,14 +1,14 @@
-use Rattle.store.proofs.Told.{on, off}
-use Rattle.store.specs.Frame.{frame-is, frameNumber}
+use Rattle.span.specs.Told.{on, off}
+use Rattle.store.specs.Frame.{frame-is, frameBy}
 use Rattle.layout.specs.Refusals.{orElse}
 use Rattle.layout.specs.Sizes.{pageSize}
-use mathlib.Core.Path.{_≡_, refl, sym, ap, _∙_}
+use mathlib.Core.Path.{refl}
 use borrow.Author.Needs.{needs}
 use Rattle.store.proofs.frame.frame_fault.Statement.{statement}
 use Rattle.store.proofs.frame.frame_fault.Tie as tie
 
 returns : tie.Need-returns
-unfolding frameNumber orElse
+unfolding frameBy orElse
 returns c =
     let a = c .before .before .before .args in
     rw (frame-is pageSize (a .patch .now) (a .full .now) (a .pages-fit) (a .buffer-fits), off (a .pages-fit) refl (c .if1 .taken))
@@ -17,14 +17,14 @@ lengths-fit-requires : tie.Need-lengths-fit-requires
 lengths-fit-requires c κs = search needs
 
 returns-2 : tie.Need-returns-2
-unfolding frameNumber orElse
+unfolding frameBy orElse
 returns-2 c =
     let a = c .before .before .before .before .before .args in
     let f = c .before .lengths-fit in
     rw (frame-is pageSize (a .patch .now) (a .full .now) (a .pages-fit) (a .buffer-fits), on (a .pages-fit) refl (c .before .before .if1 .left), off (f .result) (f .ensures) (c .if2 .taken))
 
 returns-3 : tie.Need-returns-3
-unfolding frameNumber orElse
+unfolding frameBy orElse
 returns-3 c =
     let a = c .before .before .before .before .before .before .args in
     let f = c .before .before .lengths-fit in
@@ -34,7 +34,7 @@ headers-fault-requires : tie.Need-headers-fault-requires
 headers-fault-requires c κs = search needs
 
 returns-4 : tie.Need-returns-4
-unfolding frameNumber orElse
+unfolding frameBy orElse
 returns-4 c =
     let a = c .before .before .before .before .before .before .before .args in
     let f = c .before .before .before .lengths-fit in

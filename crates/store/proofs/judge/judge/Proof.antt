@@ -1,11 +1,8 @@
 use Rattle.store.specs.Judge.{judge-length, judge-slot, judge-done}
 use Rattle.layout.specs.Slots.{stateNumbers}
-use lib.ListN.{length, take}
-use mathlib.Core.Bool.{Bool, true, false}
 use mathlib.Core.List.{List}
-use mathlib.Core.Path.{_≡_, refl, sym, ap, _∙_}
-use native.Mathlib.Omega.{arith}
-use Prim.Native.Nat.{ℕ, _+_, _≤_, _<_}
+use mathlib.Core.Path.{sym, ap, _∙_}
+use Prim.Native.Nat.{ℕ}
 use borrow.Author.Needs.{needs}
 use Rattle.store.proofs.judge.judge.Statement.{statement}
 use Rattle.store.proofs.judge.judge.Tie as tie

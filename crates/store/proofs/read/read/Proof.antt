@@ -1,20 +1,18 @@
-use Rattle.store.specs.Read.{ReadOutcome, readOutcome, slotOutcome, read-frame, read-block, read-slot, same-base, zeros-base}
+use Rattle.store.specs.Read.{readOutcome, slotOutcome, read-frame, read-block, read-slot, same-base, zeros-base}
 use Rattle.store.specs.Frame.{frameRows, frame-told, Sound, sound-frame, places}
-use Rattle.span.specs.Laws.{zeros-length}
 use Rattle.span.specs.Bytes.{zeros}
 use Rattle.stream.specs.Laws.{base-none}
-use Rattle.stream.specs.Calls.{pageRows, pageOf}
-use Rattle.layout.specs.Areas.{blocksIn, patchFits, patch-fits-is}
+use Rattle.stream.specs.Calls.{pageRows}
+use Rattle.layout.specs.Areas.{blocksIn, patch-fits-is}
 use Rattle.layout.specs.Refusals.{firstOf}
 use Rattle.layout.specs.Numbers.{faultNumber, refusalNumber, refusal-some}
 use Rattle.layout.specs.Sizes.{pageSize, blocksAtMost}
 use lib.ListN.{length}
 use lib.Dec.{lit<}
-use mathlib.Core.Bool.{Bool, true, false}
-use mathlib.Core.List.{List, []}
+use mathlib.Core.List.{[]}
 use mathlib.Core.Path.{_≡_, refl, sym, ap, _∙_}
 use native.Mathlib.Omega.{arith}
-use Prim.Native.Nat.{ℕ, _+_, _≤_, _<_}
+use Prim.Native.Nat.{_≤_}
 use borrow.Author.Needs.{needs}
 use Rattle.store.proofs.read.read.Statement.{statement}
 use Rattle.store.proofs.read.read.Tie as tie

@@ -1,21 +1,18 @@
 use Rattle.store.proofs.Pages.{copied-page}
-use Rattle.store.specs.Read.{ReadOutcome, slotOutcome, slot-missing, slot-unsound, slot-empty, slot-full, patch-read}
+use Rattle.store.specs.Read.{slotOutcome, slot-missing, slot-unsound, slot-empty, slot-full, patch-read}
 use Rattle.stream.specs.Laws.{base-some}
 use Rattle.stream.specs.Calls.{pageOf}
-use Rattle.layout.specs.Slots.{SlotNumbers, slotNumbers, soundSlot, stateNumbers, payloadOf, told-patch}
+use Rattle.layout.specs.Slots.{slotNumbers, soundSlot, stateNumbers, payloadOf, told-patch}
 use Rattle.layout.specs.Areas.{pagesIn}
 use Rattle.span.specs.Laws.{part-length}
 use Rattle.span.specs.Bytes.{part}
-use Rattle.store.proofs.Told.{on, off}
 use Rattle.store.specs.Frame.{slotOf, placeOf}
-use Rattle.stream.specs.Entries.{payloadStream, sound, applied}
-use Rattle.layout.specs.Sizes.{pageSize, slotSize, slotAt, pageAt, payloadAt, blocksAtMost}
+use Rattle.layout.specs.Sizes.{pageSize, slotSize, pageAt, payloadAt}
 use lib.ListN.{length}
-use mathlib.Core.Bool.{Bool, true, false, cond}
 use mathlib.Core.List.{List}
-use mathlib.Core.Path.{_≡_, refl, sym, ap, _∙_}
+use mathlib.Core.Path.{_≡_, sym, ap, _∙_}
 use native.Mathlib.Omega.{arith}
-use Prim.Native.Nat.{ℕ, _+_, _≤_, _<_}
+use Prim.Native.Nat.{ℕ, _<_}
 use borrow.Author.Needs.{needs}
 use Rattle.store.proofs.read.read_block.Statement.{statement}
 use Rattle.store.proofs.read.read_block.Tie as tie

@@ -1,4 +1,4 @@
-use Rattle.store.proofs.Told.{on, off}
+use Rattle.span.specs.Told.{on, off}
 use Rattle.store.specs.declared.Place.{Place}
 use Rattle.store.specs.Frame.{slotOf}
 use Rattle.store.specs.Show.{showPlace, show-length, show-header, show-block, show-slot, show-done}
@@ -8,9 +8,9 @@ use Rattle.layout.specs.Numbers.{faultNumber, refusalNumber, refusal-some}
 use Rattle.layout.specs.Sizes.{pageSize, slotSize, slotAt, payloadAt, blocksAtMost}
 use Rattle.span.specs.Bytes.{part}
 use lib.ListN.{length}
-use mathlib.Core.Bool.{Bool, true, false, cond}
+use mathlib.Core.Bool.{true, cond}
 use mathlib.Core.List.{List}
-use mathlib.Core.Path.{_≡_, refl, sym, ap, _∙_}
+use mathlib.Core.Path.{_≡_, sym, ap, _∙_}
 use native.Mathlib.Omega.{arith}
 use Prim.Native.Nat.{ℕ, _+_, _≤_, _<_}
 use borrow.Author.Needs.{needs}

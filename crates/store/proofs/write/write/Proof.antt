@@ -1,20 +1,19 @@
-use Rattle.store.specs.Write.{WriteOutcome, writeOutcome, blockOutcome, write-frame, write-block, write-within, same-base-write}
+use Rattle.store.specs.Write.{writeOutcome, blockOutcome, write-frame, write-block, write-within, same-base-write}
 use Rattle.store.specs.Read.{zeros-base}
 use Rattle.store.specs.Frame.{frameRows, frame-told, Sound, sound-frame, places}
 use Rattle.span.specs.Bytes.{zeros}
 use Rattle.stream.specs.Laws.{base-none}
-use Rattle.stream.specs.Calls.{pageRows, pageOf}
-use Rattle.layout.specs.Areas.{blocksIn, patchFits, patch-fits-is, slot-within}
+use Rattle.stream.specs.Calls.{pageRows}
+use Rattle.layout.specs.Areas.{blocksIn, patch-fits-is, slot-within}
 use Rattle.layout.specs.Refusals.{firstOf}
 use Rattle.layout.specs.Numbers.{faultNumber, refusalNumber, refusal-some}
 use Rattle.layout.specs.Sizes.{pageSize, blocksAtMost}
 use lib.ListN.{length}
 use lib.Dec.{lit<}
-use mathlib.Core.Bool.{Bool, true, false}
-use mathlib.Core.List.{List, []}
+use mathlib.Core.List.{[]}
 use mathlib.Core.Path.{_≡_, refl, sym, ap, _∙_}
 use native.Mathlib.Omega.{arith}
-use Prim.Native.Nat.{ℕ, _+_, _≤_, _<_}
+use Prim.Native.Nat.{_≤_, _<_}
 use borrow.Author.Needs.{needs}
 use Rattle.store.proofs.write.write.Statement.{statement}
 use Rattle.store.proofs.write.write.Tie as tie

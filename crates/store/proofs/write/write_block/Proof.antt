@@ -1,15 +1,14 @@
 use Rattle.store.proofs.Decisions.{length-is, kind-is, used-fits, slot-is, taken-fits}
-use Rattle.store.specs.Write.{WriteOutcome, blockOutcome, decidedKind, decidedStream, carriedPatch, carriedFull, block-missing, block-done, WriteNumbers}
+use Rattle.store.specs.Write.{blockOutcome, decidedKind, decidedStream, carriedPatch, carriedFull, block-missing, block-done, WriteNumbers}
 use Rattle.layout.specs.Areas.{pagesIn}
 use Rattle.layout.specs.Numbers.{kindNumber}
-use Rattle.layout.specs.Sizes.{pageSize, slotSize, slotAt, pageAt, room, blocksAtMost}
-use lib.ListN.{length, take}
-use lib.Dec.{eqb, leb, lit<}
-use mathlib.Core.Bool.{Bool, true, false, cond, _&&_}
-use mathlib.Core.List.{List, []}
+use Rattle.layout.specs.Sizes.{pageSize}
+use lib.ListN.{length}
+use lib.Dec.{eqb, leb}
+use mathlib.Core.Bool.{true, false, _&&_}
 use mathlib.Core.Path.{_≡_, refl, sym, ap, _∙_}
 use native.Mathlib.Omega.{arith}
-use Prim.Native.Nat.{ℕ, _+_, _-_, _≤_, _<_}
+use Prim.Native.Nat.{ℕ}
 use borrow.Author.Needs.{needs}
 use Rattle.store.proofs.write.write_block.Statement.{statement}
 use Rattle.store.proofs.write.write_block.Tie as tie

@@ -4,7 +4,7 @@ use Rattle.stream.proofs.Signed.{below, beyond, not-below, read-fits, p
 use mir.ValLaws.{toZ-ofZ}
 use mir.Syntax.{w32, w64}
 use lib.IntN.{ℤ, pos, _+ℤ_}
-use Prim.Native.Nat.{ℕ, _+_, _<_, _^_}
+use Prim.Native.Nat.{_+_}
 use native.Mathlib.Omega.{arith}
 use Rattle.stream.specs.Steps.{reach}
 use borrow.Author.Needs.{needs}

@@ -1,5 +1,5 @@
 use mir.ValLaws.{toZ-ofZ}
-use mir.Syntax.{w32, w64}
+use mir.Syntax.{w64}
 use mathlib.Core.Path.{_∙_}
 use Prim.Native.Nat.{_<_, _^_}
 use Rattle.stream.proofs.Signed.{widens, sum-read, moved-fits}

@@ -1,10 +1,10 @@
 use mir.ValLaws.{toZ-ofZ}
 use mir.Val.{toZ, ofZ}
 use mir.Syntax.{w32}
-use lib.ListN.{getD, length}
+use lib.ListN.{getD}
 use mathlib.Core.List.{List}
 use mathlib.Core.Logic.{inl}
-use Prim.Native.Nat.{ℕ, _+_, _*_, _<_, _≤_}
+use Prim.Native.Nat.{ℕ, _+_, _*_}
 use native.Mathlib.Omega.{arith}
 use Rattle.stream.specs.Steps.{reach}
 use Rattle.stream.proofs.Reading.{at-end, short-cut, long-cut, lands, short-read, long-read}

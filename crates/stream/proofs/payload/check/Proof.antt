@@ -2,13 +2,11 @@ use mir.Val.{toZ, ofZ}
 use mir.Syntax.{w32}
 use lib.IntN.{ℤ}
 use lib.ListN.{length, drop}
-use mathlib.Core.Path.{_≡_}
-use mathlib.Core.List.{List}
-use Prim.Native.Nat.{ℕ, _+_, _-_, _<_, _≤_}
+use Prim.Native.Nat.{_-_}
 use native.Mathlib.Omega.{arith}
 use Rattle.stream.specs.declared.Step.the-variants.{End, Broken, Entry}
 use Rattle.stream.specs.Entries.{stream, code}
-use Rattle.stream.specs.Steps.{reach, Follows, Entered}
+use Rattle.stream.specs.Steps.{reach, Follows}
 use Rattle.stream.proofs.Turns.{told, place-back, Passed, passed-none, passed-more, passed-all, passed-broken, unsound-empty, unsound-long}
 use borrow.Author.Needs.{needs}
 use Rattle.stream.proofs.payload.check.Statement.{statement}

@@ -1,7 +1,6 @@
 use Rattle.thonxiliko.specs.Areas.{format-held}
 use Rattle.store.specs.Format.{formattedNumber}
-use Prim.Native.Nat.{ℕ}
-use mathlib.Core.Path.{_≡_, refl, sym, ap, _∙_}
+use mathlib.Core.Path.{sym, ap, _∙_}
 use borrow.Author.Needs.{needs}
 use Rattle.thonxiliko.proofs.areas.thx_format.Statement.{statement}
 use Rattle.thonxiliko.proofs.areas.thx_format.Tie as tie

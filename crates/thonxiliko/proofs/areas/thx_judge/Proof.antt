@@ -1,8 +1,7 @@
 use Rattle.thonxiliko.specs.Widths.{judge-fits}
 use Rattle.thonxiliko.specs.Areas.{judge-held}
 use Rattle.store.specs.Judge.{judgedNumbers}
-use Prim.Native.Nat.{ℕ}
-use mathlib.Core.Path.{_≡_, refl, sym, ap, _∙_}
+use mathlib.Core.Path.{sym, ap, _∙_}
 use borrow.Author.Needs.{needs}
 use Rattle.thonxiliko.proofs.areas.thx_judge.Statement.{statement}
 use Rattle.thonxiliko.proofs.areas.thx_judge.Tie as tie

@@ -1,7 +1,6 @@
 use Rattle.thonxiliko.specs.Areas.{read-held}
 use Rattle.store.specs.Read.{readingNumbers}
-use Prim.Native.Nat.{ℕ}
-use mathlib.Core.Path.{_≡_, refl, sym, ap, _∙_}
+use mathlib.Core.Path.{sym, ap, _∙_}
 use borrow.Author.Needs.{needs}
 use Rattle.thonxiliko.proofs.areas.thx_read.Statement.{statement}
 use Rattle.thonxiliko.proofs.areas.thx_read.Tie as tie

@@ -1,8 +1,7 @@
 use Rattle.thonxiliko.specs.Widths.{write-fits}
 use Rattle.thonxiliko.specs.Areas.{write-held}
 use Rattle.store.specs.Write.{writtenNumbers}
-use Prim.Native.Nat.{ℕ}
-use mathlib.Core.Path.{_≡_, refl, sym, ap, _∙_}
+use mathlib.Core.Path.{sym, ap, _∙_}
 use borrow.Author.Needs.{needs}
 use Rattle.thonxiliko.proofs.areas.thx_write.Statement.{statement}
 use Rattle.thonxiliko.proofs.areas.thx_write.Tie as tie

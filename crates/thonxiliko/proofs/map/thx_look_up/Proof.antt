@@ -1,7 +1,6 @@
 use Rattle.thonxiliko.specs.Maps.{look-up-held}
 use Rattle.blockmap.specs.Calls.{lookedNumbers}
-use Prim.Native.Nat.{ℕ}
-use mathlib.Core.Path.{_≡_, refl, sym, ap, _∙_}
+use mathlib.Core.Path.{sym, ap, _∙_}
 use borrow.Author.Needs.{needs}
 use Rattle.thonxiliko.proofs.map.thx_look_up.Statement.{statement}
 use Rattle.thonxiliko.proofs.map.thx_look_up.Tie as tie

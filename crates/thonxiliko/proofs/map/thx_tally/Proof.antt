@@ -1,7 +1,6 @@
 use Rattle.thonxiliko.specs.Maps.{tally-held}
 use Rattle.blockmap.specs.Calls.{talliedNumbers}
-use Prim.Native.Nat.{ℕ}
-use mathlib.Core.Path.{_≡_, refl, sym, ap, _∙_}
+use mathlib.Core.Path.{sym, ap, _∙_}
 use borrow.Author.Needs.{needs}
 use Rattle.thonxiliko.proofs.map.thx_tally.Statement.{statement}
 use Rattle.thonxiliko.proofs.map.thx_tally.Tie as tie

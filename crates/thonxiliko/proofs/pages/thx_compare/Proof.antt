@@ -4,8 +4,7 @@ use Rattle.stream.specs.Calls.{comparedNumbers}
 use lib.IntN.{pos}
 use mir.ValLaws.{toZ-ofZ}
 use mir.Syntax.{w32}
-use Prim.Native.Nat.{ℕ}
-use mathlib.Core.Path.{_≡_, refl, sym, ap, _∙_}
+use mathlib.Core.Path.{sym, ap, _∙_}
 use borrow.Author.Needs.{needs}
 use Rattle.thonxiliko.proofs.pages.thx_compare.Statement.{statement}
 use Rattle.thonxiliko.proofs.pages.thx_compare.Tie as tie
