@@ -1,12 +1,12 @@
 -- What the definitions of lengths, headers and slots come to: by images and by "there is", and slots also byte by byte at the paper's places.
-use Prim.Native.Nat.{ℕ, zero, suc, _+_, _-_, _*_, _/_, _%_, _≤_, _<_, min}
+use Prim.Native.Nat.{ℕ, zero, suc, _+_, _-_, _*_, _≤_, _<_, min}
 use native.Mathlib.Omega.{arith}
 use mathlib.Core.Path.{_≡_, refl, sym, ap, _∙_}
 use mathlib.Core.Logic.{_⊎_, inl, inr, _↔_}
-use mathlib.Core.Bool.{Bool, true, false, not, _&&_, _||_, cond, or-true}
+use mathlib.Core.Bool.{Bool, true, false, not, _&&_, cond, or-true}
 use mathlib.Core.List.{List, [], _∷_, _++_}
 use lib.Dec.{eqb, leb}
-use lib.ListN.{length, take, drop, getD, length-append}
+use lib.ListN.{length, take, getD}
 use lib.Seq.{take-all, take-at}
 use borrow.Author.Tests.{eq-eqb, le-leb, leb-true, eqb-true, eqb-false, not-false}
 use Rattle.span.specs.Bytes.{zeros, part, same}

@@ -1,7 +1,7 @@
 -- What Apply's answer tells of a patched block, and what copying leaves in a page of its size.
 use Prim.Native.Nat.{ℕ}
 use native.Mathlib.Omega.{arith}
-use mathlib.Core.Path.{_≡_, refl, sym, ap, _∙_, subst}
+use mathlib.Core.Path.{_≡_, refl, sym, ap, _∙_}
 use mathlib.Core.Bool.{Bool, true, false, cond}
 use mathlib.Core.List.{List}
 use lib.IntN.{ℤ}
@@ -15,7 +15,7 @@ use Rattle.layout.specs.Refusals.{firstOf}
 use Rattle.layout.specs.declared.Refusal.{Refusal}
 use Rattle.layout.specs.declared.Kind.the-variants.{Patch}
 use Rattle.stream.specs.Entries.{payloadStream, sound, applied}
-use Rattle.stream.specs.Calls.{pageOf, pagesFit, applyRows, AppliedNumbers, appliedNumbers, Apply}
+use Rattle.stream.specs.Calls.{pagesFit, applyRows, AppliedNumbers, appliedNumbers, Apply}
 use Rattle.stream.specs.Laws.{fits-some, base-some, apply-number, apply-done, apply-not}
 use Rattle.stream.specs.declared.Applied.{Applied}
 use Rattle.stream.specs.declared.Applied.the-variants.{Done as AppliedDone, Refused as AppliedRefused}

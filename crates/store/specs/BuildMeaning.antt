@@ -6,13 +6,13 @@ use native.Mathlib.Omega.{arith}
 use native.Mathlib.Decide.{decLt}
 use mathlib.Core.Path.{_≡_, refl, sym, ap, _∙_, subst}
 use mathlib.Core.Logic.{_↔_, _⊎_, inl, inr}
-use mathlib.Core.Bool.{Bool, true, false, not, _&&_, true≢false}
+use mathlib.Core.Bool.{Bool, true, false, _&&_, true≢false}
 use mathlib.Core.List.{List}
 use lib.Dec.{eqb, leb}
 use lib.ListN.{length, getD}
 use borrow.Author.Tests.{le-ltb, leb-true}
 use Rattle.span.specs.Bytes.{zeros, part, same, splice}
-use Rattle.span.specs.Laws.{same-is, same-true, same-false, differ-is, and-left, and-right}
+use Rattle.span.specs.Laws.{same-is, same-true, same-false, and-left, and-right}
 use Rattle.layout.specs.Sizes.{blocksAtMost, patchHead, fullHead, slotSize, room, slotAt, pageAt}
 use Rattle.layout.specs.Numbers.{refusalNumber, refusal-one, refusal-some}
 use Rattle.layout.specs.Refusals.{firstOf, orElse}
@@ -25,11 +25,11 @@ use Rattle.stream.specs.Spelling.{Spelled, Bytes, bytes-part, payload-bytes, sp
 use Rattle.blockmap.specs.Pairs.{mapBytes, pairAt, pairs, patchPair, fullPair}
 use Rattle.blockmap.specs.Pack.{pairOf}
 use Rattle.blockmap.specs.Meaning.{upTo, keep, blocksWith, pairs-count, JustThose, HasPair, blocks-with}
-use Rattle.blockmap.specs.Calls.{TalliedNumbers, tallyNumbers, Tally}
+use Rattle.blockmap.specs.Calls.{tallyNumbers}
 use Rattle.blockmap.specs.CallLaws.{tally-done}
 use Rattle.store.specs.Frame.{slotOf, placeOf, frameRows}
 use Rattle.store.specs.Build.{BlockFault, blockFault, firstFault, buildRows, builtMap, BuildOutcome, buildOutcome, BuildNumbers, builtNumbers, buildNumbers, Build}
-use Rattle.store.specs.BuildLaws.{straysIn, no-place, clean-place, stray-place, block-unsound, block-full-none, block-full, block-payload, block-patch, block-empty, no-faults, frame-none, not-fits, build-frame, build-done, build-faulty, build-zero, refused-map, FoundIn, fault-found, found-first, none-found, laid-later, laid-length, built-length, built-pair, built-unused, built-good, built-patches, built-fulls}
+use Rattle.store.specs.BuildLaws.{no-strays, straysIn, no-place, clean-place, stray-place, block-unsound, block-full-none, block-full, block-payload, block-patch, block-empty, no-faults, frame-none, not-fits, build-frame, build-done, build-faulty, build-zero, refused-map, FoundIn, fault-found, found-first, none-found, laid-later, laid-length, built-length, built-pair, built-unused, built-good, built-patches, built-fulls}
 use Rattle.layout.specs.Meaning.{Headers, headers-sound, sound-headers, fits-full, empty-numbers, full-numbers, patch-numbers, payload-of, by-image}
 use Rattle.store.specs.declared.Built.{Built}
 use Rattle.store.specs.declared.Built.the-variants.{Done, Refused}
@@ -154,13 +154,6 @@ fits P payload e =
     (leb-true 1 (length payload) (and-left (leb 1 (length payload)) (leb (length payload) room) both), leb-true (length payload) room (and-right (leb 1 (length payload)) (leb (length payload) room) both))
 
 module _ (P : ℕ) (full : List ℕ) (b : ℕ) where
-  no-strays : CleanPlace P full b → straysIn P full b ≡ 0
-  no-strays h =
-      elim (decLt b (pagesIn P (length full))) [
-        | yes l ↦ clean-place P full b (same-true (placeOf P full b) (zeros P) (h l))
-        | no l ↦ no-place P full b (omega arith)
-      ]
-
   clean : straysIn P full b ≡ 0 → CleanPlace P full b
   clean e l = go (same (placeOf P full b) (zeros P)) refl
     where
@@ -265,7 +258,7 @@ module _ (P : ℕ) (patch full : List ℕ) (bytes : Bytes patch) (b : ℕ) where
     where
       go : (t : Bool) → same (placeOf P full b) (zeros P) ≡ t → b < pagesIn P (length full) → BlockGives P patch full b (straysIn P full b)
       go true q l = rw (clean-place P full b q) (placeless-0 p (λ _. same-is (placeOf P full b) (zeros P) q))
-      go false q l = rw (stray-place P full b l q) (place-10 p l (differ-is (placeOf P full b) (zeros P) q))
+      go false q l = rw (stray-place P full b l q) (place-10 p l (λ e. true≢false (sym (same-true (placeOf P full b) (zeros P) e) ∙ q)))
 
   fault-gives : BlockGives P patch full b (blockFault P patch full b)
   fault-gives =

@@ -1,28 +1,27 @@
 -- The answers of Compare and Apply, from what their pieces give, over plain lists.
-use Prim.Native.Nat.{ℕ, zero, suc, _+_, _-_, _≤_, _<_}
+use Prim.Native.Nat.{ℕ, _≤_, _<_}
 use native.Mathlib.Omega.{arith}
 use mathlib.Core.Path.{_≡_, refl, sym, ap, _∙_, subst}
-use mathlib.Core.Bool.{Bool, true, false, not, cond, _&&_, _||_, and-true, and-false, true≢false, false≢true}
-use mathlib.Core.List.{List, [], _∷_, _++_}
-use lib.Dec.{eqb, leb, ltb}
+use mathlib.Core.Bool.{Bool, true, false, cond}
+use mathlib.Core.List.{List}
+use lib.Dec.{eqb}
 use lib.ListN.{length, take}
-use lib.Seq.{take-length, take-all}
-use lib.IntN.{ℤ, pos}
-use borrow.Author.Tests.{eq-eqb, ne-eqb, eqb-true, le-leb, lt-leb, lt-ltb, le-ltb}
-use native.Mathlib.Decide.{decLt}
-use Rattle.span.specs.Bytes.{zeros, splice, part}
+use lib.Seq.{take-all}
+use lib.IntN.{ℤ}
+use borrow.Author.Tests.{ne-eqb, lt-ltb, le-ltb}
+use Rattle.span.specs.Bytes.{splice, part}
 use Rattle.span.specs.Laws.{splice-whole, part-splice}
-use Rattle.layout.specs.Sizes.{pageSize, room}
+use Rattle.layout.specs.Sizes.{room}
 use Rattle.layout.specs.Refusals.{firstOf}
 use Rattle.layout.specs.Numbers.{kindNumber}
 use Rattle.layout.specs.declared.Kind.{Kind}
-use Rattle.layout.specs.declared.Kind.the-variants.{Empty, Patch, Full}
+use Rattle.layout.specs.declared.Kind.the-variants.{Patch}
 use Rattle.layout.specs.declared.Refusal.the-variants.{Page, Payload, Buffer}
-use Rattle.stream.specs.Entries.{Stream, payloadStream, sound, entries, last, start, applied}
+use Rattle.stream.specs.Entries.{payloadStream, sound, entries, last, applied}
 use Rattle.stream.specs.Differences.{diffs, coded, written}
 use Rattle.stream.specs.Steps.{farthest, reach, near, SoundAs, Applies, application, Differs, Compares}
 use Rattle.stream.specs.Calls.{pageOf, pagesFit, applyRows, Apply, appliedNumbers, kindFor, compareRows, comparison, compareNumbers, compareBuffer, ComparedNumbers, comparedNumbers, Compare}
-use Rattle.stream.specs.Laws.{patch-fits, near-is, page-length, apply-number, apply-done, apply-not, compare-number, compare-done, compare-not}
+use Rattle.stream.specs.Laws.{patch-fits, page-length, apply-number, apply-done, apply-not, compare-number, compare-done, compare-not, differs-near}
 use Rattle.stream.specs.declared.Difference.{Difference}
 use Rattle.stream.specs.declared.Compared.{Compared}
 use Rattle.stream.specs.declared.Compared.the-variants.{Done as ComparedDone, Refused as ComparedRefused}
@@ -87,7 +86,7 @@ apply-over P base present payload page after answer h k e a =
 
 module _ (base page room₀ room₁ buffer : List ℕ) (d : Difference) (l : ℤ) (h : length page ≤ farthest) (e : l ≡ d .last) (w : Differs base (near page) room₀ d room₁) where
   w′ : Differs base page room₀ d room₁
-  w′ = subst (λ (x : List ℕ). Differs base x room₀ d room₁) (near-is page h) w
+  w′ = differs-near base page room₀ room₁ d h w
 
   done-numbers : (k : Kind) → kindNumber k ≡ kindFor (d .length) → comparedNumbers (ComparedDone k (d .length) (d .entries) l) ≡ comparison (diffs 0 base page)
   unfolding comparison written

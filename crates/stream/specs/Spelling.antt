@@ -1,6 +1,6 @@
 -- When a payload is sound, said without reading it: some list of entries spells it, and their positions stay in the page. Nothing here
 -- is shared with the reader's definition, and the last theorem says that the two agree.
-use Prim.Native.Nat.{ℕ, _+_, _*_, _/_, _%_, _≤_, _<_}
+use Prim.Native.Nat.{ℕ, zero, suc, _+_, _*_, _/_, _%_, _≤_, _<_}
 use native.Mathlib.Omega.{arith}
 use mathlib.Core.Path.{_≡_, refl, sym, ap, _∙_, subst}
 use mathlib.Core.Bool.{Bool, true, false, false≢true}
@@ -15,7 +15,7 @@ use Rattle.layout.specs.Sizes.{payloadAt, room}
 use Rattle.layout.specs.Numbers.{le}
 use Rattle.layout.specs.Slots.{patchSlot, payloadLength, payloadOf}
 use Rattle.layout.specs.Meaning.{payload-of}
-use Rattle.stream.specs.Entries.{Stream, done, cut, out, entry, code, low, high, value, inPage, stream, start, payloadStream, whole, sound}
+use Rattle.stream.specs.Entries.{Stream, code, value, inPage, stream, start, whole, sound}
 use Rattle.stream.specs.StreamLaws.{code-short, code-long, value-is, short-in, long-in, Parts, sound-parts, parts-sound}
 
 -- "A jump of 0 to 254 is one byte. Byte 255 is followed by a 16-bit jump."

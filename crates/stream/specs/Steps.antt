@@ -12,7 +12,7 @@ use lib.Seq.{sets}
 use lib.IntN.{ℤ, pos, subℕ}
 use Rattle.span.specs.Bytes.{part, splice}
 use Rattle.stream.specs.Differences.{Change, diffs, spelled, coded, written, lastPlace}
-use Rattle.stream.specs.Entries.{Stream, done, cut, out, entry, Next, code, inPage, stream, start, payloadStream, sound, entries as entriesOf, last as lastOf, applied}
+use Rattle.stream.specs.Entries.{Stream, done, cut, out, entry, code, inPage, stream, start, payloadStream, sound, entries as entriesOf, last as lastOf, applied}
 use Rattle.stream.specs.Calls.{kindFor, comparison, comparedNumbers, AppliedNumbers, appliedNumbers}
 use Rattle.stream.specs.declared.Compared.{Compared}
 use Rattle.stream.specs.declared.Applied.{Applied}

@@ -2,15 +2,13 @@ use lib.Dec.{eqb}
 use borrow.Author.Needs.{needs}
 use Rattle.span.proofs.Turns.{seen-zero}
 use lib.Seq.{take-length}
-use mathlib.Core.Bool.{Bool·not-not}
-use Prim.Native.Nat.{ℕ, _+_, _-_, _≤_, _<_, min}
+use Prim.Native.Nat.{ℕ, _-_, _≤_}
 use native.Mathlib.Omega.{arith}
-use mathlib.Core.Path.{_≡_, refl, sym, ap, _∙_}
-use mathlib.Core.Bool.{Bool, true, false, not, _&&_, _||_}
-use mathlib.Core.List.{List, [], _∷_, _++_}
-use lib.ListN.{length, take, getD}
+use mathlib.Core.Path.{_≡_, sym, ap, _∙_}
+use mathlib.Core.List.{List, []}
+use lib.ListN.{length, take}
 use Rattle.span.specs.Bytes.{zeros, same}
-use Rattle.span.specs.Laws.{zeros-nil, zeros-more, same-more}
+use Rattle.span.specs.Laws.{zeros-nil}
 use Rattle.span.proofs.all_zero.Statement.{statement}
 use Rattle.span.proofs.all_zero.Tie as tie
 

@@ -8,7 +8,7 @@ use lib.ListN.{length, take, drop}
 use mathlib.Core.List.{List}
 use mathlib.Core.Path.{_≡_, refl, sym, ap, _∙_}
 use native.Mathlib.Omega.{arith}
-use Prim.Native.Nat.{ℕ, _+_, _-_, _≤_, _<_, min}
+use Prim.Native.Nat.{ℕ, _+_, _-_, _≤_, min}
 use borrow.Author.Needs.{needs}
 use Rattle.span.proofs.copy.Statement.{statement}
 use Rattle.span.proofs.copy.Tie as tie

@@ -1,9 +1,8 @@
 use Rattle.span.specs.Laws.{copied-whole}
-use lib.ListN.{length, take, drop}
+use lib.ListN.{length}
 use mathlib.Core.List.{List}
-use mathlib.Core.Path.{_≡_, refl, sym, ap, _∙_}
-use native.Mathlib.Omega.{arith}
-use Prim.Native.Nat.{ℕ, _+_, _-_, _≤_, _<_, min}
+use mathlib.Core.Path.{_≡_, sym, ap, _∙_}
+use Prim.Native.Nat.{ℕ}
 use borrow.Author.Needs.{needs}
 use Rattle.span.proofs.copy_bulk.Statement.{statement}
 use Rattle.span.proofs.copy_bulk.Tie as tie

@@ -1,13 +1,12 @@
 use borrow.Author.Needs.{needs}
 use Rattle.span.proofs.Turns.{copied}
-use Prim.Native.Nat.{ℕ, _+_, _-_, _≤_, _<_, min}
+use Prim.Native.Nat.{ℕ, _-_, _≤_, min}
 use native.Mathlib.Omega.{arith}
 use mathlib.Core.Path.{_≡_, refl, sym, ap, _∙_}
-use mathlib.Core.Bool.{Bool, true, false, not, _&&_, _||_}
-use mathlib.Core.List.{List, [], _∷_, _++_}
-use lib.ListN.{length, take, getD}
-use Rattle.span.specs.Bytes.{zeros, splice}
-use Rattle.span.specs.Laws.{splice-none, splice-more, take-min}
+use mathlib.Core.List.{List}
+use lib.ListN.{length, take}
+use Rattle.span.specs.Bytes.{splice}
+use Rattle.span.specs.Laws.{splice-none, take-min}
 use Rattle.span.proofs.copy_bytes.Statement.{statement}
 use Rattle.span.proofs.copy_bytes.Tie as tie
 

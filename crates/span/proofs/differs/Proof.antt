@@ -1,11 +1,9 @@
 use borrow.Author.Needs.{needs}
 use Rattle.span.proofs.Turns.{same-none, seen-same}
-use Prim.Native.Nat.{ℕ, _+_, _-_, _≤_, _<_, min}
+use Prim.Native.Nat.{_+_, _-_, _≤_}
 use native.Mathlib.Omega.{arith}
-use mathlib.Core.Path.{_≡_, refl, sym, ap, _∙_}
-use mathlib.Core.Bool.{Bool, true, false, not, _&&_, _||_}
-use mathlib.Core.List.{List, [], _∷_, _++_}
-use lib.ListN.{length, take, getD}
+use mathlib.Core.Path.{_≡_}
+use mathlib.Core.Bool.{false}
 use Rattle.span.specs.Differ.{Same}
 use Rattle.span.proofs.differs.Statement.{statement}
 use Rattle.span.proofs.differs.Tie as tie

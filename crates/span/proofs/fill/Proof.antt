@@ -1,13 +1,12 @@
 use borrow.Author.Needs.{needs}
 use Rattle.span.proofs.Turns.{filled}
-use Prim.Native.Nat.{ℕ, _+_, _-_, _≤_, _<_, min}
+use Prim.Native.Nat.{ℕ, _-_, _≤_}
 use native.Mathlib.Omega.{arith}
 use mathlib.Core.Path.{_≡_, refl, sym, ap, _∙_}
-use mathlib.Core.Bool.{Bool, true, false, not, _&&_, _||_}
-use mathlib.Core.List.{List, [], _∷_, _++_}
-use lib.ListN.{length, take, getD}
+use mathlib.Core.List.{List}
+use lib.ListN.{length}
 use Rattle.span.specs.Bytes.{zeros, splice}
-use Rattle.span.specs.Laws.{zeros-length, zeros-nil, zeros-more, splice-none, splice-more, splice-whole}
+use Rattle.span.specs.Laws.{zeros-length, zeros-nil, splice-none, splice-whole}
 use Rattle.span.proofs.fill.Statement.{statement}
 use Rattle.span.proofs.fill.Tie as tie
 

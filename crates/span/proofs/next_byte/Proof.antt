@@ -1,12 +1,9 @@
 use borrow.Author.Needs.{needs}
 use Rattle.span.proofs.Turns.{same-none, same-next, skipped}
-use Prim.Native.Nat.{ℕ, _+_, _-_, _≤_, _<_, min}
+use Prim.Native.Nat.{_+_, _-_, _≤_}
 use native.Mathlib.Omega.{arith}
-use mathlib.Core.Path.{_≡_, refl, sym, ap, _∙_}
-use mathlib.Core.Bool.{Bool, true, false, not, _&&_, _||_}
-use mathlib.Core.List.{List, [], _∷_, _++_}
-use lib.ListN.{length, take, getD}
-use Rattle.span.specs.Differ.{Same, nextDiff, next-here, next-skip}
+use mathlib.Core.Path.{_≡_, sym, _∙_}
+use Rattle.span.specs.Differ.{nextDiff, next-here}
 use Rattle.span.proofs.next_byte.Statement.{statement}
 use Rattle.span.proofs.next_byte.Tie as tie
 

@@ -1,7 +1,7 @@
 use borrow.Author.Needs.{needs}
-use Prim.Native.Nat.{ℕ, _+_}
+use Prim.Native.Nat.{_+_}
 use native.Mathlib.Omega.{arith}
-use mathlib.Core.Path.{_≡_, sym, _∙_}
+use mathlib.Core.Path.{sym, _∙_}
 use Rattle.span.specs.Differ.{next-here, next-skip}
 use Rattle.span.proofs.next_diff.Statement.{statement}
 use Rattle.span.proofs.next_diff.Tie as tie

@@ -1,6 +1,6 @@
 use Rattle.span.specs.Bytes.{part, same}
 use mathlib.Core.List.{List}
-use mathlib.Core.Path.{_≡_, ap, _∙_}
+use mathlib.Core.Path.{ap, _∙_}
 use Prim.Native.Nat.{ℕ}
 use borrow.Author.Needs.{needs}
 use Rattle.span.proofs.same_part.Statement.{statement}

@@ -1,9 +1,8 @@
 use borrow.Author.Needs.{needs}
-use Prim.Native.Nat.{ℕ, _+_, _-_, _≤_, _<_, min}
+use Prim.Native.Nat.{_+_, _-_, _≤_}
 use native.Mathlib.Omega.{arith}
-use mathlib.Core.Path.{_≡_, refl, sym, ap, _∙_}
-use lib.ListN.{length}
-use Rattle.span.specs.Differ.{nextDiff, Skipped}
+use mathlib.Core.Path.{_≡_}
+use Rattle.span.specs.Differ.{nextDiff}
 use Rattle.span.proofs.Turns.{skipped}
 use Rattle.span.proofs.skip_equal.Statement.{statement}
 use Rattle.span.proofs.skip_equal.Tie as tie

@@ -1,6 +1,6 @@
 use Rattle.layout.specs.Areas.{patchFits, fullFits, blocksIn, patch-fits-is}
 use Rattle.layout.specs.Sizes.{pageSize, blocksAtMost}
-use mathlib.Core.Bool.{true, false, _&&_}
+use mathlib.Core.Bool.{true, false}
 use mathlib.Core.Path.{_≡_, sym, ap, _∙_}
 use Prim.Native.Nat.{ℕ, _≤_}
 use native.Mathlib.Omega.{arith}
