@@ -3,7 +3,7 @@ use crate::Info;
 use layout::Kind;
 ghost use mathlib.Core.Path.{_≡_};
 ghost use Prim.Native.Nat.{_+_, _≤_};
-ghost use lib.ListN.{length, set};
+ghost use lib.ListN.{length};
 ghost use Rattle.layout.specs.Sizes.{pageSize};
 ghost use Rattle.layout.specs.Numbers.{kindNumber};
 ghost use Rattle.stream.specs.Steps.{Put};
@@ -13,15 +13,6 @@ ghost use Rattle.info.specs.Text.{widest, decimal, numberLine, kindLine,
 // The most bytes that the text can have.
 pub const LONGEST: usize = 100;
 
-// Stores a byte, if there is room for it.
-fn put(out: &mut [u8], at: usize, value: u8)
-    ensures { λ _. ⌜ now (out .exit) ≡ set (now (out .entry)) at value ⌝ }
-{
-    if at < out.len() {
-        out[at] = value;
-    }
-}
-
 // Stores a word as far as there is room, and answers the place after it, room or not.
 fn put_word(out: &mut [u8], at: usize, word: &[u8]) -> usize
     requires { ⌜ at ≤ widest ⌝ }
@@ -29,7 +20,7 @@ fn put_word(out: &mut [u8], at: usize, word: &[u8]) -> usize
 {
     let mut i = 0;
     while i < word.len() {
-        put(out, at + i, word[i]);
+        span::put(out, at + i, word[i]);
         i += 1;
     }
     at + i

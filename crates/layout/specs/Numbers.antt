@@ -6,7 +6,7 @@ use mathlib.Core.List.{List, [], _∷_}
 use Rattle.layout.specs.declared.Kind.{Kind}
 use Rattle.layout.specs.declared.Kind.the-variants.{Empty, Patch, Full}
 use Rattle.layout.specs.declared.Refusal.{Refusal}
-use Rattle.layout.specs.declared.Refusal.the-variants.{Page, Length, Header, Version, Block, Slot, Payload, Room, Buffer, Place, Pair}
+use Rattle.layout.specs.declared.Refusal.the-variants.{Page, Length, Header, Version, Block, Slot, Payload, FullPage, Buffer, Place, Pair}
 use Rattle.layout.specs.declared.Fault.{Fault}
 use Rattle.layout.specs.declared.Fault.the-variants.{Nothing, Found}
 
@@ -25,7 +25,7 @@ refusalNumber Version = 4
 refusalNumber Block = 5
 refusalNumber Slot = 6
 refusalNumber Payload = 7
-refusalNumber Room = 8
+refusalNumber FullPage = 8
 refusalNumber Buffer = 9
 refusalNumber Place = 10
 refusalNumber Pair = 11
@@ -72,7 +72,7 @@ refusalOf (suc (suc (suc (suc zero)))) = Version
 refusalOf (suc (suc (suc (suc (suc zero))))) = Block
 refusalOf (suc (suc (suc (suc (suc (suc zero)))))) = Slot
 refusalOf (suc (suc (suc (suc (suc (suc (suc zero))))))) = Payload
-refusalOf (suc (suc (suc (suc (suc (suc (suc (suc zero)))))))) = Room
+refusalOf (suc (suc (suc (suc (suc (suc (suc (suc zero)))))))) = FullPage
 refusalOf (suc (suc (suc (suc (suc (suc (suc (suc (suc zero))))))))) = Buffer
 refusalOf (suc (suc (suc (suc (suc (suc (suc (suc (suc (suc zero)))))))))) = Place
 refusalOf (suc (suc (suc (suc (suc (suc (suc (suc (suc (suc (suc n))))))))))) = Pair
@@ -86,7 +86,7 @@ refusal-back Version = refl
 refusal-back Block = refl
 refusal-back Slot = refl
 refusal-back Payload = refl
-refusal-back Room = refl
+refusal-back FullPage = refl
 refusal-back Buffer = refl
 refusal-back Place = refl
 refusal-back Pair = refl
@@ -103,7 +103,7 @@ refusal-some Version e = omega arith
 refusal-some Block e = omega arith
 refusal-some Slot e = omega arith
 refusal-some Payload e = omega arith
-refusal-some Room e = omega arith
+refusal-some FullPage e = omega arith
 refusal-some Buffer e = omega arith
 refusal-some Place e = omega arith
 refusal-some Pair e = omega arith

@@ -23,7 +23,7 @@ pub enum Refusal {
     Block,
     Slot,
     Payload,
-    Room,
+    FullPage,
     Buffer,
     Place,
     Pair,

@@ -27,7 +27,7 @@ pub fn refusal_number(refusal: Refusal) -> u32
         Refusal::Block => 5,
         Refusal::Slot => 6,
         Refusal::Payload => 7,
-        Refusal::Room => 8,
+        Refusal::FullPage => 8,
         Refusal::Buffer => 9,
         Refusal::Place => 10,
         Refusal::Pair => 11,

@@ -14,7 +14,7 @@ use lib.IntN.{pos}
 use Rattle.layout.specs.Numbers.{refusalNumber}
 use Rattle.layout.specs.Refusals.{NoneHolds, Exactly}
 use Rattle.layout.specs.declared.Refusal.{Refusal}
-use Rattle.layout.specs.declared.Refusal.the-variants.{Page, Length, Header, Version, Block, Slot, Payload, Room, Buffer, Place, Pair}
+use Rattle.layout.specs.declared.Refusal.the-variants.{Page, Length, Header, Version, Block, Slot, Payload, FullPage, Buffer, Place, Pair}
 use Rattle.blockmap.specs.Calls.{lookUpRows, lookedNumbers, LookUp, tallyRows, talliedNumbers, Tally}
 use Rattle.blockmap.specs.Given.{look-up-exactly, tally-exactly}
 use Rattle.blockmap.specs.declared.Looked.{Looked}
@@ -54,7 +54,7 @@ from-the-table Version = (omega arith, omega arith)
 from-the-table Block = (omega arith, omega arith)
 from-the-table Slot = (omega arith, omega arith)
 from-the-table Payload = (omega arith, omega arith)
-from-the-table Room = (omega arith, omega arith)
+from-the-table FullPage = (omega arith, omega arith)
 from-the-table Buffer = (omega arith, omega arith)
 from-the-table Place = (omega arith, omega arith)
 from-the-table Pair = (omega arith, omega arith)

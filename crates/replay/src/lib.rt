@@ -3,7 +3,6 @@ use layout::Layout;
 use store::Written;
 ghost use mathlib.Core.Path.{_≡_};
 ghost use Prim.Native.Nat.{_*_};
-ghost use lib.ListN.{set};
 ghost use Rattle.span.specs.Bytes.{part};
 ghost use Rattle.layout.specs.Sizes.{pageSize};
 ghost use Rattle.replay.specs.Writes.{Turned, Replayed};
@@ -28,15 +27,6 @@ fn turn(patch: &mut [u8], full: &mut [u8], block: u64, base: &[u8], page: &[u8])
     }
 }
 
-// Stores a mark, if there is room for it.
-fn note(marks: &mut [u8], i: usize, mark: u8)
-    ensures { λ _. ⌜ now (marks .exit) ≡ set (now (marks .entry)) i mark ⌝ }
-{
-    if i < marks.len() {
-        marks[i] = mark;
-    }
-}
-
 // Makes the i-th write with the i-th block number and the i-th page of `bases` and of `pages`; as many writes as there are block
 // numbers. Marks 1 for an accepted write and 0 for a refused one, as far as `marks` goes, and answers how many were accepted.
 pub fn replay(
@@ -55,7 +45,7 @@ pub fn replay(
         let base = nth_page(bases, i);
         let page = nth_page(pages, i);
         let mark = turn(patch, full, blocks[i], base, page);
-        note(marks, i, mark);
+        span::put(marks, i, mark);
         accepted += mark as usize;
         i += 1;
     }

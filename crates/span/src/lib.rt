@@ -4,7 +4,7 @@
 ghost use mathlib.Core.Path.{_≡_};
 ghost use mathlib.Core.Bool.{false};
 ghost use Prim.Native.Nat.{_+_, _≤_, min};
-ghost use lib.ListN.{length, take};
+ghost use lib.ListN.{length, set, take};
 ghost use Rattle.span.specs.Bytes.{zeros, splice, part as partOf, same as sameBytes};
 ghost use Rattle.span.specs.Differ.{nextDiff, diffsIn, Same, Skipped, Lasts, Clusters};
 
@@ -21,6 +21,15 @@ const WORD: usize = 8;
 
 // How many bytes are moved at one go.
 const BULK: usize = 4 * 1024;
+
+// Stores a byte, if there is room for it.
+pub fn put(dst: &mut [u8], at: usize, value: u8)
+    ensures { λ _. ⌜ now (dst .exit) ≡ set (now (dst .entry)) at value ⌝ }
+{
+    if at < dst.len() {
+        dst[at] = value;
+    }
+}
 
 // Every byte becomes zero.
 pub fn fill(dst: &mut [u8])

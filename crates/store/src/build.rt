@@ -41,7 +41,7 @@ fn block_fault(patch: &[u8], full: &[u8], block: u32) -> Fault
         SlotState::Unsound => Fault::Found(Refusal::Slot),
         SlotState::Full => {
             if layout::area::pages(full.len()) <= block as usize {
-                return Fault::Found(Refusal::Room);
+                return Fault::Found(Refusal::FullPage);
             }
             Fault::Nothing
         }

@@ -1,4 +1,4 @@
-// Format.
+// Format: both areas made fresh.
 use crate::Formatted;
 use layout::Refusal;
 ghost use Rattle.layout.specs.Sizes.{pageSize};

@@ -1,4 +1,4 @@
-// Judge.
+// Judge: what one slot is, whatever its entries are.
 use crate::Judged;
 use layout::Kind;
 use layout::Layout;

@@ -43,7 +43,7 @@ fn read_block(patch: &[u8], full: &[u8], block: u32, base: &[u8], page: &mut [u8
         SlotState::Patch(n) => read_patch(base, span::part(slot, Layout::PAYLOAD_AT, n), page),
         SlotState::Full => {
             if layout::area::pages(full.len()) <= (block as usize) {
-                return Reading::Refused(Refusal::Room);
+                return Reading::Refused(Refusal::FullPage);
             }
             span::copy(page, span::part(full, Layout::page_at(block), Layout::PAGE));
             Reading::Done { kind: Kind::Full }

@@ -1,4 +1,4 @@
-// Show.
+// Show: a block's payload where it lies.
 use crate::Place;
 use layout::Fault;
 use layout::Layout;

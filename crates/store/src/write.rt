@@ -51,7 +51,7 @@ fn write_block(patch: &mut [u8], full: &mut [u8], block: u32, base: &[u8], page:
     let length = d.length;
     let kind = stream::kind_for(length);
     if place_missing(kind, full.len(), block) {
-        return Written::Refused(Refusal::Room);
+        return Written::Refused(Refusal::FullPage);
     }
     let used = room_used(kind, length);
     carry::carry_out(patch, full, block, kind, &room[0..used], page);

@@ -3,18 +3,9 @@ use crate::Code;
 use crate::Difference;
 ghost use mathlib.Core.Path.{_≡_};
 ghost use Prim.Native.Nat.{_*_, _≤_};
-ghost use lib.ListN.{length as lengthOf, set};
+ghost use lib.ListN.{length as lengthOf};
 ghost use Rattle.stream.specs.Differences.{spelled};
 ghost use Rattle.stream.specs.Steps.{farthest, before, near, widthOf, Counted, Numbers, Differs, Put};
-
-// Stores a byte, if there is room for it.
-fn put(room: &mut [u8], at: usize, value: u8)
-    ensures { λ _. ⌜ now (room .exit) ≡ set (now (room .entry)) at value ⌝ }
-{
-    if at < room.len() {
-        room[at] = value;
-    }
-}
 
 // Stores an entry as far as there is room, and answers the place after it, room or not.
 fn put_entry(room: &mut [u8], used: usize, jump: usize, value: u8) -> usize
@@ -22,14 +13,14 @@ fn put_entry(room: &mut [u8], used: usize, jump: usize, value: u8) -> usize
     ensures { λ r. ⌜ Put (now (room .entry)) used (spelled jump value) r (now (room .exit)) ⌝ }
 {
     if jump < Code::LONG as usize {
-        put(room, used, jump as u8);
-        put(room, used + 1, value);
+        span::put(room, used, jump as u8);
+        span::put(room, used + 1, value);
         return used + Code::SHORT_WIDTH;
     }
-    put(room, used, Code::LONG);
-    put(room, used + 1, (jump % 256) as u8);
-    put(room, used + 2, (jump / 256 % 256) as u8);
-    put(room, used + 3, value);
+    span::put(room, used, Code::LONG);
+    span::put(room, used + 1, (jump % 256) as u8);
+    span::put(room, used + 2, (jump / 256 % 256) as u8);
+    span::put(room, used + 3, value);
     used + Code::LONG_WIDTH
 }
 

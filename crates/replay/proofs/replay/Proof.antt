@@ -34,8 +34,8 @@ shared-slice-read-turn c = search needs
 turn-requires : tie.Need-turn-requires Inv-loop μ-loop
 turn-requires c κs = search needs
 
-note-requires : tie.Need-note-requires Inv-loop μ-loop
-note-requires c κs = search needs
+put-requires : tie.Need-put-requires Inv-loop μ-loop
+put-requires c κs = search needs
 
 cast-accepted : tie.Need-cast-accepted Inv-loop μ-loop
 cast-accepted c = search needs
@@ -59,7 +59,7 @@ loop-again c =
     let a = c .before .before .before .before .before .before .before .before .before .before .before .before .before .before .before .before .before .before .before .before .before .before .args in
     let l = c .before .before .before .before .before .before .before .before .before .before .before .before .before .before .before .loop in
     let t = c .before .before .before .before .before .before .before .before .turn in
-    (go-on pageSize (a .patch .now) (a .full .now) (a .blocks .now) (a .bases .now) (a .pages .now) (a .marks .now) (l .i) (l .accepted) (l .patch) (l .full) (l .marks) (l .inv .0) (omega arith) (c .before .before .before .before .before .before .before .before .before .before .before .before .before .nth-page .result .now) (c .before .before .before .before .before .before .before .before .before .before .before .before .nth-page2 .result .now) (t .result) (t .last .0) (t .last .1 .0) (c .before .before .note .last .0) (c .before .before .before .before .before .before .before .before .before .before .before .before .before .nth-page .ensures) (c .before .before .before .before .before .before .before .before .before .before .before .before .nth-page2 .ensures) (t .ensures) (c .before .before .note .ensures), search needs, search needs, search needs)
+    (go-on pageSize (a .patch .now) (a .full .now) (a .blocks .now) (a .bases .now) (a .pages .now) (a .marks .now) (l .i) (l .accepted) (l .patch) (l .full) (l .marks) (l .inv .0) (omega arith) (c .before .before .before .before .before .before .before .before .before .before .before .before .before .nth-page .result .now) (c .before .before .before .before .before .before .before .before .before .before .before .before .nth-page2 .result .now) (t .result) (t .last .0) (t .last .1 .0) (c .before .before .put .last .0) (c .before .before .before .before .before .before .before .before .before .before .before .before .before .nth-page .ensures) (c .before .before .before .before .before .before .before .before .before .before .before .before .nth-page2 .ensures) (t .ensures) (c .before .before .put .ensures), search needs, search needs, search needs)
 
 same-length : tie.Need-same-length Inv-loop μ-loop
 same-length c = search needs
@@ -88,7 +88,7 @@ replay-spec =
     mul-turn
     shared-slice-read-turn
     turn-requires
-    note-requires
+    put-requires
     cast-accepted
     add-accepted
     add-i
