@@ -78,7 +78,11 @@ fi
 
 # compiles COMPILER LANGUAGE: whether it makes a program, which takes a C library for the target.
 compiles() {
-    have "$1" && echo 'int main(void) { return 0; }' | "$1" -x "$2" -o /dev/null - 2>/dev/null
+    have "$1" && made=$(mktemp) || return 1
+    echo 'int main(void) { return 0; }' | "$1" -x "$2" -o "$made" - 2>/dev/null
+    compiled=$?
+    rm -f "$made"
+    return "$compiled"
 }
 
 # What stands between this machine and programs of the target; nothing if all is there.
