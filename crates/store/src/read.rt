@@ -18,7 +18,7 @@ fn read_patch(base: &[u8], payload: &[u8], page: &mut [u8]) -> Reading
     requires { ⌜ (length (now base) ≡ pageSize) × (length (now page) ≡ pageSize) ⌝ }
     ensures { λ r. ⌜ PatchRead pageSize (now (base .entry)) (now (payload .entry)) (now (page .entry)) r (now (page .exit)) ⌝ }
 {
-    match stream::apply(base, payload, page) {
+    match stream::apply_to(base, payload, page) {
         Applied::Refused(refusal) => Reading::Refused(refusal),
         Applied::Done {
             entries: _,

@@ -5,12 +5,12 @@ use mathlib.Core.Path.{_≡_, refl, sym, ap, _∙_, subst}
 use mathlib.Core.Bool.{Bool, true, false, cond}
 use mathlib.Core.List.{List}
 use lib.Dec.{eqb}
-use lib.ListN.{length, take}
+use lib.ListN.{length, take, length-take}
 use lib.Seq.{take-all}
 use lib.IntN.{ℤ}
 use borrow.Author.Tests.{ne-eqb, lt-ltb, le-ltb}
 use Rattle.span.specs.Bytes.{splice, part}
-use Rattle.span.specs.Laws.{splice-whole, part-splice}
+use Rattle.span.specs.Laws.{splice-length, copied-whole, part-splice}
 use Rattle.layout.specs.Sizes.{room}
 use Rattle.layout.specs.Refusals.{firstOf}
 use Rattle.layout.specs.Numbers.{kindNumber}
@@ -33,16 +33,16 @@ use Rattle.stream.specs.declared.Applied.the-variants.{Done as AppliedDo
 pub applies-unsound : (n : ℕ) (base payload page : List ℕ) → sound n payload ≡ false → Applies n base payload page (AppliedRefused Payload) page
 applies-unsound n base payload page h = record { numbers = rw h; bytes = rw h }
 
-pub applies-sound : (base payload page copied after : List ℕ) (e : ℕ) (l l′ : ℤ) → length base ≡ length page → l′ ≡ l
+pub applies-sound : (base payload page copied after : List ℕ) (e : ℕ) (l l′ : ℤ) → l′ ≡ l
     → SoundAs (reach (length page)) payload e l
     → copied ≡ splice page 0 (take (length page) base)
     → after ≡ applied copied (payloadStream (reach (length copied)) payload)
     → Applies (reach (length page)) base payload page (AppliedDone e l′) after
-applies-sound base payload page copied after e l l′ h k s f g =
-    let t : take (length page) base ≡ base = take-all (length page) base (omega arith) in
-    let f′ : copied ≡ base = f ∙ ap (λ (x : List ℕ). splice page 0 x) t ∙ splice-whole page base h in
-    let g′ : after ≡ applied base (payloadStream (reach (length page)) payload) =
-    g ∙ ap (λ (x : List ℕ). applied x (payloadStream (reach (length x)) payload)) f′ ∙ ap (λ (x : ℕ). applied base (payloadStream (reach x) payload)) h in
+applies-sound base payload page copied after e l l′ k s f g =
+    let c : List ℕ = splice page 0 (take (length page) base) in
+    let q : length c ≡ length page = splice-length page 0 (take (length page) base) (simp length-take (omega arith)) in
+    let g′ : after ≡ applied c (payloadStream (reach (length page)) payload) =
+    g ∙ ap (λ (x : List ℕ). applied x (payloadStream (reach (length x)) payload)) f ∙ ap (λ (x : ℕ). applied c (payloadStream (reach x) payload)) q in
     let z : appliedNumbers (AppliedDone e l′) ≡ application true (payloadStream (reach (length page)) payload) =
     λ i. record { number = 0; entries = s .entries i; last = (k ∙ s .last) i } in
     record { numbers = rw (s .is) z; bytes = rw (s .is) g′ }
@@ -54,9 +54,9 @@ apply-refused P base payload page h =
     record { numbers = sym (d .0); bytes = sym (d .1) }
 
 -- over the page that the base stands for
-pub apply-over : (P : ℕ) (base present payload page after : List ℕ) (answer : Applied) → pagesFit P base page ≡ true → P ≤ 65536 → pageOf P base ≡ present
+pub apply-over : (P : ℕ) (base present payload page after : List ℕ) (answer : Applied) → pagesFit P base page ≡ true → P ≤ 65536 → length present ≡ length page → pageOf P base ≡ present
     → Applies (reach (length page)) present payload page answer after → Apply P base payload page answer after
-apply-over P base present payload page after answer h k e a =
+apply-over P base present payload page after answer h k there e a =
     let n : reach (length page) ≡ P = omega (arith, page-length P base page h) in
     let b : Applies P present payload page answer after = subst (λ (x : ℕ). Applies x present payload page answer after) n a in
     go (sound P payload) refl b
@@ -71,15 +71,15 @@ apply-over P base present payload page after answer h k e a =
           numbers = b .numbers ∙ ap (λ (t : Bool). application t (payloadStream P payload)) s ∙ sym (d .0);
           bytes =
               b .bytes
-              ∙ ap (λ (t : Bool). cond t (applied present (payloadStream P payload)) page) s
-              ∙ ap (λ (l : List ℕ). applied l (payloadStream P payload)) (sym e)
+              ∙ ap (λ (t : Bool). cond t (applied (splice page 0 (take (length page) present)) (payloadStream P payload)) page) s
+              ∙ ap (λ (l : List ℕ). applied l (payloadStream P payload)) (copied-whole page present there ∙ sym e)
               ∙ sym (d .1);
         }
     go false s b =
         let d = apply-not P base payload page 6 (number ∙ rw s) in
         record {
           numbers = b .numbers ∙ ap (λ (t : Bool). application t (payloadStream P payload)) s ∙ sym (d .0);
-          bytes = b .bytes ∙ ap (λ (t : Bool). cond t (applied present (payloadStream P payload)) page) s ∙ sym (d .1);
+          bytes = b .bytes ∙ ap (λ (t : Bool). cond t (applied (splice page 0 (take (length page) present)) (payloadStream P payload)) page) s ∙ sym (d .1);
         }
 
 -- Compare

@@ -59,7 +59,7 @@ abbrev pub Judges : ℕ → List ℕ → Checked → Type 0
 Judges n payload Unsound = sound n payload ≡ false
 Judges n payload (Sound count at) = SoundAs n payload count at
 
--- Apply to a base that is there
+-- Apply to a base that is there: it is laid over the page as far as both go, and the payload over that
 
 abbrev pub application : Bool → Stream → AppliedNumbers
 application true s = record { number = 0; entries = entriesOf s; last = lastOf start s }
@@ -67,7 +67,7 @@ application false s = record { number = 7; entries = 0; last = pos 0 }
 
 pub record Applies (n : ℕ) (base payload page : List ℕ) (answer : Applied) (after : List ℕ) : Type 0 where
   pub numbers : appliedNumbers answer ≡ application (sound n payload) (payloadStream n payload)
-  pub bytes : after ≡ cond (sound n payload) (applied base (payloadStream n payload)) page
+  pub bytes : after ≡ cond (sound n payload) (applied (splice page 0 (take (length page) base)) (payloadStream n payload)) page
 
 -- The writer
 

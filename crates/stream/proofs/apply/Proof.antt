@@ -26,10 +26,7 @@ slice-aggregate-apply-to : tie.Need-slice-aggregate-apply-to
 slice-aggregate-apply-to c = search needs
 
 apply-to-requires : tie.Need-apply-to-requires
-apply-to-requires c κs =
-    let a = c .before .before .before .before .before .before .before .before .before .args in
-    let f : pagesFit pageSize (a .base .now) (a .page .now) ≡ true = on (c .before .before .before .before .pages-fit .result) (c .before .before .before .before .pages-fit .ensures) (c .before .before .before .if1 .left) in
-    sym (page-length pageSize (a .base .now) (a .page .now) f)
+apply-to-requires c κs = search needs
 
 same-length-2 : tie.Need-same-length-2
 same-length-2 c = search needs
@@ -39,13 +36,10 @@ unfolding zeros
 returns-2 c =
     let a = c .before .before .before .before .before .before .before .before .before .before .before .before .args in
     let f : pagesFit pageSize (a .base .now) (a .page .now) ≡ true = on (c .before .before .before .before .before .before .before .pages-fit .result) (c .before .before .before .before .before .before .before .pages-fit .ensures) (c .before .before .before .before .before .before .if1 .left) in
-    apply-over pageSize (a .base .now) (zeros pageSize) (a .payload .now) (a .page .now) (c .before .before .apply-to .last .1 .1 .0) (c .before .before .apply-to .result) f (omega arith) (base-none pageSize (a .base .now) (c .before .before .before .before .before .if2 .taken)) (c .before .before .apply-to .ensures)
+    apply-over pageSize (a .base .now) (zeros pageSize) (a .payload .now) (a .page .now) (c .before .before .apply-to .last .1 .1 .0) (c .before .before .apply-to .result) f (omega arith) (sym (page-length pageSize (a .base .now) (a .page .now) f)) (base-none pageSize (a .base .now) (c .before .before .before .before .before .if2 .taken)) (c .before .before .apply-to .ensures)
 
 apply-to-requires-2 : tie.Need-apply-to-requires-2
-apply-to-requires-2 c κs =
-    let a = c .before .before .before .before .before .before .before .before .args in
-    let f : pagesFit pageSize (a .base .now) (a .page .now) ≡ true = on (c .before .before .before .pages-fit .result) (c .before .before .before .pages-fit .ensures) (c .before .before .if1 .left) in
-    base-length pageSize (a .base .now) (a .page .now) f (c .before .if2 .left) ∙ sym (page-length pageSize (a .base .now) (a .page .now) f)
+apply-to-requires-2 c κs = search needs
 
 same-length-3 : tie.Need-same-length-3
 same-length-3 c = search needs
@@ -54,7 +48,7 @@ returns-3 : tie.Need-returns-3
 returns-3 c =
     let a = c .before .before .before .before .before .before .before .before .before .before .before .args in
     let f : pagesFit pageSize (a .base .now) (a .page .now) ≡ true = on (c .before .before .before .before .before .before .pages-fit .result) (c .before .before .before .before .before .before .pages-fit .ensures) (c .before .before .before .before .before .if1 .left) in
-    apply-over pageSize (a .base .now) (a .base .now) (a .payload .now) (a .page .now) (c .before .before .apply-to2 .last .1 .1 .0) (c .before .before .apply-to2 .result) f (omega arith) (base-some pageSize (a .base .now) (c .before .before .before .before .if2 .left)) (c .before .before .apply-to2 .ensures)
+    apply-over pageSize (a .base .now) (a .base .now) (a .payload .now) (a .page .now) (c .before .before .apply-to2 .last .1 .1 .0) (c .before .before .apply-to2 .result) f (omega arith) (base-length pageSize (a .base .now) (a .page .now) f (c .before .before .before .before .if2 .left) ∙ sym (page-length pageSize (a .base .now) (a .page .now) f)) (base-some pageSize (a .base .now) (c .before .before .before .before .if2 .left)) (c .before .before .apply-to2 .ensures)
 
 pub apply-spec : {M : Type 1} → statement M
 apply-spec =
