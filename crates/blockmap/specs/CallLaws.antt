@@ -8,7 +8,7 @@ use lib.ListN.{length}
 use borrow.Author.Tests.{eq-eqb, ne-eqb, le-leb, lt-leb, lt-ltb, le-ltb}
 use Rattle.layout.specs.Sizes.{blocksAtMost}
 use Rattle.layout.specs.Numbers.{refusalNumber, refusal-one, refusal-some}
-use Rattle.layout.specs.Refusals.{firstOf, ordered, first-hit, first-skip, first-done}
+use Rattle.layout.specs.Refusals.{firstOf, decided, ordered, first-hit, first-skip, first-done}
 use Rattle.layout.specs.declared.Refusal.{Refusal}
 use Rattle.layout.specs.declared.Refusal.the-variants.{Length, Buffer, Block, Pair}
 use Rattle.blockmap.specs.Pairs.{mapBytes, pairAt, pairs, patchPair, fullPair, reservedPair, badPairs}
@@ -20,19 +20,19 @@ use Rattle.blockmap.specs.declared.Tallied.the-variants.{Done as Tallied
 
 module _ (P : ℕ) (map : List ℕ) (n : ℕ) where
   look-refused : (b k : ℕ) (r : Refusal) → refusalNumber r ≡ suc k → firstOf (lookUpRows P map n b) ≡ suc k → LookUp P map n b (LookedRefused r)
-  unfolding lookUpNumbers
+  unfolding lookUpNumbers decided
   look-refused b k r q e = record { numbers = rw (lookUpNumbers, q, e) }
 
   look-given : (b p : ℕ) → firstOf (lookUpRows P map n b) ≡ 0 → p ≡ pairAt map b → LookUp P map n b (LookedDone p)
-  unfolding lookUpNumbers
+  unfolding lookUpNumbers decided
   look-given b p e q = record { numbers = rw (lookUpNumbers, q, e) }
 
   tally-refused : (k : ℕ) (r : Refusal) → refusalNumber r ≡ suc k → firstOf (tallyRows P map n) ≡ suc k → Tally P map n (TalliedRefused r)
-  unfolding tallyNumbers
+  unfolding tallyNumbers decided
   tally-refused k r q e = record { numbers = rw (tallyNumbers, q, e) }
 
   tally-given : (p f : ℕ) → firstOf (tallyRows P map n) ≡ 0 → p ≡ pairs patchPair map n → f ≡ pairs fullPair map n → Tally P map n (TalliedDone p f)
-  unfolding tallyNumbers
+  unfolding tallyNumbers decided
   tally-given p f e q r = record { numbers = rw (tallyNumbers, q, r, e) }
 
   -- n is over the most blocks, or not; the map is too short, or not

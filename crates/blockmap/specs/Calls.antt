@@ -1,12 +1,12 @@
 -- Look up and Tally: one total function a call, and one predicate a call, which its contract cites whole.
-use Prim.Native.Nat.{ℕ, zero, suc}
+use Prim.Native.Nat.{ℕ}
 use mathlib.Core.Path.{_≡_}
 use mathlib.Core.List.{List, [], _∷_}
 use lib.Dec.{eqb, leb, ltb}
 use lib.ListN.{length}
 use Rattle.layout.specs.Sizes.{blocksAtMost}
 use Rattle.layout.specs.Numbers.{refusalNumber}
-use Rattle.layout.specs.Refusals.{Row, _⇐_, firstOf, ordered}
+use Rattle.layout.specs.Refusals.{Row, _⇐_, firstOf, decided, ordered}
 use Rattle.blockmap.specs.Pairs.{mapBytes, pairAt, pairs, patchPair, fullPair, reservedPair, badPairs}
 use Rattle.blockmap.specs.declared.Looked.{Looked}
 use Rattle.blockmap.specs.declared.Looked.the-variants.{Done as LookedDone, Refused as LookedRefused}
@@ -41,10 +41,7 @@ lookUpRows P map n b = mapRows P map n ((5 ⇐ leb n b) ∷ []) ((11 ⇐ eqb (pa
 
 unfoldable pub lookUpNumbers : ℕ → List ℕ → ℕ → ℕ → LookedNumbers
 lookUpNumbers P map n b =
-    elim (firstOf (lookUpRows P map n b)) [
-      | zero ↦ record { number = 0; pair = pairAt map b }
-      | suc k ↦ record { number = suc k; pair = 0 }
-    ]
+    decided (firstOf (lookUpRows P map n b)) (record { number = 0; pair = pairAt map b }) (λ k. record { number = k; pair = 0 })
 
 abbrev pub lookedNumbers : Looked → LookedNumbers
 lookedNumbers (LookedDone p) = record { number = 0; pair = p }
@@ -65,10 +62,8 @@ tallyRows P map n = mapRows P map n [] ((11 ⇐ badPairs map n) ∷ [])
 
 unfoldable pub tallyNumbers : ℕ → List ℕ → ℕ → TalliedNumbers
 tallyNumbers P map n =
-    elim (firstOf (tallyRows P map n)) [
-      | zero ↦ record { number = 0; patch = pairs patchPair map n; full = pairs fullPair map n }
-      | suc k ↦ record { number = suc k; patch = 0; full = 0 }
-    ]
+    decided (firstOf (tallyRows P map n)) (record { number = 0; patch = pairs patchPair map n; full = pairs fullPair map n })
+    (λ k. record { number = k; patch = 0; full = 0 })
 
 abbrev pub talliedNumbers : Tallied → TalliedNumbers
 talliedNumbers (TalliedDone p f) = record { number = 0; patch = p; full = f }

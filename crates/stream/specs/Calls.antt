@@ -1,6 +1,6 @@
 -- Compare and Apply: one total function a call, from what is lent to the answer's numbers and every lent byte afterwards; and one
 -- predicate a call, which its contract cites whole.
-use Prim.Native.Nat.{ℕ, zero, suc}
+use Prim.Native.Nat.{ℕ}
 use mathlib.Core.Path.{_≡_}
 use mathlib.Core.Bool.{Bool, not, _&&_, _||_, cond}
 use mathlib.Core.List.{List, [], _∷_}
@@ -10,7 +10,7 @@ use lib.IntN.{ℤ, pos}
 use Rattle.span.specs.Bytes.{zeros, splice}
 use Rattle.layout.specs.Sizes.{room}
 use Rattle.layout.specs.Numbers.{kindNumber, refusalNumber}
-use Rattle.layout.specs.Refusals.{Row, _⇐_, firstOf, ordered}
+use Rattle.layout.specs.Refusals.{Row, _⇐_, firstOf, ordered, decided}
 use Rattle.stream.specs.Entries.{start, payloadStream, sound, entries, last, applied}
 use Rattle.stream.specs.Differences.{Change, diffs, coded, lastPlace}
 use Rattle.stream.specs.declared.Compared.{Compared}
@@ -68,11 +68,7 @@ abbrev refusedComparison : ℕ → ComparedNumbers
 refusedComparison n = record { number = n; kind = 0; length = 0; entries = 0; last = pos 0 }
 
 unfoldable pub compareNumbers : ℕ → List ℕ → List ℕ → List ℕ → ComparedNumbers
-compareNumbers P base page buffer =
-    elim (firstOf (compareRows P base page buffer)) [
-      | zero ↦ comparison (diffs 0 (pageOf P base) page)
-      | suc n ↦ refusedComparison (suc n)
-    ]
+compareNumbers P base page buffer = decided (firstOf (compareRows P base page buffer)) (comparison (diffs 0 (pageOf P base) page)) refusedComparison
 
 -- "Only for patch is the payload written; later bytes of the buffer stay."
 unfoldable pub compareBuffer : ℕ → List ℕ → List ℕ → List ℕ → List ℕ
@@ -116,17 +112,12 @@ refusedApplication n = record { number = n; entries = 0; last = pos 0 }
 
 unfoldable pub applyNumbers : ℕ → List ℕ → List ℕ → List ℕ → AppliedNumbers
 applyNumbers P base payload page =
-    elim (firstOf (applyRows P base payload page)) [
-      | zero ↦ record { number = 0; entries = entries (payloadStream P payload); last = last start (payloadStream P payload) }
-      | suc n ↦ refusedApplication (suc n)
-    ]
+    decided (firstOf (applyRows P base payload page))
+    (record { number = 0; entries = entries (payloadStream P payload); last = last start (payloadStream P payload) })
+    refusedApplication
 
 unfoldable pub applyPage : ℕ → List ℕ → List ℕ → List ℕ → List ℕ
-applyPage P base payload page =
-    elim (firstOf (applyRows P base payload page)) [
-      | zero ↦ applied (pageOf P base) (payloadStream P payload)
-      | suc n ↦ page
-    ]
+applyPage P base payload page = decided (firstOf (applyRows P base payload page)) (applied (pageOf P base) (payloadStream P payload)) (λ _. page)
 
 abbrev pub appliedNumbers : Applied → AppliedNumbers
 appliedNumbers (AppliedDone e l) = record { number = 0; entries = e; last = l }

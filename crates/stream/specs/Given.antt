@@ -1,10 +1,9 @@
 -- "Each refusal is given when its condition holds and no earlier one does, and at no other time": Compare and Apply.
-use Prim.Native.Nat.{ℕ, zero, suc}
-use mathlib.Core.Path.{_≡_, refl, sym, ap, _∙_}
+use Prim.Native.Nat.{ℕ}
+use mathlib.Core.Path.{_≡_, refl}
 use mathlib.Core.List.{List}
-use Rattle.layout.specs.Refusals.{firstOf, ordered, Exactly, exactly, no-row, row}
+use Rattle.layout.specs.Refusals.{firstOf, ordered, decided-number, Exactly, exactly, no-row, row}
 use Rattle.stream.specs.Calls.{compareRows, compareNumbers, AppliedNumbers, applyRows, applyNumbers}
-use Rattle.stream.specs.Laws.{apply-done, apply-not}
 use Rattle.stream.specs.Kinds.{compare-gives}
 
 pub compare-exactly : (P : ℕ) (base page buffer : List ℕ) → Exactly (compareRows P base page buffer) (compareNumbers P base page buffer .number)
@@ -13,11 +12,8 @@ compare-exactly P base page buffer = exactly (compareRows P base page buffer) _ 
 
 -- the number that Apply gives is that of the first refusal
 pub apply-gives : (P : ℕ) (base payload page : List ℕ) → applyNumbers P base payload page .number ≡ firstOf (applyRows P base payload page)
-apply-gives P base payload page = go (firstOf (applyRows P base payload page)) refl
-  where
-    go : (k : ℕ) → firstOf (applyRows P base payload page) ≡ k → applyNumbers P base payload page .number ≡ firstOf (applyRows P base payload page)
-    go zero e = ap (λ (x : AppliedNumbers). x .number) (apply-done P base payload page e .0) ∙ sym e
-    go (suc m) e = ap (λ (x : AppliedNumbers). x .number) (apply-not P base payload page m e .0) ∙ sym e
+unfolding applyNumbers
+apply-gives P base payload page = decided-number (λ (x : AppliedNumbers). x .number) _ _ (firstOf (applyRows P base payload page)) refl (λ k. refl)
 
 pub apply-exactly : (P : ℕ) (base payload page : List ℕ) → Exactly (applyRows P base payload page) (applyNumbers P base payload page .number)
 unfolding applyRows ordered

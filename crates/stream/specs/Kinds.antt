@@ -1,6 +1,6 @@
 -- What Compare decides, and that Apply gives back what it wrote: "same" iff the pages are equal, "patch" iff the stream takes 1 to 504
 -- bytes, "large" otherwise.
-use Prim.Native.Nat.{ℕ, zero, suc, _+_, _-_, _≤_, _<_}
+use Prim.Native.Nat.{ℕ, suc, _+_, _-_, _≤_, _<_}
 use native.Mathlib.Omega.{arith}
 use native.Mathlib.Decide.{decLt}
 use mathlib.Core.Path.{_≡_, refl, sym, ap, _∙_}
@@ -14,11 +14,11 @@ use Rattle.span.specs.Bytes.{part}
 use Rattle.span.specs.Laws.{part-splice}
 use Rattle.layout.specs.Sizes.{room}
 use Rattle.layout.specs.Numbers.{le}
-use Rattle.layout.specs.Refusals.{firstOf}
+use Rattle.layout.specs.Refusals.{firstOf, decided-number}
 use Rattle.stream.specs.Entries.{sound, entries, last}
 use Rattle.stream.specs.Differences.{Change, diffs, spelled, coded, written}
 use Rattle.stream.specs.Calls.{pageOf, pagesFit, kindFor, comparison, compareRows, compareNumbers, compareBuffer, ComparedNumbers, applyRows, applyNumbers, applyPage}
-use Rattle.stream.specs.Laws.{page-length, present-length, kind-none, kind-large, kind-patch, patch-fits, compare-number, compare-done, compare-not, compare-written, apply-number, apply-done}
+use Rattle.stream.specs.Laws.{page-length, present-length, kind-none, kind-large, kind-patch, patch-fits, compare-number, compare-done, compare-written, apply-number, apply-done}
 use Rattle.stream.specs.ReadBack.{Back, read-back}
 
 -- By the stream
@@ -109,12 +109,8 @@ kind-2 n = (
 module _ (P : ℕ) (base page buffer : List ℕ) where
   -- the number it gives is that of the first refusal
   pub compare-gives : compareNumbers P base page buffer .number ≡ firstOf (compareRows P base page buffer)
-  unfolding comparison
-  compare-gives = go (firstOf (compareRows P base page buffer)) refl
-    where
-      go : (k : ℕ) → firstOf (compareRows P base page buffer) ≡ k → compareNumbers P base page buffer .number ≡ firstOf (compareRows P base page buffer)
-      go zero e = ap (λ (x : ComparedNumbers). x .number) (compare-done P base page buffer e) ∙ sym e
-      go (suc m) e = ap (λ (x : ComparedNumbers). x .number) (compare-not P base page buffer m e .0) ∙ sym e
+  unfolding compareNumbers comparison
+  compare-gives = decided-number (λ (x : ComparedNumbers). x .number) _ _ (firstOf (compareRows P base page buffer)) refl (λ k. refl)
 
   module _ (h : compareNumbers P base page buffer .number ≡ 0) where
     accepted : firstOf (compareRows P base page buffer) ≡ 0

@@ -1,5 +1,5 @@
 -- The laws of Compare's and Apply's definitions: when the pages fit, what the refusals come to, and each call's outcome by its number.
-use Prim.Native.Nat.{ℕ, zero, suc, _<_, _≤_}
+use Prim.Native.Nat.{ℕ, suc, _<_, _≤_}
 use native.Mathlib.Omega.{arith}
 use mathlib.Core.Path.{_≡_, refl, sym, ap, _∙_, subst}
 use mathlib.Core.Bool.{Bool, true, false, not, cond, _&&_, _||_, and-true, and-false, or-true, false≢true}
@@ -14,12 +14,12 @@ use lib.Seq.{take-all}
 use Rattle.span.specs.Bytes.{zeros, splice, part}
 use Rattle.span.specs.Laws.{zeros-length}
 use Rattle.layout.specs.Sizes.{room}
-use Rattle.layout.specs.Refusals.{_⇐_, firstOf, orElse, ordered}
+use Rattle.layout.specs.Refusals.{_⇐_, firstOf, orElse, ordered, decided-done, decided-refused}
 use Rattle.stream.specs.Entries.{payloadStream, sound, entries, last, start, applied}
 use Rattle.stream.specs.Differences.{diffs, coded, written}
 use Rattle.stream.specs.Steps.{farthest, near, Differs}
 use Rattle.stream.specs.declared.Difference.{Difference}
-use Rattle.stream.specs.Calls.{pageOf, pagesFit, kindFor, compareRows, comparison, compareNumbers, compareBuffer, ComparedNumbers, applyRows, applyNumbers, applyPage, AppliedNumbers}
+use Rattle.stream.specs.Calls.{pageOf, pagesFit, kindFor, compareRows, comparison, compareNumbers, compareBuffer, ComparedNumbers, applyRows, applyNumbers, applyPage}
 
 -- Pages
 
@@ -87,27 +87,14 @@ module _ (P : ℕ) (base payload page : List ℕ) where
       → (applyNumbers P base payload page ≡ record { number = 0; entries = entries (payloadStream P payload); last = last start (payloadStream P payload) })
       × (applyPage P base payload page ≡ applied (pageOf P base) (payloadStream P payload))
   unfolding applyNumbers applyPage
-  apply-done e = (
-    ap
-        (λ (k : ℕ).
-        elim k as (λ _. AppliedNumbers) [
-          | zero ↦ record { number = 0; entries = entries (payloadStream P payload); last = last start (payloadStream P payload) }
-          | suc n ↦ record { number = suc n; entries = 0; last = pos 0 }
-        ]) e,
-    ap (λ (k : ℕ). elim k as (λ _. List ℕ) [ zero ↦ applied (pageOf P base) (payloadStream P payload) | suc n ↦ page ]) e,
-  )
+  apply-done e = (decided-done _ _ (firstOf (applyRows P base payload page)) e, decided-done _ _ (firstOf (applyRows P base payload page)) e)
 
   pub apply-not : (m : ℕ) → firstOf (applyRows P base payload page) ≡ suc m
       → (applyNumbers P base payload page ≡ record { number = suc m; entries = 0; last = pos 0 }) × (applyPage P base payload page ≡ page)
   unfolding applyNumbers applyPage
   apply-not m e = (
-    ap
-        (λ (k : ℕ).
-        elim k as (λ _. AppliedNumbers) [
-          | zero ↦ record { number = 0; entries = entries (payloadStream P payload); last = last start (payloadStream P payload) }
-          | suc n ↦ record { number = suc n; entries = 0; last = pos 0 }
-        ]) e,
-    ap (λ (k : ℕ). elim k as (λ _. List ℕ) [ zero ↦ applied (pageOf P base) (payloadStream P payload) | suc n ↦ page ]) e,
+    decided-refused _ _ (firstOf (applyRows P base payload page)) (suc m) e (λ q. omega arith),
+    decided-refused _ _ (firstOf (applyRows P base payload page)) (suc m) e (λ q. omega arith),
   )
 
 -- Kinds, by the stream's length
@@ -163,25 +150,14 @@ module _ (P : ℕ) (base page buffer : List ℕ) where
 
   pub compare-done : firstOf (compareRows P base page buffer) ≡ 0 → compareNumbers P base page buffer ≡ comparison (diffs 0 (pageOf P base) page)
   unfolding compareNumbers
-  compare-done e =
-      ap
-      (λ (k : ℕ).
-      elim k as (λ _. ComparedNumbers) [
-        | zero ↦ comparison (diffs 0 (pageOf P base) page)
-        | suc n ↦ record { number = suc n; kind = 0; length = 0; entries = 0; last = pos 0 }
-      ]) e
+  compare-done e = decided-done _ _ (firstOf (compareRows P base page buffer)) e
 
   pub compare-not : (m : ℕ) → firstOf (compareRows P base page buffer) ≡ suc m
       → (compareNumbers P base page buffer ≡ record { number = suc m; kind = 0; length = 0; entries = 0; last = pos 0 }) × (compareBuffer P base page buffer ≡ buffer)
   unfolding compareNumbers compareBuffer
   compare-not m e =
       let f : compareNumbers P base page buffer ≡ record { number = suc m; kind = 0; length = 0; entries = 0; last = pos 0 } =
-      ap
-      (λ (k : ℕ).
-      elim k as (λ _. ComparedNumbers) [
-        | zero ↦ comparison (diffs 0 (pageOf P base) page)
-        | suc n ↦ record { number = suc n; kind = 0; length = 0; entries = 0; last = pos 0 }
-      ]) e in
+      decided-refused _ _ (firstOf (compareRows P base page buffer)) (suc m) e (λ q. omega arith) in
       (f, ap (λ (x : ComparedNumbers). cond (eqb (x .kind) 1) (splice buffer 0 (coded 0 (diffs 0 (pageOf P base) page))) buffer) f)
 
   -- by the kind, where nothing is refused
