@@ -6,11 +6,9 @@ use native.Mathlib.Decide.{decLt}
 use mathlib.Core.Path.{_≡_, refl, sym, ap, _∙_, subst}
 use mathlib.Core.Bool.{true, false, true≢false, false≢true}
 use mathlib.Core.List.{List, [], _∷_, _++_}
-use lib.Dec.{ltb, T}
+use lib.Dec.{ltb}
 use lib.IntN.{ℤ, pos, negsuc, natAbs}
-use lib.Signed.{ltZ, nonNeg}
-use mir.Syntax.{w32, w64}
-use mir.Val.{Fits, SFits}
+use lib.Signed.{ltZ}
 use lib.ListN.{length, set, take, getD, length-append}
 use lib.Seq.{sets, take-suc, take-all, length-take-le}
 use borrow.Author.Tests.{lt-ltb, le-ltb, ne-eqb}
@@ -112,17 +110,6 @@ pub last-some : (r q : ℤ) → r ≡ q → ltZ r (pos 0) ≡ false → numberLi
 unfolding lastLine
 last-some r (pos a) e h = ap (λ (z : ℤ). numberLine lastWord (natAbs z)) e
 last-some r (negsuc k) e h = absurd (true≢false (sym (ap (λ (z : ℤ). ltZ z (pos 0)) e) ∙ h))
-
-pub not-below : (r : ℤ) → ltZ r (pos 0) ≡ false → T (nonNeg r)
-not-below (pos a) h = tt
-not-below (negsuc k) h = absurd (true≢false h)
-
-pub read-fits : (r q : ℤ) → r ≡ q → SFits w32 q → ltZ r (pos 0) ≡ false → Fits w64 (natAbs r)
-read-fits r (pos a) e f h =
-    let n : natAbs r ≡ a = ap natAbs e in
-    let b : a < 2 ^ 31 = f .sfits in
-    record { fits = omega arith }
-read-fits r (negsuc k) e f h = absurd (true≢false (sym (ap (λ (z : ℤ). ltZ z (pos 0)) e) ∙ h))
 
 -- The whole text
 

@@ -1,2 +1,3 @@
 pub mod Info
+pub mod Signed
 pub mod Text

@@ -1,10 +1,17 @@
 -- Bytes in a list: a run of zeros, a part, a part laid over, and whether two lists are the same.
 -- All but `same` are shut: proofs go by the laws of `Laws.antt`.
-use Prim.Native.Nat.{ℕ, _+_}
+use Prim.Native.Nat.{ℕ, _+_, _*_}
 use mathlib.Core.Bool.{Bool, true, false, _&&_}
 use mathlib.Core.List.{List, [], _∷_, _++_}
 use lib.Dec.{eqb}
 use lib.ListN.{length, take, drop, replicate}
+
+-- how many bytes the code moves, and in how many places it counts differences, at one go
+abbrev pub bulk : ℕ
+bulk = 4 * 1024
+
+abbrev pub chunk : ℕ
+chunk = 64
 
 -- n zero bytes
 unfoldable pub zeros : ℕ → List ℕ

@@ -5,7 +5,7 @@ ghost use mathlib.Core.Path.{_≡_};
 ghost use mathlib.Core.Bool.{false};
 ghost use Prim.Native.Nat.{_+_, _≤_, min};
 ghost use lib.ListN.{length, set, take};
-ghost use Rattle.span.specs.Bytes.{zeros, splice, part as partOf, same as sameBytes};
+ghost use Rattle.span.specs.Bytes.{bulk, chunk, zeros, splice, part as partOf, same as sameBytes};
 ghost use Rattle.span.specs.Differ.{nextDiff, diffsIn, Same, Skipped, Lasts, Clusters};
 
 // Differences that stand close together: how many they are, and the place after the last of them.
@@ -64,7 +64,7 @@ fn copy_bytes(dst: &mut [u8], src: &[u8])
 // The same by way of a local array. It is no copy more: the compiler joins the two into one move of the whole, since nothing can
 // overlap a local, and does not do so for two slices that might.
 fn copy_bulk(dst: &mut [u8], src: &[u8])
-    requires { ⌜ (length (now dst) ≡ 4096) × (length (now src) ≡ 4096) ⌝ }
+    requires { ⌜ (length (now dst) ≡ bulk) × (length (now src) ≡ bulk) ⌝ }
     ensures { λ _. ⌜ now (dst .exit) ≡ now (src .entry) ⌝ }
 {
     let mut moved = [0u8; BULK];
@@ -168,8 +168,8 @@ pub fn next_diff(a: &[u8], b: &[u8], from: usize) -> usize
 
 // How many of the next chunk's places differ. The count is a byte, so that sixteen are added at one go.
 fn count_chunk(a: &[u8], b: &[u8], at: usize) -> u8
-    requires { ⌜ (at + 64 ≤ length (now a)) × (at + 64 ≤ length (now b)) ⌝ }
-    ensures { λ r. ⌜ r ≡ diffsIn (now (a .entry)) (now (b .entry)) at 64 ⌝ }
+    requires { ⌜ (at + chunk ≤ length (now a)) × (at + chunk ≤ length (now b)) ⌝ }
+    ensures { λ r. ⌜ r ≡ diffsIn (now (a .entry)) (now (b .entry)) at chunk ⌝ }
 {
     let mut count: u8 = 0;
     let mut i = 0;

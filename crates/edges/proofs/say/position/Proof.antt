@@ -1,4 +1,4 @@
-use Rattle.edges.proofs.Signed.{not-below, read-fits}
+use Rattle.info.specs.Signed.{not-below, read-fits}
 use mir.ValLaws.{toZ-ofZ}
 use mir.Val.{toZ, ofZ}
 use mir.Syntax.{w32}

@@ -1,4 +1,5 @@
-use Rattle.info.proofs.Words.{last-none, last-some, not-below, read-fits}
+use Rattle.info.specs.Signed.{not-below, read-fits}
+use Rattle.info.proofs.Words.{last-none, last-some}
 use mir.ValLaws.{toZ-ofZ}
 use mir.Val.{toZ, ofZ}
 use mir.Syntax.{w32}

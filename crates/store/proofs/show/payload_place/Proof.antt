@@ -3,6 +3,8 @@ use Rattle.store.specs.declared.Place.{Place}
 use Rattle.store.specs.Frame.{slotOf}
 use Rattle.store.specs.Show.{showPlace, show-length, show-header, show-block, show-slot, show-done}
 use Rattle.layout.specs.Slots.{isPatch, payloadLength, length-none, length-some}
+use Rattle.layout.specs.Refusals.{firstOf}
+use Rattle.layout.specs.Headers.{patchHeadRows}
 use Rattle.layout.specs.Areas.{blocksIn, patchFits, patch-fits-is}
 use Rattle.layout.specs.Numbers.{faultNumber, refusalNumber, refusal-some}
 use Rattle.layout.specs.Sizes.{pageSize, slotSize, slotAt, payloadAt, blocksAtMost}
@@ -68,20 +70,30 @@ part-requires c κs = search needs
 payload-length-requires : tie.Need-payload-length-requires
 payload-length-requires c κs = search needs
 
-returns-3 : tie.Need-returns-3
+-- what is known once the slot's payload length is told
+judged : (c : tie.After-payload-length)
+    → let a = c .before .before .before .before .before .before .before .before .before .before .before .args in
+    let s : List ℕ = slotOf (a .patch .now) (a .block) in
+    (patchFits pageSize (length (a .patch .now)) ≡ true)
+    × (firstOf (patchHeadRows pageSize (a .patch .now)) ≡ 0)
+    × (a .block < blocksIn (length (a .patch .now)))
+    × (c .payload-length .result ≡ cond (isPatch s) (payloadLength s) 0)
 unfolding slotOf
+judged c =
+    let a = c .before .before .before .before .before .before .before .before .before .before .before .args in
+    let f = c .before .before .before .before .before .before .before .before .before .patch-fits in
+    let same-slot : c .before .part .result .now ≡ slotOf (a .patch .now) (a .block) = c .before .part .ensures ∙ ap (λ (k : ℕ). part k slotSize (a .patch .now)) (c .before .before .slot-at .ensures) in (
+      on (f .result) (f .ensures) (c .before .before .before .before .before .before .before .before .if1 .left),
+      sym (c .before .before .before .before .before .before .before .patch-fault .ensures) ∙ ap faultNumber (c .before .before .before .before .before .enum-told2 .given .1),
+      omega (arith, c .before .before .before .before .blocks2 .ensures, c .before .before .before .if2 .left),
+      c .payload-length .ensures ∙ ap (λ (l : List ℕ). cond (isPatch l) (payloadLength l) 0) same-slot,
+    )
+
+returns-3 : tie.Need-returns-3
 returns-3 c =
     let a = c .before .before .before .before .before .before .before .before .before .before .before .before .args in
-    let p : List ℕ = a .patch .now in
-    let f = c .before .before .before .before .before .before .before .before .before .before .patch-fits in
-    let fit : patchFits pageSize (length p) ≡ true = on (f .result) (f .ensures) (c .before .before .before .before .before .before .before .before .before .if1 .left) in
-    let none = sym (c .before .before .before .before .before .before .before .before .patch-fault .ensures) ∙ ap faultNumber (c .before .before .before .before .before .before .enum-told2 .given .1) in
-    let below : a .block < blocksIn (length p) = omega (arith, c .before .before .before .before .before .blocks2 .ensures, c .before .before .before .before .if2 .left) in
-    let s : List ℕ = slotOf p (a .block) in
-    let n = c .before .payload-length in
-    let same-slot : c .before .before .part .result .now ≡ s = c .before .before .part .ensures ∙ ap (λ (k : ℕ). part k slotSize p) (c .before .before .before .slot-at .ensures) in
-    let is : n .result ≡ cond (isPatch s) (payloadLength s) 0 = n .ensures ∙ ap (λ (l : List ℕ). cond (isPatch l) (payloadLength l) 0) same-slot in
-    show-slot pageSize p (a .block) fit none below (length-none s (sym is ∙ c .if3 .taken))
+    let j = judged (c .before) in
+    show-slot pageSize (a .patch .now) (a .block) (j .0) (j .1) (j .2) (length-none (slotOf (a .patch .now) (a .block)) (sym (j .3) ∙ c .if3 .taken))
 
 add-t10 : tie.Need-add-t10
 add-t10 c = search needs
@@ -96,20 +108,13 @@ returns-4 c =
     show-header pageSize p (a .block) (refusalNumber r) fit (sym (c .before .before .patch-fault .ensures) ∙ ap faultNumber (c .enum-told .given .1)) (refusal-some r)
 
 returns-5 : tie.Need-returns-5
-unfolding slotOf
 returns-5 c =
     let a = c .before .before .before .before .before .before .before .before .before .before .before .before .args in
-    let p : List ℕ = a .patch .now in
-    let f = c .before .before .before .before .before .before .before .before .before .before .patch-fits in
-    let fit : patchFits pageSize (length p) ≡ true = on (f .result) (f .ensures) (c .before .before .before .before .before .before .before .before .before .if1 .left) in
-    let none = sym (c .before .before .before .before .before .before .before .before .patch-fault .ensures) ∙ ap faultNumber (c .before .before .before .before .before .before .enum-told2 .given .1) in
-    let below : a .block < blocksIn (length p) = omega (arith, c .before .before .before .before .before .blocks2 .ensures, c .before .before .before .before .if2 .left) in
-    let s : List ℕ = slotOf p (a .block) in
-    let n = c .before .payload-length in
-    let same-slot : c .before .before .part .result .now ≡ s = c .before .before .part .ensures ∙ ap (λ (k : ℕ). part k slotSize p) (c .before .before .before .slot-at .ensures) in
-    let is : n .result ≡ cond (isPatch s) (payloadLength s) 0 = n .ensures ∙ ap (λ (l : List ℕ). cond (isPatch l) (payloadLength l) 0) same-slot in
-    let t : (isPatch s ≡ true) × (payloadLength s ≡ n .result) = length-some s (n .result) (c .if3 .left) (sym is) in
-    let e : record { at = slotAt (a .block) + payloadAt; len = payloadLength s } ≡ showPlace pageSize p (a .block) = show-done pageSize p (a .block) fit none below (t .0) in
+    let j = judged (c .before) in
+    let s : List ℕ = slotOf (a .patch .now) (a .block) in
+    let n : ℕ = c .before .payload-length .result in
+    let t : (isPatch s ≡ true) × (payloadLength s ≡ n) = length-some s n (c .if3 .left) (sym (j .3)) in
+    let e : record { at = slotAt (a .block) + payloadAt; len = payloadLength s } ≡ showPlace pageSize (a .patch .now) (a .block) = show-done pageSize (a .patch .now) (a .block) (j .0) (j .1) (j .2) (t .0) in
     rw (← e) (placed (c .before .before .before .slot-at .ensures) (sym (t .1)))
 
 pub payload-place-spec : {M : Type 1} → statement M
