@@ -8,7 +8,8 @@ use lib.ListN.{length}
 use borrow.Author.Tests.{eq-eqb, ne-eqb, le-leb, lt-leb, lt-ltb, le-ltb}
 use Rattle.layout.specs.Sizes.{blocksAtMost}
 use Rattle.layout.specs.Numbers.{refusalNumber, refusal-one, refusal-some}
-use Rattle.layout.specs.Refusals.{firstOf, decided, ordered, first-hit, first-skip, first-done}
+use Rattle.layout.specs.Refusals.{firstOf, decided, first-hit, first-skip, first-done}
+use Rattle.layout.specs.Groups.{ordered}
 use Rattle.layout.specs.declared.Refusal.{Refusal}
 use Rattle.layout.specs.declared.Refusal.the-variants.{Length, Buffer, Block, Pair}
 use Rattle.blockmap.specs.Pairs.{mapBytes, pairAt, pairs, patchPair, fullPair, reservedPair, badPairs}

@@ -6,7 +6,9 @@ use lib.Dec.{eqb, leb, ltb}
 use lib.ListN.{length}
 use Rattle.layout.specs.Sizes.{blocksAtMost}
 use Rattle.layout.specs.Numbers.{refusalNumber}
-use Rattle.layout.specs.Refusals.{Row, _⇐_, firstOf, decided, ordered}
+use Rattle.layout.specs.Refusals.{Row, _⇐_, firstOf, decided}
+use Rattle.layout.specs.Groups.{ordered, _▸_}
+use Rattle.layout.specs.Groups as group
 use Rattle.blockmap.specs.Pairs.{mapBytes, pairAt, pairs, patchPair, fullPair, reservedPair, badPairs}
 use Rattle.blockmap.specs.declared.Looked.{Looked}
 use Rattle.blockmap.specs.declared.Looked.the-variants.{Done as LookedDone, Refused as LookedRefused}
@@ -17,18 +19,7 @@ use Rattle.blockmap.specs.declared.Tallied.the-variants.{Done as Tallied
 unfoldable pub mapRows : ℕ → List ℕ → ℕ → List Row → List Row → List Row
 mapRows P map n block pair =
     ordered
-    (record {
-      pages = [];
-      lengths = (2 ⇐ ltb (blocksAtMost P) n) ∷ [];
-      buffers = (9 ⇐ ltb (length map) (mapBytes n)) ∷ [];
-      headers = [];
-      block = block;
-      slot = [];
-      full = [];
-      payload = [];
-      place = [];
-      pair = pair;
-    })
+    ((group.lengths ▸ (2 ⇐ ltb (blocksAtMost P) n) ∷ []) ∷ (group.buffers ▸ (9 ⇐ ltb (length map) (mapBytes n)) ∷ []) ∷ (group.block ▸ block) ∷ (group.pair ▸ pair) ∷ [])
 
 -- Look up
 

@@ -11,7 +11,9 @@ use borrow.Author.Tests.{eq-eqb, ne-eqb}
 use Rattle.span.specs.Bytes.{part}
 use Rattle.layout.specs.Sizes.{slotSize, payloadAt}
 use Rattle.layout.specs.Numbers.{kindNumber, refusalNumber, kind-one, refusal-one, refusal-some}
-use Rattle.layout.specs.Refusals.{Row, _⇐_, firstOf, orElse, decided, ordered, decided-done, decided-refused, Exactly, exactly, decided-number, no-row, row}
+use Rattle.layout.specs.Refusals.{Row, _⇐_, firstOf, orElse, decided, decided-done, decided-refused, Exactly, exactly, decided-number, no-row, row}
+use Rattle.layout.specs.Groups.{ordered, _▸_}
+use Rattle.layout.specs.Groups as group
 use Rattle.layout.specs.Slots.{slotNumbers, soundSlot, unsoundSlot}
 use Rattle.stream.specs.Entries.{stream, start, payloadStream, sound, entries as entriesOf, last as lastOf}
 use Rattle.info.specs.declared.Info.{Info}
@@ -25,18 +27,7 @@ payloadIn slot = part payloadAt (slotNumbers slot .length) slot
 unfoldable pub infoRows : ℕ → List ℕ → List Row
 infoRows P bytes =
     ordered
-    (record {
-      pages = [];
-      lengths = (2 ⇐ not (eqb (lengthOf bytes) slotSize)) ∷ [];
-      buffers = [];
-      headers = [];
-      block = [];
-      slot = (6 ⇐ not (eqb (slotNumbers bytes .number) 0)) ∷ [];
-      full = [];
-      payload = (7 ⇐ eqb (slotNumbers bytes .kind) 1 && not (sound P (payloadIn bytes))) ∷ [];
-      place = [];
-      pair = [];
-    })
+    ((group.lengths ▸ (2 ⇐ not (eqb (lengthOf bytes) slotSize)) ∷ []) ∷ (group.slot ▸ (6 ⇐ not (eqb (slotNumbers bytes .number) 0)) ∷ []) ∷ (group.payload ▸ (7 ⇐ eqb (slotNumbers bytes .kind) 1 && not (sound P (payloadIn bytes))) ∷ []) ∷ [])
 
 pub record InfoNumbers : Type 0 where
   pub number : ℕ

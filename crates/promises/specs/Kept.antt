@@ -9,7 +9,8 @@ use lib.Dec.{eqb, leb, ltb}
 use lib.ListN.{length}
 use Rattle.span.specs.Bytes.{zeros, part, splice, same}
 use Rattle.span.specs.Laws.{part-none}
-use Rattle.layout.specs.Refusals.{_⇐_, firstOf, orElse, decided, ordered, decided-refused}
+use Rattle.layout.specs.Refusals.{_⇐_, firstOf, orElse, decided, decided-refused}
+use Rattle.layout.specs.Groups.{ordered}
 use Rattle.layout.specs.Slots.{slotNumbers, payloadOf}
 use Rattle.layout.specs.Areas.{blocksIn, pagesIn}
 use Rattle.stream.specs.Entries.{sound}

@@ -7,7 +7,9 @@ use lib.Dec.{eqb, ltb}
 use lib.ListN.{length}
 use Rattle.span.specs.Bytes.{zeros, same, splice}
 use Rattle.layout.specs.Numbers.{refusalNumber}
-use Rattle.layout.specs.Refusals.{Row, _⇐_, firstOf, decided, ordered}
+use Rattle.layout.specs.Refusals.{Row, _⇐_, firstOf, decided}
+use Rattle.layout.specs.Groups.{ordered, _▸_}
+use Rattle.layout.specs.Groups as group
 use Rattle.layout.specs.Headers.{headerRows}
 use Rattle.layout.specs.Areas.{blocksIn, pagesIn, lengthRows}
 use Rattle.layout.specs.Slots.{slotNumbers}
@@ -27,18 +29,7 @@ abbrev pub faultRows : ℕ → List ℕ → List ℕ → ℕ → List Row
 faultRows P patch full b =
     let s = slotOf patch b in
     ordered
-    (record {
-      pages = [];
-      lengths = [];
-      buffers = [];
-      headers = [];
-      block = [];
-      slot = slotRows s;
-      full = fullRows P s full b;
-      payload = payloadRows P s;
-      place = placeRows P s full b;
-      pair = [];
-    })
+    ((group.slot ▸ slotRows s) ∷ (group.full ▸ fullRows P s full b) ∷ (group.payload ▸ payloadRows P s) ∷ (group.place ▸ placeRows P s full b) ∷ [])
 
 unfoldable pub blockFault : ℕ → List ℕ → List ℕ → ℕ → ℕ
 blockFault P patch full b = firstOf (faultRows P patch full b)
@@ -57,18 +48,7 @@ firstFault P patch full b (suc k) =
 unfoldable pub buildRows : ℕ → List ℕ → List ℕ → List ℕ → List Row
 buildRows P patch full map =
     ordered
-    (record {
-      pages = [];
-      lengths = lengthRows P (length patch) (length full);
-      buffers = (9 ⇐ ltb (length map) (mapBytes (blocksIn (length patch)))) ∷ [];
-      headers = headerRows P patch full;
-      block = [];
-      slot = [];
-      full = [];
-      payload = [];
-      place = [];
-      pair = [];
-    })
+    ((group.lengths ▸ lengthRows P (length patch) (length full)) ∷ (group.buffers ▸ (9 ⇐ ltb (length map) (mapBytes (blocksIn (length patch)))) ∷ []) ∷ (group.headers ▸ headerRows P patch full) ∷ [])
 
 -- the map of a store: each block's pair is its slot's kind
 unfoldable pub builtMap : List ℕ → List ℕ

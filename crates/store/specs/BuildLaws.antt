@@ -12,7 +12,8 @@ use borrow.Author.Tests.{lt-ltb, le-ltb, le-leb, lt-leb, eq-eqb, ne-eqb, eqb-tru
 use Rattle.span.specs.Bytes.{zeros, part, same, splice}
 use Rattle.span.specs.Laws.{same-true, part-at, splice-more, splice-in, splice-after, splice-length}
 use Rattle.layout.specs.Sizes.{slotSize, slotAt}
-use Rattle.layout.specs.Refusals.{Row, _⇐_, firstOf, orElse, decided, ordered, decided-done, decided-refused, or-none, row-off}
+use Rattle.layout.specs.Refusals.{Row, _⇐_, firstOf, orElse, decided, decided-done, decided-refused, or-none, row-off}
+use Rattle.layout.specs.Groups.{in-halves, ordered}
 use Rattle.layout.specs.Headers.{headerRows}
 use Rattle.layout.specs.Areas.{blocksIn, pagesIn}
 use Rattle.layout.specs.Slots.{SlotNumbers, slotNumbers, soundSlot, unsoundSlot, emptySlot, fullSlot, payloadOf, payloadLength, isPatch, plainNumbers, slot-short, slot-patch, slot-other}
@@ -21,7 +22,7 @@ use Rattle.blockmap.specs.Pairs.{mapBytes, pairAt, pairs, patchPair, fullPair, 
 use Rattle.blockmap.specs.Meaning.{upTo, keep, keep-same, up-to-below, blocksWith, pairs-count, BadPair, bad-iff}
 use Rattle.blockmap.specs.Pack.{pairOf, packedByte, packedFirst, packed}
 use Rattle.blockmap.specs.PackLaws.{pair-of-below, packed-length, packed-used, packed-unused, packed-more, packed-first-length, packed-same}
-use Rattle.store.specs.Frame.{slotOf, placeOf, frameRows, ordered-frame, lengthsFit, frame-is, frame-sound}
+use Rattle.store.specs.Frame.{slotOf, placeOf, frameRows, lengthsFit, frame-is, frame-sound}
 use Rattle.store.specs.Read.{slotRows, fullRows, payloadRows}
 use Rattle.store.specs.Build.{placeRows, blockFault, BlockFault, firstFault, buildRows, builtMap, BuildOutcome, buildOutcome, BuildNumbers}
 
@@ -234,7 +235,7 @@ module _ (P : ℕ) (patch full map : List ℕ) where
       → firstOf (buildRows P patch full map) ≡ firstOf (frameRows P ((1 ⇐ false) ∷ []) ((9 ⇐ not fits) ∷ []) patch full)
   unfolding buildRows firstOf orElse frameRows
   build-frame fits e =
-      ordered-frame P patch full _ refl refl
+      in-halves _
       ∙ orElse-zero (firstOf (frameRows P [] ((9 ⇐ ltb (length map) (mapBytes (blocksIn (length patch)))) ∷ []) patch full))
       ∙ ap (λ (t : Bool). firstOf (frameRows P [] ((9 ⇐ t) ∷ []) patch full)) e
 

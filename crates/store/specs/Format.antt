@@ -5,11 +5,13 @@ use native.Mathlib.Omega.{arith}
 use mathlib.Core.Path.{_≡_, refl, _∙_}
 use mathlib.Core.Bool.{Bool, true, false, not, cond}
 use mathlib.Core.Logic.{_⊎_, inl, inr}
-use mathlib.Core.List.{List, []}
+use mathlib.Core.List.{List, [], _∷_}
 use lib.ListN.{length, take}
 use lib.Seq.{take-all}
 use Rattle.layout.specs.Numbers.{refusalNumber}
-use Rattle.layout.specs.Refusals.{Row, firstOf, orElse, decided, ordered, decided-done, decided-refused}
+use Rattle.layout.specs.Refusals.{Row, firstOf, orElse, decided, decided-done, decided-refused}
+use Rattle.layout.specs.Groups.{ordered, _▸_}
+use Rattle.layout.specs.Groups as group
 use Rattle.layout.specs.Areas.{blocksIn, pagesIn, patchFits, fullFits, lengthRows, freshPatch, freshFull, patch-fits-is, full-fits-is, fresh-patch-length, fresh-full-length}
 use Rattle.layout.specs.Sizes.{fullHead, slotAt, pageAt}
 use Rattle.span.specs.Laws.{and-left, and-right}
@@ -26,18 +28,7 @@ pub record FormatOutcome : Type 0 where
 unfoldable pub formatRows : ℕ → List ℕ → List ℕ → List Row
 formatRows P patch full =
     ordered
-    (record {
-      pages = [];
-      lengths = lengthRows P (length patch) (length full);
-      buffers = [];
-      headers = [];
-      block = [];
-      slot = [];
-      full = [];
-      payload = [];
-      place = [];
-      pair = [];
-    })
+    ((group.lengths ▸ lengthRows P (length patch) (length full)) ∷ [])
 
 unfoldable pub formatOutcome : ℕ → List ℕ → List ℕ → FormatOutcome
 formatOutcome P patch full =

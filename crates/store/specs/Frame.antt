@@ -14,7 +14,9 @@ use Rattle.stream.specs.Laws.{page-length, base-length}
 use lib.ListN.{length}
 use Rattle.span.specs.Bytes.{part}
 use Rattle.layout.specs.Sizes.{fullHead, slotSize, slotAt, pageAt}
-use Rattle.layout.specs.Refusals.{Row, _⇐_, firstOf, orElse, Groups, ordered, first-append}
+use Rattle.layout.specs.Refusals.{Row, _⇐_, firstOf, orElse, first-append}
+use Rattle.layout.specs.Groups.{opening, inOrder, _▸_}
+use Rattle.layout.specs.Groups as group
 use Rattle.layout.specs.Headers.{headerRows}
 use Rattle.layout.specs.Areas.{blocksIn, pagesIn, patchFits, fullFits, lengthRows, full-fits-is}
 
@@ -31,26 +33,10 @@ blockRows patch b = (5 ⇐ leb (blocksIn (length patch)) b) ∷ []
 
 -- 1, 2, 9 and headers: what is decided before any block is looked at
 unfoldable pub frameRows : ℕ → List Row → List Row → List ℕ → List ℕ → List Row
-frameRows P pages buffers patch full = pages ++ (lengthRows P (length patch) (length full) ++ (buffers ++ headerRows P patch full))
-
--- the order, cut after the headers
-pub ordered-frame : (P : ℕ) (patch full : List ℕ) (g : Groups)
-    → g .lengths ≡ lengthRows P (length patch) (length full)
-    → g .headers ≡ headerRows P patch full
-    → firstOf (ordered g)
-    ≡ orElse (firstOf (frameRows P (g .pages) (g .buffers) patch full)) (firstOf (g .block ++ (g .slot ++ (g .full ++ (g .payload ++ (g .place ++ g .pair))))))
-unfolding ordered frameRows
-ordered-frame P patch full g e f =
-    let rest : List Row = g .block ++ (g .slot ++ (g .full ++ (g .payload ++ (g .place ++ g .pair)))) in
-    ap firstOf
-    (sym
-    (append-assoc (g .pages) (g .lengths ++ (g .buffers ++ g .headers)) rest
-    ∙ ap (λ (l : List Row). g .pages ++ l)
-    (append-assoc (g .lengths) (g .buffers ++ g .headers) rest
-    ∙ ap (λ (l : List Row). g .lengths ++ l) (append-assoc (g .buffers) (g .headers) rest))))
-    ∙ first-append (g .pages ++ (g .lengths ++ (g .buffers ++ g .headers))) rest
-    ∙ ap (λ (l : List Row). orElse (firstOf (g .pages ++ (l ++ (g .buffers ++ g .headers)))) (firstOf rest)) e
-    ∙ ap (λ (l : List Row). orElse (firstOf (g .pages ++ (lengthRows P (length patch) (length full) ++ (g .buffers ++ l)))) (firstOf rest)) f
+frameRows P pages buffers patch full =
+    inOrder opening
+    ((group.pages ▸ pages) ∷ (group.lengths ▸ lengthRows P (length patch) (length full)) ∷ (group.buffers ▸ buffers)
+    ∷ (group.headers ▸ headerRows P patch full) ∷ [])
 
 -- Laws
 

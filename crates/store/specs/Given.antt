@@ -10,7 +10,8 @@ use borrow.Author.Tests.{leb-true, leb-false, not-false}
 use Rattle.span.specs.Bytes.{part}
 use Rattle.span.specs.Laws.{part-length, and-left, and-right}
 use Rattle.layout.specs.Sizes.{slotSize, payloadAt, room, slotAt}
-use Rattle.layout.specs.Refusals.{Row, firstOf, orElse, decided-done, ordered, NoneHolds, first-done, first-append, Exactly, exactly, decided-number, decided-or, Numbered, no-row, row, both}
+use Rattle.layout.specs.Refusals.{Row, firstOf, orElse, decided-done, NoneHolds, first-done, first-append, Exactly, exactly, decided-number, decided-or, Numbered, no-row, row, both}
+use Rattle.layout.specs.Groups.{ordered}
 use Rattle.layout.specs.Headers.{headRows, patchHeadRows, headers-numbered}
 use Rattle.layout.specs.Areas.{blocksIn, patchFits, lengthRows, slot-within}
 use Rattle.layout.specs.Slots.{isPatch, payloadLength}

@@ -9,7 +9,9 @@ use lib.ListN.{length}
 use borrow.Author.Tests.{eq-eqb, ne-eqb}
 use Rattle.layout.specs.Sizes.{slotSize}
 use Rattle.layout.specs.Numbers.{kindNumber, refusalNumber}
-use Rattle.layout.specs.Refusals.{Row, _⇐_, firstOf, orElse, decided, ordered, decided-done, decided-refused}
+use Rattle.layout.specs.Refusals.{Row, _⇐_, firstOf, orElse, decided, decided-done, decided-refused}
+use Rattle.layout.specs.Groups.{ordered, _▸_}
+use Rattle.layout.specs.Groups as group
 use Rattle.layout.specs.Slots.{SlotNumbers, slotNumbers, soundSlot, unsoundSlot}
 use Rattle.store.specs.declared.Judged.{Judged}
 use Rattle.store.specs.declared.Judged.the-variants.{Done, Refused}
@@ -17,18 +19,7 @@ use Rattle.store.specs.declared.Judged.the-variants.{Done, Refused}
 unfoldable pub judgeRows : List ℕ → List Row
 judgeRows slot =
     ordered
-    (record {
-      pages = [];
-      lengths = (2 ⇐ not (eqb (length slot) slotSize)) ∷ [];
-      buffers = [];
-      headers = [];
-      block = [];
-      slot = (6 ⇐ not (eqb (slotNumbers slot .number) 0)) ∷ [];
-      full = [];
-      payload = [];
-      place = [];
-      pair = [];
-    })
+    ((group.lengths ▸ (2 ⇐ not (eqb (length slot) slotSize)) ∷ []) ∷ (group.slot ▸ (6 ⇐ not (eqb (slotNumbers slot .number) 0)) ∷ []) ∷ [])
 
 pub record JudgedNumbers : Type 0 where
   pub number : ℕ

@@ -9,13 +9,15 @@ use lib.ListN.{length}
 use borrow.Author.Tests.{le-leb, lt-leb}
 use Rattle.span.specs.Bytes.{zeros}
 use Rattle.layout.specs.Numbers.{kindNumber, refusalNumber}
-use Rattle.layout.specs.Refusals.{Row, _⇐_, firstOf, orElse, decided, ordered, first-hit, first-skip, or-skip, or-some, decided-done, decided-refused}
+use Rattle.layout.specs.Refusals.{Row, _⇐_, firstOf, orElse, decided, first-hit, first-skip, or-skip, or-some, decided-done, decided-refused}
+use Rattle.layout.specs.Groups.{in-halves, ordered, _▸_}
+use Rattle.layout.specs.Groups as group
 use Rattle.layout.specs.Headers.{headerRows}
 use Rattle.layout.specs.Areas.{blocksIn, pagesIn, lengthRows}
 use Rattle.layout.specs.Slots.{slotNumbers, soundSlot, unsoundSlot, payloadOf}
 use Rattle.stream.specs.Entries.{payloadStream, sound, applied}
 use Rattle.stream.specs.Calls.{pageOf, pageRows}
-use Rattle.store.specs.Frame.{slotOf, placeOf, blockRows, frameRows, ordered-frame}
+use Rattle.store.specs.Frame.{slotOf, placeOf, blockRows, frameRows}
 use Rattle.store.specs.declared.Reading.{Reading}
 use Rattle.store.specs.declared.Reading.the-variants.{Done, Refused}
 
@@ -32,18 +34,7 @@ payloadRows P s = (7 ⇐ eqb (slotNumbers s .kind) 1 && not (sound P (payloadOf 
 unfoldable pub readRows : ℕ → List ℕ → List ℕ → ℕ → List ℕ → List ℕ → List Row
 readRows P patch full b base page =
     ordered
-    (record {
-      pages = pageRows P base page;
-      lengths = lengthRows P (length patch) (length full);
-      buffers = [];
-      headers = headerRows P patch full;
-      block = blockRows patch b;
-      slot = slotRows (slotOf patch b);
-      full = fullRows P (slotOf patch b) full b;
-      payload = payloadRows P (slotOf patch b);
-      place = [];
-      pair = [];
-    })
+    ((group.pages ▸ pageRows P base page) ∷ (group.lengths ▸ lengthRows P (length patch) (length full)) ∷ (group.headers ▸ headerRows P patch full) ∷ (group.block ▸ blockRows patch b) ∷ (group.slot ▸ slotRows (slotOf patch b)) ∷ (group.full ▸ fullRows P (slotOf patch b) full b) ∷ (group.payload ▸ payloadRows P (slotOf patch b)) ∷ [])
 
 -- what a block holds, by its slot's kind
 unfoldable pub contents : ℕ → List ℕ → List ℕ → ℕ → List ℕ → List ℕ
@@ -101,8 +92,8 @@ module _ (P : ℕ) (patch full : List ℕ) (b : ℕ) (base page : List ℕ) wher
   read-rows : firstOf (readRows P patch full b base page)
       ≡ orElse (firstOf (frameRows P (pageRows P base page) [] patch full))
       (firstOf (blockRows patch b ++ (slotRows (slotOf patch b) ++ (fullRows P (slotOf patch b) full b ++ (payloadRows P (slotOf patch b) ++ ([] ++ []))))))
-  unfolding readRows
-  read-rows = ordered-frame P patch full _ refl refl
+  unfolding readRows frameRows
+  read-rows = in-halves _
 
   -- the frame's refusal is the call's
   pub read-frame : (k : ℕ) → firstOf (frameRows P (pageRows P base page) [] patch full) ≡ k → (k ≡ 0 → ⊥) → readOutcome P patch full b base page ≡ record { number = k; kind = 0; page = page }

@@ -9,7 +9,9 @@ use borrow.Author.Tests.{le-leb, lt-leb}
 use lib.ListN.{length}
 use Rattle.span.specs.Bytes.{part}
 use Rattle.layout.specs.Sizes.{payloadAt, slotAt}
-use Rattle.layout.specs.Refusals.{Row, _⇐_, firstOf, orElse, decided, ordered, first-append, or-some, decided-done, decided-refused}
+use Rattle.layout.specs.Refusals.{Row, _⇐_, firstOf, orElse, decided, first-append, or-some, decided-done, decided-refused}
+use Rattle.layout.specs.Groups.{ordered, _▸_}
+use Rattle.layout.specs.Groups as group
 use Rattle.layout.specs.Headers.{patchHeadRows}
 use Rattle.layout.specs.Areas.{blocksIn, patchFits}
 use Rattle.layout.specs.Slots.{isPatch, payloadLength}
@@ -20,18 +22,7 @@ use Rattle.store.specs.declared.Place.{Place}
 unfoldable pub showRows : ℕ → List ℕ → ℕ → List Row
 showRows P patch b =
     ordered
-    (record {
-      pages = [];
-      lengths = (2 ⇐ not (patchFits P (length patch))) ∷ [];
-      buffers = [];
-      headers = patchHeadRows P patch;
-      block = (5 ⇐ leb (blocksIn (length patch)) b) ∷ [];
-      slot = (6 ⇐ not (isPatch (slotOf patch b))) ∷ [];
-      full = [];
-      payload = [];
-      place = [];
-      pair = [];
-    })
+    ((group.lengths ▸ (2 ⇐ not (patchFits P (length patch))) ∷ []) ∷ (group.headers ▸ patchHeadRows P patch) ∷ (group.block ▸ (5 ⇐ leb (blocksIn (length patch)) b) ∷ []) ∷ (group.slot ▸ (6 ⇐ not (isPatch (slotOf patch b))) ∷ []) ∷ [])
 
 -- where the part begins and how long it is; an empty one where anything would be refused
 unfoldable pub showPlace : ℕ → List ℕ → ℕ → Place

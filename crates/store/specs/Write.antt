@@ -12,13 +12,15 @@ use Rattle.span.specs.Laws.{mid-length, put-splice, put-copied, put-filled}
 use Rattle.span.specs.Bytes.{zeros, splice}
 use Rattle.layout.specs.Sizes.{slotSize, room, slotAt, pageAt}
 use Rattle.layout.specs.Numbers.{kindNumber, refusalNumber}
-use Rattle.layout.specs.Refusals.{Row, _⇐_, firstOf, orElse, decided, ordered, first-hit, first-skip, or-skip, or-some, decided-done, decided-refused}
+use Rattle.layout.specs.Refusals.{Row, _⇐_, firstOf, orElse, decided, first-hit, first-skip, or-skip, or-some, decided-done, decided-refused}
+use Rattle.layout.specs.Groups.{in-halves, ordered, _▸_}
+use Rattle.layout.specs.Groups as group
 use Rattle.layout.specs.Headers.{headerRows}
 use Rattle.layout.specs.Areas.{blocksIn, pagesIn, lengthRows}
 use Rattle.layout.specs.Slots.{emptySlot, patchSlot, fullSlot, slotImage, slot-image-length}
 use Rattle.stream.specs.Differences.{written}
 use Rattle.stream.specs.Calls.{pageOf, pageRows, kindFor}
-use Rattle.store.specs.Frame.{blockRows, frameRows, ordered-frame}
+use Rattle.store.specs.Frame.{blockRows, frameRows}
 use Rattle.store.specs.declared.Written.{Written}
 use Rattle.store.specs.declared.Written.the-variants.{Done, Refused}
 
@@ -40,18 +42,7 @@ decidedKind P base page = kindFor (length (decidedStream P base page))
 unfoldable pub writeRows : ℕ → List ℕ → List ℕ → ℕ → List ℕ → List ℕ → List Row
 writeRows P patch full b base page =
     ordered
-    (record {
-      pages = pageRows P base page;
-      lengths = lengthRows P (length patch) (length full);
-      buffers = [];
-      headers = headerRows P patch full;
-      block = blockRows patch b;
-      slot = [];
-      full = (8 ⇐ eqb (decidedKind P base page) 2 && leb (pagesIn P (length full)) b) ∷ [];
-      payload = [];
-      place = [];
-      pair = [];
-    })
+    ((group.pages ▸ pageRows P base page) ∷ (group.lengths ▸ lengthRows P (length patch) (length full)) ∷ (group.headers ▸ headerRows P patch full) ∷ (group.block ▸ blockRows patch b) ∷ (group.full ▸ (8 ⇐ eqb (decidedKind P base page) 2 && leb (pagesIn P (length full)) b) ∷ []) ∷ [])
 
 pub record WriteOutcome : Type 0 where
   pub number : ℕ
@@ -108,8 +99,8 @@ module _ (P : ℕ) (patch full : List ℕ) (b : ℕ) (base page : List ℕ) wher
   large = (8 ⇐ eqb (decidedKind P base page) 2 && leb (pagesIn P (length full)) b) ∷ []
 
   write-rows : firstOf (writeRows P patch full b base page) ≡ orElse (firstOf (frameRows P (pageRows P base page) [] patch full)) (firstOf (blockRows patch b ++ large))
-  unfolding writeRows large
-  write-rows = ordered-frame P patch full _ refl refl
+  unfolding writeRows frameRows large
+  write-rows = in-halves _
 
   -- the frame's refusal is the call's
   pub write-frame : (k : ℕ) → firstOf (frameRows P (pageRows P base page) [] patch full) ≡ k → (k ≡ 0 → ⊥)

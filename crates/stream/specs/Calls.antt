@@ -10,7 +10,9 @@ use lib.IntN.{ℤ, pos}
 use Rattle.span.specs.Bytes.{zeros, splice}
 use Rattle.layout.specs.Sizes.{room}
 use Rattle.layout.specs.Numbers.{kindNumber, refusalNumber}
-use Rattle.layout.specs.Refusals.{Row, _⇐_, firstOf, ordered, decided}
+use Rattle.layout.specs.Refusals.{Row, _⇐_, firstOf, decided}
+use Rattle.layout.specs.Groups.{ordered, _▸_}
+use Rattle.layout.specs.Groups as group
 use Rattle.stream.specs.Entries.{start, payloadStream, sound, entries, last, applied}
 use Rattle.stream.specs.Differences.{Change, diffs, coded, lastPlace}
 use Rattle.stream.specs.declared.Compared.{Compared}
@@ -45,18 +47,7 @@ kindFor n = cond (eqb n 0) 0 (cond (leb n room) 1 2)
 unfoldable pub compareRows : ℕ → List ℕ → List ℕ → List ℕ → List Row
 compareRows P base page buffer =
     ordered
-    (record {
-      pages = pageRows P base page;
-      lengths = [];
-      buffers = (9 ⇐ ltb (length buffer) room) ∷ [];
-      headers = [];
-      block = [];
-      slot = [];
-      full = [];
-      payload = [];
-      place = [];
-      pair = [];
-    })
+    ((group.pages ▸ pageRows P base page) ∷ (group.buffers ▸ (9 ⇐ ltb (length buffer) room) ∷ []) ∷ [])
 
 -- the answer where nothing is refused
 unfoldable pub comparison : List Change → ComparedNumbers
@@ -94,18 +85,7 @@ pub record AppliedNumbers : Type 0 where
 unfoldable pub applyRows : ℕ → List ℕ → List ℕ → List ℕ → List Row
 applyRows P base payload page =
     ordered
-    (record {
-      pages = pageRows P base page;
-      lengths = [];
-      buffers = [];
-      headers = [];
-      block = [];
-      slot = [];
-      full = [];
-      payload = (7 ⇐ not (sound P payload)) ∷ [];
-      place = [];
-      pair = [];
-    })
+    ((group.pages ▸ pageRows P base page) ∷ (group.payload ▸ (7 ⇐ not (sound P payload)) ∷ []) ∷ [])
 
 abbrev refusedApplication : ℕ → AppliedNumbers
 refusedApplication n = record { number = n; entries = 0; last = pos 0 }

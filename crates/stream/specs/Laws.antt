@@ -14,7 +14,8 @@ use lib.Seq.{take-all}
 use Rattle.span.specs.Bytes.{zeros, splice, part}
 use Rattle.span.specs.Laws.{zeros-length}
 use Rattle.layout.specs.Sizes.{room}
-use Rattle.layout.specs.Refusals.{_⇐_, firstOf, orElse, ordered, decided-done, decided-refused}
+use Rattle.layout.specs.Refusals.{_⇐_, firstOf, orElse, decided-done, decided-refused}
+use Rattle.layout.specs.Groups.{ordered}
 use Rattle.stream.specs.Entries.{payloadStream, sound, entries, last, start, applied}
 use Rattle.stream.specs.Differences.{diffs, coded, written}
 use Rattle.stream.specs.Steps.{farthest, near, Differs}

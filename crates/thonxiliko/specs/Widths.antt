@@ -11,7 +11,8 @@ use Rattle.span.specs.Bytes.{same}
 use lib.ListN.{length, length-append}
 use Rattle.layout.specs.Sizes.{pageSize, room}
 use Rattle.layout.specs.Numbers.{le}
-use Rattle.layout.specs.Refusals.{Row, _⇐_, firstOf, orElse, ordered, decided}
+use Rattle.layout.specs.Refusals.{Row, _⇐_, firstOf, orElse, decided}
+use Rattle.layout.specs.Groups.{ordered}
 use Rattle.layout.specs.Slots.{slotNumbers, soundSlot, unsoundSlot, payloadLength, payloadOf, isPatch, emptySlot, patchSlot, fullSlot}
 use Rattle.stream.specs.Differences.{Change, diffs, spelled, coded, written}
 use Rattle.stream.specs.Entries.{sound, entries, payloadStream}

@@ -1,0 +1,66 @@
+-- The order of the paper: a call names its rows by group, and nothing but the two lists below decides which group comes first.
+use Prim.Native.Nat.{ℕ}
+use mathlib.Core.Bool.{Bool, true, false, not, cond, _&&_}
+use mathlib.Core.List.{List, [], _∷_, _++_}
+use lib.Dec.{eqb}
+use Rattle.layout.specs.Refusals.{Row, firstOf, orElse, first-append}
+use mathlib.Core.Path.{_≡_}
+
+pub data Group : Type 0 where
+  pages lengths buffers headers block slot full payload place pair : Group
+
+abbrev pub rank : Group → ℕ
+rank pages = 0
+rank lengths = 1
+rank buffers = 2
+rank headers = 3
+rank block = 4
+rank slot = 5
+rank full = 6
+rank payload = 7
+rank place = 8
+rank pair = 9
+
+-- what is decided before any block is looked at: 1, 2, 9, headers
+abbrev pub opening : List Group
+opening = pages ∷ lengths ∷ buffers ∷ headers ∷ []
+
+-- and what is decided of blocks: 5, 6, 8, 7, 10, 11
+abbrev pub inside : List Group
+inside = block ∷ slot ∷ full ∷ payload ∷ place ∷ pair ∷ []
+
+-- the rows of a group, as `group ▸ rows`
+pub record Grouped : Type 0 where
+  pub group : Group
+  pub rows : List Row
+
+infix 25 _▸_
+abbrev pub _▸_ : Group → List Row → Grouped
+g ▸ rs = record { group = g; rows = rs }
+
+-- a group that a call does not name has no rows
+abbrev pub rowsOf : Group → List Grouped → List Row
+rowsOf g [] = []
+rowsOf g (x ∷ xs) = cond (eqb (rank g) (rank (x .group))) (x .rows) (rowsOf g xs)
+
+abbrev pub inOrder : List Group → List Grouped → List Row
+inOrder [] gs = []
+inOrder (g ∷ []) gs = rowsOf g gs
+inOrder (g ∷ h ∷ rest) gs = rowsOf g gs ++ inOrder (h ∷ rest) gs
+
+unfoldable pub ordered : List Grouped → List Row
+ordered gs = inOrder opening gs ++ inOrder inside gs
+
+-- no group is named twice: a computed test, so that no row is lost
+abbrev pub names : Group → List Grouped → Bool
+names g [] = false
+names g (x ∷ xs) = cond (eqb (rank g) (rank (x .group))) true (names g xs)
+
+abbrev pub once : List Grouped → Bool
+once [] = true
+once (x ∷ xs) = not (names (x .group) xs) && once xs
+
+-- the order, cut where blocks begin
+pub in-halves : (gs : List Grouped) → firstOf (ordered gs) ≡ orElse (firstOf (inOrder opening gs)) (firstOf (inOrder inside gs))
+unfolding ordered
+in-halves gs = first-append (inOrder opening gs) (inOrder inside gs)
