@@ -7,8 +7,10 @@ use lib.Dec.{eqb, leb, ltb}
 use lib.ListN.{length}
 use borrow.Author.Tests.{eq-eqb, ne-eqb, le-leb, lt-leb, lt-ltb, le-ltb}
 use Rattle.layout.specs.Sizes.{blocksAtMost}
-use Rattle.layout.specs.Numbers.{refusalNumber, refusal-one, refusal-some}
-use Rattle.layout.specs.Refusals.{firstOf, decided, first-hit, first-skip, first-done}
+use Rattle.layout.specs.Numbers.{refusalNumber}
+use Rattle.layout.specs.NumberLaws.{refusal-one, refusal-some}
+use Rattle.layout.specs.Refusals.{firstOf, decided}
+use Rattle.layout.specs.RefusalLaws.{first-hit, first-skip, first-done}
 use Rattle.layout.specs.Groups.{ordered}
 use Rattle.layout.specs.declared.Refusal.{Refusal}
 use Rattle.layout.specs.declared.Refusal.the-variants.{Length, Buffer, Block, Pair}

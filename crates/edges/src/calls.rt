@@ -5,13 +5,13 @@ use crate::fields::number;
 use crate::make::make;
 use crate::make::make_or_keep;
 use crate::say;
+use building::Built;
 use layout::Layout;
-use store::Built;
+use reading::Reading;
 use store::Formatted;
-use store::Reading;
-use store::Written;
 use stream::Applied;
 use stream::Compared;
+use writing::Written;
 
 // Room for a byte more than a page, a slot, five blocks or two full pages have.
 const PAGE_ROOM: usize = Layout::PAGE + 1;
@@ -54,16 +54,16 @@ fn read_in(
     length: usize,
 ) -> Reading {
     if length < page.len() {
-        return store::read::read(patch, full, block, base, &mut page[0..length]);
+        return reading::read(patch, full, block, base, &mut page[0..length]);
     }
-    store::read::read(patch, full, block, base, page)
+    reading::read(patch, full, block, base, page)
 }
 
 fn build_in(patch: &[u8], full: &[u8], map: &mut [u8], length: usize) -> Built {
     if length < map.len() {
-        return store::build::build(patch, full, &mut map[0..length]);
+        return building::build(patch, full, &mut map[0..length]);
     }
-    store::build::build(patch, full, map)
+    building::build(patch, full, map)
 }
 
 fn format_full(patch: &mut [u8], full: &mut [u8], length: usize) -> Formatted {
@@ -90,9 +90,9 @@ fn write_full(
     page: &[u8],
 ) -> Written {
     if length < full.len() {
-        return store::write::write(patch, &mut full[0..length], block, base, page);
+        return writing::write(patch, &mut full[0..length], block, base, page);
     }
-    store::write::write(patch, full, block, base, page)
+    writing::write(patch, full, block, base, page)
 }
 
 fn write_in(

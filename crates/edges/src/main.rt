@@ -11,22 +11,22 @@ use fields::field;
 
 // The calls that are lent no areas.
 fn run_alone(call: &[u8], line: &[u8]) {
-    if span::same(call, b"compare") {
+    if differ::same(call, b"compare") {
         calls::compare(line);
     }
-    if span::same(call, b"apply") {
+    if differ::same(call, b"apply") {
         calls::apply(line);
     }
-    if span::same(call, b"judge") {
+    if differ::same(call, b"judge") {
         calls::judge(line);
     }
-    if span::same(call, b"slotinfo") {
+    if differ::same(call, b"slotinfo") {
         calls::slotinfo(line);
     }
-    if span::same(call, b"look up") {
+    if differ::same(call, b"look up") {
         calls::look_up(line);
     }
-    if span::same(call, b"tally") {
+    if differ::same(call, b"tally") {
         calls::tally(line);
     }
 }
@@ -39,19 +39,19 @@ fn run_areas(
     full: &mut [u8],
     lengths: Lengths,
 ) -> Lengths {
-    if span::same(call, b"format") {
+    if differ::same(call, b"format") {
         return calls::format(line, patch, full, lengths);
     }
-    if span::same(call, b"show") {
+    if differ::same(call, b"show") {
         return calls::show(line, patch, full, lengths);
     }
-    if span::same(call, b"read") {
+    if differ::same(call, b"read") {
         return calls::read(line, patch, full, lengths);
     }
-    if span::same(call, b"write") {
+    if differ::same(call, b"write") {
         return calls::write(line, patch, full, lengths);
     }
-    if span::same(call, b"build") {
+    if differ::same(call, b"build") {
         return calls::build(line, patch, full, lengths);
     }
     run_alone(call, line);

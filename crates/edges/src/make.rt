@@ -216,7 +216,7 @@ pub(crate) fn make(dst: &mut [u8], description: &[u8]) -> usize {
 
 // The same, but `=` leaves the buffer and its length as they are.
 pub(crate) fn make_or_keep(dst: &mut [u8], description: &[u8], length: usize) -> usize {
-    if span::same(description, b"=") {
+    if differ::same(description, b"=") {
         return length;
     }
     make(dst, description)

@@ -1,15 +1,15 @@
 // What the program prints: a line a case, its name and what the call answered.
 use blockmap::Looked;
 use blockmap::Tallied;
+use building::Built;
 use layout::Kind;
 use layout::Refusal;
-use store::Built;
+use reading::Reading;
 use store::Formatted;
 use store::Judged;
-use store::Reading;
-use store::Written;
 use stream::Applied;
 use stream::Compared;
+use writing::Written;
 
 const OUT: i32 = libc::STDOUT_FILENO;
 

@@ -6,11 +6,11 @@ use lib.ListN.{length as lengthOf}
 use lib.IntN.{ℤ}
 use Rattle.span.specs.Bytes.{part}
 use Rattle.layout.specs.Sizes.{slotSize, payloadAt}
-use Rattle.layout.specs.Slots.{slotNumbers, soundSlot}
-use Rattle.stream.specs.Entries.{sound}
-use Rattle.stream.specs.Steps.{Judges, SoundAs}
-use Rattle.stream.specs.declared.Checked.{Checked}
-use Rattle.stream.specs.declared.Checked.the-variants.{Unsound, Sound}
+use Rattle.slots.specs.Slots.{slotNumbers, soundSlot}
+use Rattle.payload.specs.Entries.{sound}
+use Rattle.payload.specs.Steps.{Judges, SoundAs}
+use Rattle.payload.specs.declared.Checked.{Checked}
+use Rattle.payload.specs.declared.Checked.the-variants.{Unsound, Sound}
 use Rattle.info.specs.Info.{infoNumbers, refusedInfo, info-broken, info-patch}
 
 module _ (P : ℕ) (bytes payload : List ℕ) (n : ℕ) (r : Checked) (l : lengthOf bytes ≡ slotSize) (e : slotNumbers bytes ≡ soundSlot 1 n)

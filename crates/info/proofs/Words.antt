@@ -12,14 +12,15 @@ use lib.Signed.{ltZ}
 use lib.ListN.{length, set, take, getD, length-append}
 use lib.Seq.{sets, take-suc, take-all, length-take-le}
 use borrow.Author.Tests.{lt-ltb, le-ltb, ne-eqb}
-use Rattle.layout.specs.Numbers.{kindNumber, refusalNumber, refusal-some}
+use Rattle.layout.specs.Numbers.{kindNumber, refusalNumber}
+use Rattle.layout.specs.NumberLaws.{refusal-some}
 use Rattle.layout.specs.declared.Kind.{Kind}
 use Rattle.layout.specs.declared.Refusal.{Refusal}
 use Rattle.info.specs.Info.{toldNumbers}
 use Rattle.info.specs.declared.Info.{Info}
 use Rattle.info.specs.declared.Info.the-variants.{Slot, Refused}
 use Rattle.io.specs.Digits.{digits, glyph, Fewest}
-use Rattle.stream.specs.Steps.{Put}
+use Rattle.span.specs.Bytes.{Put}
 use Rattle.info.specs.Text.{decimalIn, decimal, numberLine, lengthWord, entriesWord, refusedWord, lastWord, kindLine, lastLine, text}
 
 pub sets-join : (l : List ℕ) (at : ℕ) (xs ys : List ℕ) → sets (sets l at xs) (at + length xs) ys ≡ sets l at (xs ++ ys)

@@ -10,12 +10,14 @@ use lib.IntN.{ℤ, pos, negsuc}
 use borrow.Author.Tests.{eq-eqb, ne-eqb}
 use Rattle.span.specs.Bytes.{part}
 use Rattle.layout.specs.Sizes.{slotSize, payloadAt}
-use Rattle.layout.specs.Numbers.{kindNumber, refusalNumber, kind-one, refusal-one, refusal-some}
-use Rattle.layout.specs.Refusals.{Row, _⇐_, firstOf, orElse, decided, decided-done, decided-refused, Exactly, exactly, decided-number, no-row, row}
+use Rattle.layout.specs.Numbers.{kindNumber, refusalNumber}
+use Rattle.layout.specs.NumberLaws.{kind-one, refusal-one, refusal-some}
+use Rattle.layout.specs.Refusals.{Row, _⇐_, firstOf, orElse, decided}
+use Rattle.layout.specs.RefusalLaws.{decided-done, decided-refused, Exactly, exactly, decided-number, no-row, row}
 use Rattle.layout.specs.Groups.{ordered, _▸_}
 use Rattle.layout.specs.Groups as group
-use Rattle.layout.specs.Slots.{slotNumbers, soundSlot, unsoundSlot}
-use Rattle.stream.specs.Entries.{stream, start, payloadStream, sound, entries as entriesOf, last as lastOf}
+use Rattle.slots.specs.Slots.{slotNumbers, soundSlot, unsoundSlot}
+use Rattle.payload.specs.Entries.{stream, start, payloadStream, sound, entries as entriesOf, last as lastOf}
 use Rattle.info.specs.declared.Info.{Info}
 use Rattle.info.specs.declared.Info.the-variants.{Slot, Refused}
 

@@ -4,8 +4,8 @@ pub mod text;
 use layout::Kind;
 use layout::Layout;
 use layout::Refusal;
-use layout::SlotState;
-use stream::Checked;
+use payload::Checked;
+use slots::SlotState;
 ghost use Rattle.layout.specs.Sizes.{pageSize};
 ghost use Rattle.info.specs.Info.{Inspect};
 
@@ -27,7 +27,7 @@ pub fn inspect(bytes: &[u8]) -> Info
     if bytes.len() != Layout::SLOT {
         return Info::Refused(Refusal::Length);
     }
-    match layout::slot::slot_state(bytes) {
+    match slots::slot_state(bytes) {
         SlotState::Unsound => Info::Refused(Refusal::Slot),
         SlotState::Empty => Info::Slot {
             kind: Kind::Empty,
@@ -42,7 +42,7 @@ pub fn inspect(bytes: &[u8]) -> Info
             last: -1,
         },
         SlotState::Patch(n) => {
-            match stream::payload::check(span::part(bytes, Layout::PAYLOAD_AT, n), Layout::PAGE) {
+            match payload::check(span::part(bytes, Layout::PAYLOAD_AT, n), Layout::PAGE) {
                 Checked::Unsound => Info::Refused(Refusal::Payload),
                 Checked::Sound { entries, last } => Info::Slot {
                     kind: Kind::Patch,

@@ -6,7 +6,7 @@ ghost use Prim.Native.Nat.{_+_, _≤_};
 ghost use lib.ListN.{length};
 ghost use Rattle.layout.specs.Sizes.{pageSize};
 ghost use Rattle.layout.specs.Numbers.{kindNumber};
-ghost use Rattle.stream.specs.Steps.{Put};
+ghost use Rattle.span.specs.Bytes.{Put};
 ghost use Rattle.info.specs.Info.{toldNumbers, infoNumbers};
 ghost use Rattle.info.specs.Text.{widest, decimal, numberLine, kindLine, lastLine, longest, text};
 

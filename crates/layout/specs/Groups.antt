@@ -1,10 +1,9 @@
 -- The order of the paper: a call names its rows by group, and nothing but the two lists below decides which group comes first.
 use Prim.Native.Nat.{ℕ}
-use mathlib.Core.Bool.{Bool, true, false, not, cond, _&&_}
+use mathlib.Core.Bool.{cond}
 use mathlib.Core.List.{List, [], _∷_, _++_}
 use lib.Dec.{eqb}
-use Rattle.layout.specs.Refusals.{Row, firstOf, orElse, first-append}
-use mathlib.Core.Path.{_≡_}
+use Rattle.layout.specs.Refusals.{Row}
 
 pub data Group : Type 0 where
   pages lengths buffers headers block slot full payload place pair : Group
@@ -50,17 +49,3 @@ inOrder (g ∷ h ∷ rest) gs = rowsOf g gs ++ inOrder (h ∷ rest) gs
 
 unfoldable pub ordered : List Grouped → List Row
 ordered gs = inOrder opening gs ++ inOrder inside gs
-
--- no group is named twice: a computed test, so that no row is lost
-abbrev pub names : Group → List Grouped → Bool
-names g [] = false
-names g (x ∷ xs) = cond (eqb (rank g) (rank (x .group))) true (names g xs)
-
-abbrev pub once : List Grouped → Bool
-once [] = true
-once (x ∷ xs) = not (names (x .group) xs) && once xs
-
--- the order, cut where blocks begin
-pub in-halves : (gs : List Grouped) → firstOf (ordered gs) ≡ orElse (firstOf (inOrder opening gs)) (firstOf (inOrder inside gs))
-unfolding ordered
-in-halves gs = first-append (inOrder opening gs) (inOrder inside gs)

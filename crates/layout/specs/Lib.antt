@@ -2,7 +2,9 @@ pub mod Sizes
 pub mod Numbers
 pub mod Refusals
 pub mod Groups
-pub mod Headers
-pub mod Slots
 pub mod Areas
 pub mod Meaning
+pub mod AreaLaws
+pub mod GroupLaws
+pub mod NumberLaws
+pub mod RefusalLaws

@@ -1,8 +1,6 @@
-// The bytes of both areas: sizes, places, headers, slots, and the numbers that all calls share.
+// The layout of both areas: sizes, places, lengths, and the numbers that all calls share.
 pub mod area;
-pub mod head;
 pub mod number;
-pub mod slot;
 
 ghost use mathlib.Core.Path.{_≡_};
 ghost use Rattle.layout.specs.Sizes.{pageSize, segment, blocksAtMost, patchHead, fullHead, slotSize, versionAt, restAt, lengthAt, payloadAt, room, slotAt, pageAt};
@@ -33,14 +31,6 @@ pub enum Refusal {
 pub enum Fault {
     Nothing,
     Found(Refusal),
-}
-
-// What a slot is: one of the three sound ones, PATCH with its payload's length, or none of them.
-pub enum SlotState {
-    Empty,
-    Patch(usize),
-    Full,
-    Unsound,
 }
 
 // The layout's numbers, each once.

@@ -1,18 +1,18 @@
 -- The numbers of an answer determine the code's own enum, for each call of the store.
 use mathlib.Core.Path.{_≡_, refl, sym, ap}
-use Rattle.layout.specs.Numbers.{kind-one, refusal-one, refusal-some}
+use Rattle.layout.specs.NumberLaws.{kind-one, refusal-one, refusal-some}
 use Rattle.store.specs.Format.{formattedNumber}
 use Rattle.store.specs.Judge.{JudgedNumbers, judgedNumbers}
-use Rattle.store.specs.Read.{ReadNumbers, readingNumbers}
-use Rattle.store.specs.Write.{WriteNumbers, writtenNumbers}
+use Rattle.reading.specs.Read.{ReadNumbers, readingNumbers}
+use Rattle.writing.specs.Write.{WriteNumbers, writtenNumbers}
 use Rattle.store.specs.declared.Formatted.{Formatted}
 use Rattle.store.specs.declared.Formatted.the-variants.{Done as FormattedDone, Refused as FormattedRefused}
 use Rattle.store.specs.declared.Judged.{Judged}
 use Rattle.store.specs.declared.Judged.the-variants.{Done as JudgedDone, Refused as JudgedRefused}
-use Rattle.store.specs.declared.Reading.{Reading}
-use Rattle.store.specs.declared.Reading.the-variants.{Done as ReadingDone, Refused as ReadingRefused}
-use Rattle.store.specs.declared.Written.{Written}
-use Rattle.store.specs.declared.Written.the-variants.{Done as WrittenDone, Refused as WrittenRefused}
+use Rattle.reading.specs.declared.Reading.{Reading}
+use Rattle.reading.specs.declared.Reading.the-variants.{Done as ReadingDone, Refused as ReadingRefused}
+use Rattle.writing.specs.declared.Written.{Written}
+use Rattle.writing.specs.declared.Written.the-variants.{Done as WrittenDone, Refused as WrittenRefused}
 
 pub formatted-one : (a b : Formatted) → formattedNumber a ≡ formattedNumber b → a ≡ b
 formatted-one FormattedDone FormattedDone e = refl

@@ -12,7 +12,7 @@ use mathlib.Core.Logic.{_⊎_, _↔_}
 use mathlib.Core.List.{List, []}
 use lib.IntN.{pos}
 use Rattle.layout.specs.Numbers.{refusalNumber}
-use Rattle.layout.specs.Refusals.{NoneHolds, Exactly}
+use Rattle.layout.specs.RefusalLaws.{NoneHolds, Exactly}
 use Rattle.layout.specs.declared.Refusal.{Refusal}
 use Rattle.layout.specs.declared.Refusal.the-variants.{Page, Length, Header, Version, Block, Slot, Payload, FullPage, Buffer, Place, Pair}
 use Rattle.blockmap.specs.Calls.{lookUpRows, lookedNumbers, LookUp, tallyRows, talliedNumbers, Tally}
@@ -30,18 +30,21 @@ use Rattle.stream.specs.declared.Applied.the-variants.{Done as AppliedDone, Ref
 use Rattle.store.specs.Format.{formatRows, formattedNumber, Format}
 use Rattle.store.specs.Judge.{judgeRows, judgedNumbers, Judge}
 use Rattle.store.specs.Show.{showRows, Show}
-use Rattle.store.specs.Read.{ReadNumbers, readRows, readingNumbers, Read}
-use Rattle.store.specs.Write.{WriteNumbers, writeRows, writtenNumbers, Write}
-use Rattle.store.specs.Build.{faultRows, blockFault, BuildNumbers, builtNumbers, Build}
-use Rattle.store.specs.Given.{format-exactly, judge-exactly, show-exactly, show-some, read-exactly, write-exactly, block-exactly, allRows, build-exactly}
+use Rattle.reading.specs.Read.{ReadNumbers, readRows, readingNumbers, Read}
+use Rattle.writing.specs.Write.{WriteNumbers, writeRows, writtenNumbers, Write}
+use Rattle.building.specs.Build.{faultRows, blockFault, BuildNumbers, builtNumbers, Build}
+use Rattle.store.specs.Given.{format-exactly, judge-exactly, show-exactly, show-some}
+use Rattle.reading.specs.Given.{read-exactly}
+use Rattle.writing.specs.Given.{write-exactly}
+use Rattle.building.specs.Given.{block-exactly, allRows, build-exactly}
 use Rattle.store.specs.declared.Formatted.{Formatted}
 use Rattle.store.specs.declared.Judged.{Judged}
 use Rattle.store.specs.declared.Judged.the-variants.{Done as JudgedDone, Refused as JudgedRefused}
-use Rattle.store.specs.declared.Reading.{Reading}
-use Rattle.store.specs.declared.Reading.the-variants.{Done as ReadingDone, Refused as ReadingRefused}
-use Rattle.store.specs.declared.Written.{Written}
-use Rattle.store.specs.declared.Written.the-variants.{Done as WrittenDone, Refused as WrittenRefused}
-use Rattle.store.specs.declared.Built.{Built}
+use Rattle.reading.specs.declared.Reading.{Reading}
+use Rattle.reading.specs.declared.Reading.the-variants.{Done as ReadingDone, Refused as ReadingRefused}
+use Rattle.writing.specs.declared.Written.{Written}
+use Rattle.writing.specs.declared.Written.the-variants.{Done as WrittenDone, Refused as WrittenRefused}
+use Rattle.building.specs.declared.Built.{Built}
 use Rattle.promises.specs.Words.{OfBlock}
 use Rattle.promises.specs.Kept.{format-kept, compare-kept, apply-kept, show-kept, read-kept, write-kept, build-kept}
 

@@ -15,8 +15,8 @@ use lib.ListN.{length}
 use Rattle.layout.specs.Sizes.{pageSize}
 use Rattle.blockmap.specs.Pairs.{mapBytes}
 use Rattle.stream.specs.Calls.{pageOf}
-use Rattle.store.specs.Read.{ReadOutcome, readOutcome}
-use Rattle.store.specs.Build.{BuildOutcome, buildOutcome}
+use Rattle.reading.specs.Read.{ReadOutcome, readOutcome}
+use Rattle.building.specs.Build.{BuildOutcome, buildOutcome}
 use Rattle.promises.specs.Words.{blocks, PagesFit}
 use Rattle.promises.specs.Runs.{NoRepeats}
 use Rattle.promises.specs.RunWords.{Areas, Lent, after, accepted, lastTo, JustLasts, OverBases, FreshAreas}

@@ -14,15 +14,15 @@ use lib.Dec.{lit≤}
 use lib.ListN.{length}
 use Rattle.span.specs.Bytes.{zeros}
 use Rattle.layout.specs.Sizes.{pageSize}
-use Rattle.layout.specs.Slots.{emptySlot, fullSlot}
-use Rattle.stream.specs.Entries.{start, payloadStream, sound, applied}
+use Rattle.slots.specs.Slots.{emptySlot, fullSlot}
+use Rattle.payload.specs.Entries.{start, payloadStream, sound, applied}
 use Rattle.stream.specs.Calls.{pageOf}
-use Rattle.stream.specs.Spelling.{Spelled, Bytes}
-use Rattle.stream.specs.Writer.{placed}
-use Rattle.stream.specs.ReadBack.{pokes}
-use Rattle.store.specs.Frame.{slotOf, placeOf}
-use Rattle.store.specs.Read.{ReadOutcome, readOutcome}
-use Rattle.store.specs.Write.{WriteOutcome, writeOutcome}
+use Rattle.payload.specs.Spelling.{Spelled, Bytes}
+use Rattle.writer.specs.Writer.{placed}
+use Rattle.writer.specs.ReadBack.{pokes}
+use Rattle.store.specs.Block.{slotOf, placeOf}
+use Rattle.reading.specs.Read.{ReadOutcome, readOutcome}
+use Rattle.writing.specs.Write.{WriteOutcome, writeOutcome}
 use Rattle.store.specs.Show.{Show}
 use Rattle.promises.specs.Words.{blocks, places, FrameFits, PatchOf, SoundSlot, PatchFits, ShowsNothing, Large, streamOf, Stored, WriteGives, ReadGives}
 use Rattle.promises.specs.Tables.{write-table, read-table}

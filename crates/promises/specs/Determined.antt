@@ -14,15 +14,15 @@ use Rattle.stream.specs.declared.Applied.{Applied}
 use Rattle.store.specs.Format.{Format}
 use Rattle.store.specs.Judge.{Judge}
 use Rattle.store.specs.Show.{Show}
-use Rattle.store.specs.Read.{Read}
-use Rattle.store.specs.Write.{Write}
-use Rattle.store.specs.Build.{Build}
-use Rattle.store.specs.BuildMeaning.{build-one}
-use Rattle.store.specs.declared.Built.{Built}
+use Rattle.reading.specs.Read.{Read}
+use Rattle.writing.specs.Write.{Write}
+use Rattle.building.specs.Build.{Build}
+use Rattle.building.specs.BuildMeaning.{build-one}
+use Rattle.building.specs.declared.Built.{Built}
 use Rattle.store.specs.declared.Formatted.{Formatted}
 use Rattle.store.specs.declared.Judged.{Judged}
-use Rattle.store.specs.declared.Reading.{Reading}
-use Rattle.store.specs.declared.Written.{Written}
+use Rattle.reading.specs.declared.Reading.{Reading}
+use Rattle.writing.specs.declared.Written.{Written}
 use Rattle.promises.specs.Answers.{formatted-one, judged-one, reading-one, written-one}
 
 module _ (P : ℕ) where

@@ -9,21 +9,22 @@ use lib.Dec.{eqb, leb, ltb}
 use lib.ListN.{length}
 use Rattle.span.specs.Bytes.{zeros, part, splice, same}
 use Rattle.span.specs.Laws.{part-none}
-use Rattle.layout.specs.Refusals.{_⇐_, firstOf, orElse, decided, decided-refused}
+use Rattle.layout.specs.Refusals.{_⇐_, firstOf, orElse, decided}
+use Rattle.layout.specs.RefusalLaws.{decided-refused}
 use Rattle.layout.specs.Groups.{ordered}
-use Rattle.layout.specs.Slots.{slotNumbers, payloadOf}
+use Rattle.slots.specs.Slots.{slotNumbers, payloadOf}
 use Rattle.layout.specs.Areas.{blocksIn, pagesIn}
-use Rattle.stream.specs.Entries.{sound}
+use Rattle.payload.specs.Entries.{sound}
 use Rattle.stream.specs.Calls.{compareRows, compareNumbers, compareBuffer, applyRows, applyNumbers, applyPage}
 use Rattle.stream.specs.Laws.{compare-not, apply-not}
 use Rattle.stream.specs.Kinds.{compare-gives}
 use Rattle.stream.specs.Given.{apply-gives}
-use Rattle.store.specs.Frame.{slotOf, placeOf}
+use Rattle.store.specs.Block.{slotOf, placeOf, slotRows, fullRows, payloadRows}
 use Rattle.store.specs.Format.{FormatOutcome, formatRows, formatOutcome}
 use Rattle.store.specs.Show.{showRows, showPlace}
-use Rattle.store.specs.Read.{slotRows, fullRows, payloadRows, ReadOutcome, readRows, readOutcome}
-use Rattle.store.specs.Write.{WriteOutcome, writeOutcome}
-use Rattle.store.specs.Build.{placeRows, blockFault, firstFault, BuildOutcome, buildRows, builtMap, buildOutcome}
+use Rattle.reading.specs.Read.{ReadOutcome, readRows, readOutcome}
+use Rattle.writing.specs.Write.{WriteOutcome, writeOutcome}
+use Rattle.building.specs.Build.{placeRows, blockFault, firstFault, BuildOutcome, buildRows, builtMap, buildOutcome}
 use Rattle.store.specs.declared.Place.{Place}
 use Rattle.promises.specs.Words.{OfBlock, slot-6, payload-7, page-8, place-10}
 use Rattle.promises.specs.StoreLaws.{write-not}

@@ -11,13 +11,13 @@ use borrow.Author.Tests.{lt-ltb, eqb-true}
 use Rattle.span.specs.Bytes.{zeros, splice}
 use Rattle.span.specs.Laws.{and-left, and-right, zeros-length}
 use Rattle.layout.specs.Sizes.{patchHead, fullHead}
-use Rattle.layout.specs.Areas.{freshPatch, freshFull}
+use Rattle.headers.specs.Fresh.{freshPatch, freshFull}
 use Rattle.blockmap.specs.Pairs.{mapBytes}
 use Rattle.stream.specs.Calls.{pageOf}
-use Rattle.store.specs.Frame.{slotOf, placeOf}
-use Rattle.store.specs.Read.{ReadOutcome, readOutcome}
-use Rattle.store.specs.Build.{blockFault, buildOutcome, builtMap}
-use Rattle.store.specs.Write.{decidedKind}
+use Rattle.store.specs.Block.{slotOf, placeOf}
+use Rattle.reading.specs.Read.{ReadOutcome, readOutcome}
+use Rattle.building.specs.Build.{blockFault, buildOutcome, builtMap}
+use Rattle.writing.specs.Write.{decidedKind}
 use Rattle.promises.specs.Words.{blocks, places, PagesFit, FrameFits, SameFrame, Large}
 use Rattle.promises.specs.FrameLaws.{lengths-by, lengths-moved, headers-moved}
 use Rattle.promises.specs.Cells.{emptied, emptied-length, emptied-same}

@@ -6,14 +6,14 @@ use mathlib.Core.List.{List}
 use lib.Dec.{eqb}
 use lib.ListN.{length}
 use Rattle.span.specs.Bytes.{zeros}
-use Rattle.layout.specs.Slots.{emptySlot, patchSlot, payloadOf, slotNumbers, slotImage}
-use Rattle.layout.specs.Meaning.{empty-numbers, full-numbers}
-use Rattle.stream.specs.Entries.{payloadStream, applied}
-use Rattle.stream.specs.Differences.{written}
+use Rattle.slots.specs.Slots.{emptySlot, patchSlot, payloadOf, slotNumbers, slotImage}
+use Rattle.slots.specs.Meaning.{empty-numbers, full-numbers}
+use Rattle.payload.specs.Entries.{payloadStream, applied}
+use Rattle.writer.specs.Differences.{written}
 use Rattle.stream.specs.Calls.{pageOf, kindFor}
 use Rattle.stream.specs.Kinds.{same-iff, kind-0}
-use Rattle.stream.specs.ReadBack.{Back, read-back}
-use Rattle.store.specs.Write.{decidedStream, decidedKind}
+use Rattle.writer.specs.ReadBack.{Back, read-back}
+use Rattle.writing.specs.Write.{decidedStream, decidedKind}
 use Rattle.promises.specs.Words.{PagesFit, StoredAs, streamOf}
 use Rattle.promises.specs.SlotLaws.{patch-of, image-empty}
 use Rattle.promises.specs.StoreLaws.{base-page-length, accepted, imageOf, contentOf, stored-so}

@@ -12,12 +12,12 @@ use Rattle.span.specs.Bytes.{zeros, part}
 use Rattle.span.specs.Laws.{part-none}
 use Rattle.layout.specs.Sizes.{patchHead, fullHead, slotSize, pageAt}
 use Rattle.layout.specs.Refusals.{orElse}
-use Rattle.layout.specs.Slots.{emptySlot}
-use Rattle.store.specs.Frame.{slotOf, placeOf}
-use Rattle.store.specs.Write.{decidedKind, WriteOutcome}
+use Rattle.slots.specs.Slots.{emptySlot}
+use Rattle.store.specs.Block.{slotOf, placeOf}
+use Rattle.writing.specs.Write.{decidedKind, WriteOutcome}
 use Rattle.promises.specs.Words.{blocks, places, LengthsFit, SameFrame, Stored}
 use Rattle.promises.specs.FrameLaws.{frameNumber, frame-emptied, lengths-moved}
-use Rattle.store.specs.Given.{write-number}
+use Rattle.writing.specs.Given.{write-number}
 use Rattle.promises.specs.Tables.{write-rows}
 use Rattle.promises.specs.Cells.{cells-ext, emptied, emptied-length, emptied-part, emptied-same}
 use Rattle.promises.specs.StoreLaws.{write-done, write-not, Accepted, accepted, write-stored, imageOf, contentOf, carried-slot, carried-place, content-none}

@@ -9,7 +9,7 @@ use mathlib.Core.List.{List, [], _∷_, List·Memᴰ}
 use lib.Dec.{eqb}
 use Rattle.stream.specs.Calls.{pageOf}
 use Rattle.store.specs.Format.{formatOutcome}
-use Rattle.store.specs.Write.{WriteOutcome, writeOutcome}
+use Rattle.writing.specs.Write.{WriteOutcome, writeOutcome}
 use Rattle.promises.specs.Runs.{last}
 
 pub record Areas : Type 0 where

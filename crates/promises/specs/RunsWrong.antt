@@ -12,11 +12,12 @@ use lib.Dec.{eqb, lit≤, lit<}
 use lib.ListN.{replicate}
 use Rattle.span.specs.Bytes.{zeros, splice}
 use Rattle.layout.specs.Sizes.{pageSize, slotAt}
-use Rattle.layout.specs.Slots.{fullSlot, slotImage}
-use Rattle.stream.specs.Entries.{stream, inPage, whole, sound, put, applied}
+use Rattle.slots.specs.Slots.{fullSlot, slotImage}
+use Rattle.payload.specs.Entries.{stream, inPage, whole, sound, put, applied}
 use Rattle.stream.specs.Calls.{pageOf, kindFor}
-use Rattle.store.specs.Read.{ReadOutcome}
-use Rattle.store.specs.Write.{carriedPatch, decidedKind, decidedStream, WriteOutcome}
+use Rattle.reading.specs.Read.{ReadOutcome}
+use Rattle.writing.specs.Carry.{carriedPatch}
+use Rattle.writing.specs.Write.{decidedKind, decidedStream, WriteOutcome}
 use Rattle.promises.specs.Words.{blocks, PagesFit}
 use Rattle.promises.specs.StoreLaws.{write-done}
 use Rattle.promises.specs.ReadLaws.{reads-patch}

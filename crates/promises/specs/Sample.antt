@@ -12,14 +12,18 @@ use Rattle.span.specs.Bytes.{zeros}
 use Rattle.span.specs.Laws.{zeros-length, zeros-after}
 use Rattle.layout.specs.Sizes.{pageSize, slotAt, pageAt}
 use Rattle.layout.specs.Numbers.{le}
-use Rattle.layout.specs.Slots.{slotImage}
-use Rattle.layout.specs.Areas.{freshPatch, freshFull, patch-fits, full-fits, blocks-of, pages-of, fresh-patch-length, fresh-full-length}
-use Rattle.stream.specs.Differences.{diffs, spelled, coded, written}
+use Rattle.slots.specs.Slots.{slotImage}
+use Rattle.headers.specs.Fresh.{freshPatch, freshFull}
+use Rattle.layout.specs.AreaLaws.{patch-fits, full-fits, blocks-of, pages-of}
+use Rattle.headers.specs.FreshLaws.{fresh-patch-length, fresh-full-length}
+use Rattle.writer.specs.Differences.{diffs, spelled, coded, written}
 use Rattle.stream.specs.Calls.{pageOf, kindFor}
-use Rattle.store.specs.Frame.{slotOf, lengthsFit}
-use Rattle.store.specs.Format.{FormatOutcome, formatOutcome, format-done}
-use Rattle.store.specs.Read.{ReadOutcome}
-use Rattle.store.specs.Write.{decidedKind, decidedStream}
+use Rattle.store.specs.Block.{slotOf}
+use Rattle.store.specs.FrameLaws.{lengthsFit}
+use Rattle.store.specs.Format.{FormatOutcome, formatOutcome}
+use Rattle.store.specs.FormatLaws.{format-done}
+use Rattle.reading.specs.Read.{ReadOutcome}
+use Rattle.writing.specs.Write.{decidedKind, decidedStream}
 use Rattle.promises.specs.Words.{blocks, places, PagesFit, WriteGives, streamOf}
 use Rattle.promises.specs.Tables.{write-table}
 use Rattle.promises.specs.WriteLaws.{reads-back}

@@ -11,12 +11,15 @@ use Rattle.span.specs.Bytes.{part}
 use Rattle.span.specs.Laws.{part-none, part-part}
 use Rattle.layout.specs.Sizes.{blocksAtMost, patchHead, slotSize, payloadAt, slotAt}
 use Rattle.layout.specs.Refusals.{firstOf}
-use Rattle.layout.specs.Headers.{patchHeader, patchHeadRows}
-use Rattle.layout.specs.Areas.{patchFits, patch-fits-is, patch-fits, slot-within}
-use Rattle.layout.specs.Slots.{isPatch, payloadLength, payloadOf}
-use Rattle.layout.specs.Meaning.{payload-length-of, patch-is, patch-image, patch-header-length, head-none, head-like}
-use Rattle.store.specs.Frame.{slotOf}
-use Rattle.store.specs.Show.{showPlace, Show, show-length, show-header, show-block, show-slot, show-done}
+use Rattle.headers.specs.Headers.{patchHeader, patchHeadRows}
+use Rattle.layout.specs.Areas.{patchFits}
+use Rattle.layout.specs.AreaLaws.{patch-fits-is, patch-fits, slot-within}
+use Rattle.slots.specs.Slots.{isPatch, payloadLength, payloadOf}
+use Rattle.slots.specs.Meaning.{payload-length-of, patch-is, patch-image}
+use Rattle.headers.specs.Meaning.{patch-header-length, head-none, head-like}
+use Rattle.store.specs.Block.{slotOf}
+use Rattle.store.specs.Show.{showPlace, Show}
+use Rattle.store.specs.ShowLaws.{show-length, show-header, show-block, show-slot, show-done}
 use Rattle.store.specs.declared.Place.{Place}
 use Rattle.promises.specs.Words.{blocks, PatchFits, PatchOf, ShowsNothing}
 use Rattle.promises.specs.SlotLaws.{patch-of}

@@ -8,8 +8,8 @@ use lib.ListN.{length}
 use Rattle.layout.specs.Sizes.{room}
 use Rattle.stream.specs.Calls.{pageOf, kindFor}
 use Rattle.stream.specs.Kinds.{same-iff, kind-0, kind-1, kind-2}
-use Rattle.store.specs.Read.{readOutcome}
-use Rattle.store.specs.Write.{decidedStream, decidedKind, WriteOutcome, writeOutcome}
+use Rattle.reading.specs.Read.{readOutcome}
+use Rattle.writing.specs.Write.{decidedStream, decidedKind, WriteOutcome, writeOutcome}
 use Rattle.promises.specs.Words.{blocks, places, FrameFits, Large, streamOf, WriteGives}
 use Rattle.promises.specs.FrameLaws.{frame-gives, frame-zero, frame-same, lengths-moved, headers-moved}
 use Rattle.promises.specs.Tables.{write-table, read-same}

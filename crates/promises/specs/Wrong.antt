@@ -14,14 +14,14 @@ use Rattle.span.specs.Bytes.{zeros, part, splice}
 use Rattle.span.specs.Laws.{part-at, part-short, splice-after}
 use Rattle.layout.specs.Sizes.{pageSize, slotSize, slotAt, payloadAt}
 use Rattle.layout.specs.Numbers.{le}
-use Rattle.layout.specs.Slots.{patchSlot, SlotNumbers, slotNumbers, slotImage}
-use Rattle.layout.specs.Meaning.{empty-numbers}
+use Rattle.slots.specs.Slots.{patchSlot, SlotNumbers, slotNumbers, slotImage}
+use Rattle.slots.specs.Meaning.{empty-numbers}
 use Rattle.stream.specs.Calls.{pageOf, kindFor}
-use Rattle.store.specs.Frame.{slotOf}
-use Rattle.store.specs.Read.{ReadOutcome, readingNumbers, readNumbers, Read}
-use Rattle.store.specs.Write.{decidedKind, decidedStream, WriteOutcome, writtenNumbers, writeNumbers, Write}
-use Rattle.store.specs.declared.Reading.{Reading}
-use Rattle.store.specs.declared.Written.{Written}
+use Rattle.store.specs.Block.{slotOf}
+use Rattle.reading.specs.Read.{ReadOutcome, readingNumbers, readNumbers, Read}
+use Rattle.writing.specs.Write.{decidedKind, decidedStream, WriteOutcome, writtenNumbers, writeNumbers, Write}
+use Rattle.reading.specs.declared.Reading.{Reading}
+use Rattle.writing.specs.declared.Written.{Written}
 use Rattle.promises.specs.Words.{blocks, PagesFit, FrameFits, SameFrame, WriteGives, streamOf}
 use Rattle.promises.specs.FrameLaws.{lengths-moved, headers-moved}
 use Rattle.promises.specs.Tables.{write-table}

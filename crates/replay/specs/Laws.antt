@@ -11,12 +11,13 @@ use lib.Seq.{sets, drop-cons, drop-drop, drop-length, take-append-seam, drop-app
 use borrow.Author.Tests.{eq-eqb, ne-eqb}
 use lib.Dec.{eqb}
 use Rattle.span.specs.Bytes.{part, splice}
-use Rattle.layout.specs.Numbers.{refusalNumber, refusal-some}
-use Rattle.store.specs.Write.{Write, WriteNumbers, writtenNumbers, writeOutcome}
+use Rattle.layout.specs.Numbers.{refusalNumber}
+use Rattle.layout.specs.NumberLaws.{refusal-some}
+use Rattle.writing.specs.Write.{Write, WriteNumbers, writtenNumbers, writeOutcome}
 use Rattle.layout.specs.declared.Kind.{Kind}
 use Rattle.layout.specs.declared.Refusal.{Refusal}
-use Rattle.store.specs.declared.Written.{Written}
-use Rattle.store.specs.declared.Written.the-variants.{Done, Refused}
+use Rattle.writing.specs.declared.Written.{Written}
+use Rattle.writing.specs.declared.Written.the-variants.{Done, Refused}
 use Rattle.promises.specs.RunWords.{Areas, Lent, taken, next, after, accepted}
 use Rattle.replay.specs.Writes.{both, lent, writes, marksOf, Replayed, Turned}
 

@@ -1,6 +1,6 @@
 // A run of writes from lent buffers, each on the areas that the ones before it left. What is proved of runs is so of this loop.
 use layout::Layout;
-use store::Written;
+use writing::Written;
 ghost use mathlib.Core.Path.{_≡_};
 ghost use Prim.Native.Nat.{_*_};
 ghost use Rattle.span.specs.Bytes.{part};
@@ -21,7 +21,7 @@ fn nth_page(pages: &[u8], i: usize) -> &[u8]
 fn turn(patch: &mut [u8], full: &mut [u8], block: u64, base: &[u8], page: &[u8]) -> u8
     ensures { λ r. ⌜ Turned pageSize (now (patch .entry)) (now (full .entry)) block (now (base .entry)) (now (page .entry)) r (now (patch .exit)) (now (full .exit)) ⌝ }
 {
-    match store::write::write(patch, full, block as usize, base, page) {
+    match writing::write(patch, full, block as usize, base, page) {
         Written::Done { kind: _, length: _ } => 1,
         Written::Refused(_) => 0,
     }

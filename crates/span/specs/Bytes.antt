@@ -5,13 +5,12 @@ use mathlib.Core.Bool.{Bool, true, false, _&&_}
 use mathlib.Core.List.{List, [], _∷_, _++_}
 use lib.Dec.{eqb}
 use lib.ListN.{length, take, drop, replicate}
+use lib.Seq.{sets}
+use mathlib.Core.Path.{_≡_}
 
--- how many bytes the code moves, and in how many places it counts differences, at one go
+-- how many bytes the code moves at one go
 abbrev pub bulk : ℕ
 bulk = 4 * 1024
-
-abbrev pub chunk : ℕ
-chunk = 64
 
 -- n zero bytes
 unfoldable pub zeros : ℕ → List ℕ
@@ -31,3 +30,8 @@ same [] [] = true
 same [] (y ∷ ys) = false
 same (x ∷ xs) [] = false
 same (x ∷ xs) (y ∷ ys) = eqb x y && same xs ys
+
+-- bytes stored from `at` on, as far as there is room, and the place after them
+pub record Put (room : List ℕ) (at : ℕ) (ys : List ℕ) (r : ℕ) (after : List ℕ) : Type 0 where
+  pub next : r ≡ at + length ys
+  pub bytes : after ≡ sets room at ys

@@ -3,12 +3,13 @@
 use Prim.Native.Nat.{ℕ, _+_, _-_, _≤_, _<_, min}
 use native.Mathlib.Omega.{arith}
 use native.Mathlib.Decide.{decLt}
+use native.Mathlib.Numerals.{add-one}
 use mathlib.Core.Path.{_≡_, refl, sym, ap, _∙_}
 use mathlib.Core.Bool.{Bool, true, false, _&&_, false≢true, and-true, and-assoc}
 use mathlib.Core.List.{List, [], _∷_, _++_}
 use lib.Dec.{eqb}
 use lib.ListN.{length, take, drop, getD, set, replicate, length-set, replicate-append-replicate, length-replicate, getD-replicate, length-append, length-take, length-drop, List·getD-append, List·getD-eq-default, drop-of-length-le}
-use lib.Seq.{getD-take, getD-drop, getD-append-add, ext-getD, length-take-le, drop-drop, take-add, take-all, take-nil, getD-set-same, getD-set-other, getD-append-seam, drop-at, take-length}
+use lib.Seq.{getD-take, getD-drop, getD-append-add, ext-getD, length-take-le, drop-drop, take-add, take-all, take-nil, getD-set-same, getD-set-other, getD-append-seam, drop-at, drop-cons, take-length}
 use borrow.Author.Tests.{eq-eqb, eqb-true}
 use borrow.Rule.Slice.PartMut.{midOf, putMid}
 use Rattle.span.specs.Bytes.{zeros, part, splice, same}
@@ -404,3 +405,7 @@ splice-join xs ys zs h =
           ∙ sym (ap (λ (p : ℕ). getD (ys ++ zs) p 0) r ∙ getD-append-add ys zs i 0)
     ])
     (λ i k o. splice-after s (length ys) zs (omega arith) i (omega arith) ∙ splice-after xs 0 ys (omega arith) i (omega arith))
+
+-- the list at a place: its byte there, and the list at the next place
+pub peel : (s : List ℕ) (m m′ : ℕ) → m < length s → m′ ≡ m + 1 → drop m s ≡ getD s m 0 ∷ drop m′ s
+peel s m m′ h e = drop-cons s m 0 h ∙ ap (λ (k : ℕ). getD s m 0 ∷ drop k s) (sym (e ∙ add-one m))

@@ -2,4 +2,3 @@ pub mod Bytes
 pub mod Laws
 pub mod Tests
 pub mod Told
-pub mod Differ

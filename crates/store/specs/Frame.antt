@@ -1,35 +1,12 @@
--- What the calls on both areas look at before they look at a block, and a block's own bytes.
-use Prim.Native.Nat.{ℕ, _+_, _-_, _*_, _/_, _≤_, _<_}
-use native.Mathlib.Nat.{mul-le-mul-left, mul-suc, zero-div}
-use native.Mathlib.Numerals.{add-one}
-use native.Mathlib.Omega.{arith}
-use mathlib.Core.Path.{_≡_, refl, sym, ap, _∙_}
-use mathlib.Core.Bool.{Bool, true, false, not, _&&_, cond}
-use mathlib.Core.Logic.{⊎-elim}
-use mathlib.Core.List.{List, [], _∷_, _++_, append-assoc}
-use lib.Dec.{leb}
-use Rattle.span.specs.Laws.{and-left, and-right}
-use Rattle.stream.specs.Calls.{pagesFit, pageRows}
-use Rattle.stream.specs.Laws.{page-length, base-length}
+-- What the calls on both areas look at before they look at a block.
+use Prim.Native.Nat.{ℕ}
+use mathlib.Core.List.{List, [], _∷_}
 use lib.ListN.{length}
-use Rattle.span.specs.Bytes.{part}
-use Rattle.layout.specs.Sizes.{fullHead, slotSize, slotAt, pageAt}
-use Rattle.layout.specs.Refusals.{Row, _⇐_, firstOf, orElse, first-append}
+use Rattle.layout.specs.Refusals.{Row}
 use Rattle.layout.specs.Groups.{opening, inOrder, _▸_}
 use Rattle.layout.specs.Groups as group
-use Rattle.layout.specs.Headers.{headerRows}
-use Rattle.layout.specs.Areas.{blocksIn, pagesIn, patchFits, fullFits, lengthRows, full-fits-is}
-
--- the slot of block b, and its place in the full area
-unfoldable pub slotOf : List ℕ → ℕ → List ℕ
-slotOf patch b = part (slotAt b) slotSize patch
-
-unfoldable pub placeOf : ℕ → List ℕ → ℕ → List ℕ
-placeOf P full b = part (pageAt P b) P full
-
--- "block not below n"
-abbrev pub blockRows : List ℕ → ℕ → List Row
-blockRows patch b = (5 ⇐ leb (blocksIn (length patch)) b) ∷ []
+use Rattle.headers.specs.Headers.{headerRows}
+use Rattle.layout.specs.Areas.{lengthRows}
 
 -- 1, 2, 9 and headers: what is decided before any block is looked at
 unfoldable pub frameRows : ℕ → List Row → List Row → List ℕ → List ℕ → List Row
@@ -37,82 +14,3 @@ frameRows P pages buffers patch full =
     inOrder opening
     ((group.pages ▸ pages) ∷ (group.lengths ▸ lengthRows P (length patch) (length full)) ∷ (group.buffers ▸ buffers)
     ∷ (group.headers ▸ headerRows P patch full) ∷ [])
-
--- Laws
-
-abbrev pub lengthsFit : ℕ → List ℕ → List ℕ → Bool
-lengthsFit P patch full = patchFits P (length patch) && fullFits P (blocksIn (length patch)) (length full)
-
--- the number of a frame, by its tests and the headers' number
-unfoldable pub frameBy : Bool → Bool → Bool → ℕ → ℕ
-frameBy pages lengths buffers headers = orElse (cond (not pages) 1 0) (orElse (cond (not lengths) 2 0) (orElse (cond (not buffers) 9 0) headers))
-
-module _ (P : ℕ) (patch full : List ℕ) where
-  pub frame-is : (a b : Bool) → firstOf (frameRows P ((1 ⇐ not a) ∷ []) ((9 ⇐ not b) ∷ []) patch full) ≡ frameBy a (lengthsFit P patch full) b (firstOf (headerRows P patch full))
-  unfolding frameRows frameBy firstOf lengthRows
-  frame-is a b = refl
-
-  -- a call without a buffer has no short one
-  pub frame-pages : (a : Bool) → firstOf (frameRows P ((1 ⇐ not a) ∷ []) [] patch full) ≡ firstOf (frameRows P ((1 ⇐ not a) ∷ []) ((9 ⇐ not true) ∷ []) patch full)
-  unfolding frameRows firstOf orElse lengthRows
-  frame-pages a = refl
-
-  -- a frame that is sound has sound lengths and headers
-  pub frame-sound : (a b : Bool) → frameBy a (lengthsFit P patch full) b (firstOf (headerRows P patch full)) ≡ 0
-      → (a ≡ true) × (lengthsFit P patch full ≡ true) × (b ≡ true) × (firstOf (headerRows P patch full) ≡ 0)
-  unfolding frameBy orElse
-  frame-sound a b e = go a (lengthsFit P patch full) b e
-    where
-      go : (a l b : Bool) → orElse (cond (not a) 1 0) (orElse (cond (not l) 2 0) (orElse (cond (not b) 9 0) (firstOf (headerRows P patch full)))) ≡ 0
-          → (a ≡ true) × (l ≡ true) × (b ≡ true) × (firstOf (headerRows P patch full) ≡ 0)
-      go true true true e = (refl, refl, refl, e)
-      go true true false e = absurd (omega arith)
-      go true false b e = absurd (omega arith)
-      go false l b e = absurd (omega arith)
-
--- an absent full area has no place
-pub none-in : (P l : ℕ) → l ≡ 0 → pagesIn P l ≡ 0
-unfolding pagesIn
-none-in P l e =
-    let q : l - fullHead ≡ 0 = omega arith in
-    ap (λ (k : ℕ). k / P) q ∙ zero-div P
-
--- every place below m lies in the full area
-abbrev pub Places : ℕ → List ℕ → Type 0
-Places P full = (b : ℕ) → b < pagesIn P (length full) → pageAt P b + P ≤ length full
-
-pub places : (P n : ℕ) (full : List ℕ) → 0 < P → fullFits P n (length full) ≡ true → Places P full
-places P n full h e b k = ⊎-elim absent present (full-fits-is P n (length full) e)
-  where
-    absent : length full ≡ 0 → pageAt P b + P ≤ length full
-    absent q = absurd (omega (arith, none-in P (length full) q, k))
-
-    present : (length full ≡ pageAt P (pagesIn P (length full))) × (pagesIn P (length full) ≤ n) → pageAt P b + P ≤ length full
-    present q =
-        let l : length full ≡ pageAt P (pagesIn P (length full)) = q .0 in
-        let m : P * (b + 1) ≤ P * pagesIn P (length full) = mul-le-mul-left P (omega arith) in
-        let d : P * (b + 1) ≡ P * b + P = ap (λ (k : ℕ). P * k) (add-one b) ∙ mul-suc P b in
-        omega arith
-
--- what the shared check of the frame says of a call with pages and no buffer
-pub frame-told : (P : ℕ) (patch full base page : List ℕ) (a : Bool) (k : ℕ) → a ≡ pagesFit P base page
-    → k ≡ firstOf (frameRows P ((1 ⇐ not a) ∷ []) ((9 ⇐ not true) ∷ []) patch full)
-    → firstOf (frameRows P (pageRows P base page) [] patch full) ≡ k
-frame-told P patch full base page a k e f = frame-pages P patch full (pagesFit P base page) ∙ sym (f ∙ ap (λ (t : Bool). firstOf (frameRows P ((1 ⇐ not t) ∷ []) ((9 ⇐ not true) ∷ []) patch full)) e)
-
--- and what a sound one gives: pages of their sizes, n not above the most, places that lie in the full area
-pub record Sound (P : ℕ) (patch full base page : List ℕ) : Type 0 where
-  pub page-size : length page ≡ P
-  pub base-size : (length base ≡ 0 → ⊥) → length base ≡ P
-  pub patch-fit : patchFits P (length patch) ≡ true
-  pub full-fit : fullFits P (blocksIn (length patch)) (length full) ≡ true
-
-pub sound-frame : (P : ℕ) (patch full base page : List ℕ) → firstOf (frameRows P (pageRows P base page) [] patch full) ≡ 0 → Sound P patch full base page
-sound-frame P patch full base page e =
-    let f = frame-sound P patch full (pagesFit P base page) true (sym (frame-is P patch full (pagesFit P base page) true) ∙ sym (frame-pages P patch full (pagesFit P base page)) ∙ e) in
-    record {
-      page-size = page-length P base page (f .0);
-      base-size = base-length P base page (f .0);
-      patch-fit = and-left (patchFits P (length patch)) (fullFits P (blocksIn (length patch)) (length full)) (f .1);
-      full-fit = and-right (patchFits P (length patch)) (fullFits P (blocksIn (length patch)) (length full)) (f .1);
-    }

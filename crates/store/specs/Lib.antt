@@ -2,9 +2,10 @@ pub mod Frame
 pub mod Format
 pub mod Judge
 pub mod Show
-pub mod Read
-pub mod Write
-pub mod Build
-pub mod BuildLaws
 pub mod Given
-pub mod BuildMeaning
+pub mod Block
+pub mod FormatLaws
+pub mod FrameLaws
+pub mod JudgeLaws
+pub mod ShowLaws
+pub mod BlockLaws

@@ -11,7 +11,7 @@ pub fn format(patch: &mut [u8], full: &mut [u8]) -> Formatted
     if !layout::area::lengths_fit(patch.len(), full.len()) {
         return Formatted::Refused(Refusal::Length);
     }
-    layout::head::begin_patch(patch);
-    layout::head::begin_full(full);
+    headers::begin_patch(patch);
+    headers::begin_full(full);
     Formatted::Done
 }

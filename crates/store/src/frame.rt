@@ -10,7 +10,7 @@ ghost use Rattle.layout.specs.Refusals.{_⇐_, firstOf};
 ghost use Rattle.store.specs.Frame.{frameRows};
 
 // The first of these that is wrong, told whether the call's pages and its buffer have the lengths that they must have.
-pub(crate) fn frame_fault(pages_fit: bool, buffer_fits: bool, patch: &[u8], full: &[u8]) -> Fault
+pub fn frame_fault(pages_fit: bool, buffer_fits: bool, patch: &[u8], full: &[u8]) -> Fault
     ensures { λ r. ⌜ faultNumber r ≡ firstOf (frameRows pageSize ((1 ⇐ not «pages_fit») ∷ []) ((9 ⇐ not «buffer_fits») ∷ []) (now (patch .entry)) (now (full .entry))) ⌝ }
 {
     if !pages_fit {
@@ -22,5 +22,5 @@ pub(crate) fn frame_fault(pages_fit: bool, buffer_fits: bool, patch: &[u8], full
     if !buffer_fits {
         return Fault::Found(Refusal::Buffer);
     }
-    layout::head::headers_fault(patch, full)
+    headers::headers_fault(patch, full)
 }

@@ -3,7 +3,7 @@ use crate::Judged;
 use layout::Kind;
 use layout::Layout;
 use layout::Refusal;
-use layout::SlotState;
+use slots::SlotState;
 ghost use Rattle.store.specs.Judge.{Judge};
 
 // A slot's kind and payload length. Entries are not looked at.
@@ -13,7 +13,7 @@ pub fn judge(slot: &[u8]) -> Judged
     if slot.len() != Layout::SLOT {
         return Judged::Refused(Refusal::Length);
     }
-    match layout::slot::slot_state(slot) {
+    match slots::slot_state(slot) {
         SlotState::Empty => Judged::Done {
             kind: Kind::Empty,
             length: 0,

@@ -1,12 +1,8 @@
-// The calls on areas. Every call checks first and changes after: a refusal is decided before the first byte is written.
-pub mod build;
-mod carry;
+// What all calls on areas share, and Format, Judge and Show. Every call checks first and changes after: a refusal is decided before the first byte is written.
 pub mod format;
-mod frame;
+pub mod frame;
 pub mod judge;
-pub mod read;
 pub mod show;
-pub mod write;
 
 use layout::Kind;
 use layout::Refusal;
@@ -21,24 +17,6 @@ pub enum Formatted {
 pub enum Judged {
     Done { kind: Kind, length: usize },
     Refused(Refusal),
-}
-
-// What Read answers: the kind of the block's slot.
-pub enum Reading {
-    Done { kind: Kind },
-    Refused(Refusal),
-}
-
-// What Write answers: the kind stored, and the stream's length.
-pub enum Written {
-    Done { kind: Kind, length: usize },
-    Refused(Refusal),
-}
-
-// What Build answers. With a slot, payload, full page or place that is wrong comes its block; with any other refusal, 0.
-pub enum Built {
-    Done,
-    Refused { refusal: Refusal, block: usize },
 }
 
 // A part of a patch area.

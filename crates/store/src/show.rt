@@ -13,14 +13,14 @@ pub fn payload_place(patch: &[u8], block: usize) -> Place
     if !layout::area::patch_fits(patch.len()) {
         return Place { at: 0, len: 0 };
     }
-    match layout::head::patch_fault(patch) {
+    match headers::patch_fault(patch) {
         Fault::Found(_) => Place { at: 0, len: 0 },
         Fault::Nothing => {
             if layout::area::blocks(patch.len()) <= block {
                 return Place { at: 0, len: 0 };
             }
             let at = Layout::slot_at(block as u32);
-            let n = layout::slot::payload_length(span::part(patch, at, Layout::SLOT));
+            let n = slots::payload_length(span::part(patch, at, Layout::SLOT));
             if n == 0 {
                 return Place { at: 0, len: 0 };
             }

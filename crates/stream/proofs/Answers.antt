@@ -17,12 +17,15 @@ use Rattle.layout.specs.Numbers.{kindNumber}
 use Rattle.layout.specs.declared.Kind.{Kind}
 use Rattle.layout.specs.declared.Kind.the-variants.{Patch}
 use Rattle.layout.specs.declared.Refusal.the-variants.{Page, Payload, Buffer}
-use Rattle.stream.specs.Entries.{payloadStream, sound, entries, last, applied}
-use Rattle.stream.specs.Differences.{diffs, coded, written}
-use Rattle.stream.specs.Steps.{farthest, reach, near, SoundAs, Applies, application, Differs, Compares}
+use Rattle.payload.specs.Entries.{payloadStream, sound, entries, last, applied}
+use Rattle.writer.specs.Differences.{diffs, coded, written}
+use Rattle.payload.specs.Steps.{farthest, reach, SoundAs}
+use Rattle.writer.specs.Steps.{near, Differs}
+use Rattle.stream.specs.Steps.{Applies, application, Compares}
 use Rattle.stream.specs.Calls.{pageOf, pagesFit, applyRows, Apply, appliedNumbers, kindFor, compareRows, comparison, compareNumbers, compareBuffer, ComparedNumbers, comparedNumbers, Compare}
-use Rattle.stream.specs.Laws.{patch-fits, page-length, apply-number, apply-done, apply-not, compare-number, compare-done, compare-not, differs-near}
-use Rattle.stream.specs.declared.Difference.{Difference}
+use Rattle.stream.specs.Laws.{patch-fits, page-length, apply-number, apply-done, apply-not, compare-number, compare-done, compare-not}
+use Rattle.writer.specs.StepLaws.{differs-near}
+use Rattle.writer.specs.declared.Difference.{Difference}
 use Rattle.stream.specs.declared.Compared.{Compared}
 use Rattle.stream.specs.declared.Compared.the-variants.{Done as ComparedDone, Refused as ComparedRefused}
 use Rattle.stream.specs.declared.Applied.{Applied}

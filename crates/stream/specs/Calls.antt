@@ -13,8 +13,8 @@ use Rattle.layout.specs.Numbers.{kindNumber, refusalNumber}
 use Rattle.layout.specs.Refusals.{Row, _⇐_, firstOf, decided}
 use Rattle.layout.specs.Groups.{ordered, _▸_}
 use Rattle.layout.specs.Groups as group
-use Rattle.stream.specs.Entries.{start, payloadStream, sound, entries, last, applied}
-use Rattle.stream.specs.Differences.{Change, diffs, coded, lastPlace}
+use Rattle.payload.specs.Entries.{start, payloadStream, sound, entries, last, applied}
+use Rattle.writer.specs.Differences.{Change, diffs, coded, lastPlace}
 use Rattle.stream.specs.declared.Compared.{Compared}
 use Rattle.stream.specs.declared.Compared.the-variants.{Done as ComparedDone, Refused as ComparedRefused}
 use Rattle.stream.specs.declared.Applied.{Applied}

@@ -12,8 +12,8 @@ use Rattle.span.specs.Bytes.{zeros, splice}
 use Rattle.layout.specs.Sizes.{pageSize, room}
 use Rattle.layout.specs.Numbers.{le}
 use Rattle.layout.specs.Refusals.{firstOf}
-use Rattle.stream.specs.Entries.{stream, inPage, whole, sound, entries, last, put, applied, payloadStream, start}
-use Rattle.stream.specs.Differences.{diffs, spelled, coded, lastPlace}
+use Rattle.payload.specs.Entries.{stream, inPage, whole, sound, entries, last, put, applied, payloadStream, start}
+use Rattle.writer.specs.Differences.{diffs, spelled, coded, lastPlace}
 use Rattle.stream.specs.Calls.{pageOf, kindFor, comparison, compareNumbers, compareBuffer, ComparedNumbers, applyRows, applyNumbers, applyPage}
 use Rattle.stream.specs.Laws.{fits-none, compare-number, compare-done, compare-written, compare-kept, apply-number, apply-done, apply-not}
 

@@ -2,7 +2,8 @@
 use Prim.Native.Nat.{ℕ}
 use mathlib.Core.Path.{_≡_, refl}
 use mathlib.Core.List.{List}
-use Rattle.layout.specs.Refusals.{firstOf, decided-number, Exactly, exactly, no-row, row}
+use Rattle.layout.specs.Refusals.{firstOf}
+use Rattle.layout.specs.RefusalLaws.{decided-number, Exactly, exactly, no-row, row}
 use Rattle.layout.specs.Groups.{ordered}
 use Rattle.stream.specs.Calls.{compareRows, compareNumbers, AppliedNumbers, applyRows, applyNumbers}
 use Rattle.stream.specs.Kinds.{compare-gives}

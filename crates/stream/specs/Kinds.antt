@@ -14,12 +14,13 @@ use Rattle.span.specs.Bytes.{part}
 use Rattle.span.specs.Laws.{part-splice}
 use Rattle.layout.specs.Sizes.{room}
 use Rattle.layout.specs.Numbers.{le}
-use Rattle.layout.specs.Refusals.{firstOf, decided-number}
-use Rattle.stream.specs.Entries.{sound, entries, last}
-use Rattle.stream.specs.Differences.{Change, diffs, spelled, coded, written}
+use Rattle.layout.specs.Refusals.{firstOf}
+use Rattle.layout.specs.RefusalLaws.{decided-number}
+use Rattle.payload.specs.Entries.{sound, entries, last}
+use Rattle.writer.specs.Differences.{Change, diffs, spelled, coded, written}
 use Rattle.stream.specs.Calls.{pageOf, pagesFit, kindFor, comparison, compareRows, compareNumbers, compareBuffer, ComparedNumbers, applyRows, applyNumbers, applyPage}
 use Rattle.stream.specs.Laws.{page-length, present-length, kind-none, kind-large, kind-patch, patch-fits, compare-number, compare-done, compare-written, apply-number, apply-done}
-use Rattle.stream.specs.ReadBack.{Back, read-back}
+use Rattle.writer.specs.ReadBack.{Back, read-back}
 
 -- By the stream
 

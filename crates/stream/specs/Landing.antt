@@ -11,15 +11,15 @@ use lib.Seq.{getD-set-same, getD-set-other}
 use lib.IntN.{ℤ, pos, _+ℤ_}
 use Rattle.layout.specs.Sizes.{room}
 use Rattle.layout.specs.Numbers.{le}
-use Rattle.stream.specs.Entries.{Stream, entry, code, inPage, stream, start, payloadStream, sound, entries, last, put, applied}
-use Rattle.stream.specs.Differences.{Change, lastPlace}
+use Rattle.payload.specs.Entries.{Stream, entry, code, inPage, stream, start, payloadStream, sound, entries, last, put, applied}
+use Rattle.writer.specs.Differences.{Change, lastPlace}
 use Rattle.stream.specs.Calls.{pageOf, pagesFit, appliedNumbers, Apply}
-use Rattle.stream.specs.Steps.{before}
+use Rattle.writer.specs.Steps.{before}
 use Rattle.stream.specs.Laws.{pages-fit, present-length, apply-number, apply-done, apply-not}
-use Rattle.stream.specs.StreamLaws.{short-in, long-in}
-use Rattle.stream.specs.Spelling.{Form, short, long, Spelt, takes, bytes, joined, Coded, Inside, Stays, Spelled, Bytes, inside-page, two-bytes, spelled-sound, sound-spelled}
-use Rattle.stream.specs.Writer.{In, Rising, Below, placed}
-use Rattle.stream.specs.ReadBack.{before-next, moved, pokes}
+use Rattle.payload.specs.EntryLaws.{short-in, long-in}
+use Rattle.payload.specs.Spelling.{Form, short, long, Spelt, takes, bytes, joined, Coded, Inside, Stays, Spelled, Bytes, inside-page, two-bytes, spelled-sound, sound-spelled}
+use Rattle.writer.specs.Writer.{In, Rising, Below, placed}
+use Rattle.writer.specs.ReadBack.{before-next, moved, pokes}
 use Rattle.stream.specs.Only.{applied-one}
 use Rattle.stream.specs.declared.Applied.{Applied}
 use Rattle.stream.specs.declared.Applied.the-variants.{Done, Refused}

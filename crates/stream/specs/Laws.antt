@@ -1,7 +1,7 @@
 -- The laws of Compare's and Apply's definitions: when the pages fit, what the refusals come to, and each call's outcome by its number.
 use Prim.Native.Nat.{ℕ, suc, _<_, _≤_}
 use native.Mathlib.Omega.{arith}
-use mathlib.Core.Path.{_≡_, refl, sym, ap, _∙_, subst}
+use mathlib.Core.Path.{_≡_, refl, sym, ap, _∙_}
 use mathlib.Core.Bool.{Bool, true, false, not, cond, _&&_, _||_, and-true, and-false, or-true, false≢true}
 use mathlib.Core.List.{List, [], _∷_}
 use mathlib.Core.Logic.{_⊎_, inl, inr}
@@ -10,16 +10,14 @@ use lib.ListN.{length}
 use lib.IntN.{pos}
 use borrow.Author.Tests.{eq-eqb, ne-eqb, eqb-true, eqb-false, le-leb, lt-leb}
 use native.Mathlib.Decide.{decLt}
-use lib.Seq.{take-all}
-use Rattle.span.specs.Bytes.{zeros, splice, part}
+use Rattle.span.specs.Bytes.{zeros, splice}
 use Rattle.span.specs.Laws.{zeros-length}
 use Rattle.layout.specs.Sizes.{room}
-use Rattle.layout.specs.Refusals.{_⇐_, firstOf, orElse, decided-done, decided-refused}
+use Rattle.layout.specs.Refusals.{_⇐_, firstOf, orElse}
+use Rattle.layout.specs.RefusalLaws.{decided-done, decided-refused}
 use Rattle.layout.specs.Groups.{ordered}
-use Rattle.stream.specs.Entries.{payloadStream, sound, entries, last, start, applied}
-use Rattle.stream.specs.Differences.{diffs, coded, written}
-use Rattle.stream.specs.Steps.{farthest, near, Differs}
-use Rattle.stream.specs.declared.Difference.{Difference}
+use Rattle.payload.specs.Entries.{payloadStream, sound, entries, last, start, applied}
+use Rattle.writer.specs.Differences.{diffs, coded}
 use Rattle.stream.specs.Calls.{pageOf, pagesFit, kindFor, compareRows, comparison, compareNumbers, compareBuffer, ComparedNumbers, applyRows, applyNumbers, applyPage}
 
 -- Pages
@@ -60,6 +58,15 @@ base-none P base h = rw (eq-eqb (length base) 0 h)
 pub base-some : (P : ℕ) (base : List ℕ) → (length base ≡ 0 → ⊥) → pageOf P base ≡ base
 unfolding pageOf
 base-some P base h = rw (ne-eqb (length base) 0 h)
+
+-- a base of zeros is its own page
+pub zeros-base : (P : ℕ) → pageOf P (zeros P) ≡ zeros P
+unfolding pageOf
+zeros-base P = go (eqb (length (zeros P)) 0)
+  where
+    go : (t : Bool) → cond t (zeros P) (zeros P) ≡ zeros P
+    go true = refl
+    go false = refl
 
 -- the page that a base stands for has the size
 pub present-length : (P : ℕ) (base page : List ℕ) → pagesFit P base page ≡ true → length (pageOf P base) ≡ P
@@ -120,21 +127,6 @@ patch-fits n e =
       | yes h ↦ absurd (omega (arith, e ∙ sym (kind-large n h)))
       | no h ↦ omega arith
     ]
-
--- The pieces, in pages of an ordinary size
-
-pub near-is : (page : List ℕ) → length page ≤ farthest → near page ≡ page
-unfolding part
-near-is page h = take-all farthest page h
-
-pub differs-near : (base page room₀ after : List ℕ) (d : Difference) → length page ≤ farthest → Differs base (near page) room₀ d after → Differs base page room₀ d after
-differs-near base page room₀ after d h w = subst (λ (l : List ℕ). Differs base l room₀ d after) (near-is page h) w
-
--- where there is room for the whole stream, it is there
-pub differs-fits : (base page room₀ after : List ℕ) (d : Difference) → Differs base page room₀ d after → d .length ≤ length room₀ → after ≡ splice room₀ 0 (written base page)
-differs-fits base page room₀ after d w h =
-    let e : d .length ≡ length (written base page) = w .numbers .length in
-    w .bytes ∙ ap (λ (l : List ℕ). splice room₀ 0 l) (take-all (length room₀) (written base page) (omega arith))
 
 -- Compare
 

@@ -1,14 +1,8 @@
-pub mod Entries
-pub mod Differences
 pub mod Calls
 pub mod Steps
 pub mod Laws
 pub mod Edges
 pub mod Only
-pub mod StreamLaws
-pub mod Spelling
-pub mod Writer
-pub mod ReadBack
 pub mod Landing
 pub mod Kinds
 pub mod Given

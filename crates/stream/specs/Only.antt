@@ -2,7 +2,7 @@
 use Prim.Native.Nat.{ℕ}
 use mathlib.Core.Path.{_≡_, sym, ap, _∙_}
 use mathlib.Core.List.{List}
-use Rattle.layout.specs.Numbers.{kind-one, refusal-one, refusal-some}
+use Rattle.layout.specs.NumberLaws.{kind-one, refusal-one, refusal-some}
 use Rattle.stream.specs.Calls.{ComparedNumbers, comparedNumbers, Compare, AppliedNumbers, appliedNumbers, Apply}
 use Rattle.stream.specs.declared.Compared.{Compared}
 use Rattle.stream.specs.declared.Compared.the-variants.{Done as ComparedDone, Refused as ComparedRefused}

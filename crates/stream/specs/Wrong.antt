@@ -8,7 +8,7 @@ use lib.ListN.{getD}
 use Rattle.span.specs.Bytes.{zeros}
 use Rattle.layout.specs.Sizes.{pageSize}
 use Rattle.layout.specs.declared.Refusal.the-variants.{Payload}
-use Rattle.stream.specs.Entries.{stream, inPage, put, applied, payloadStream}
+use Rattle.payload.specs.Entries.{stream, inPage, put, applied, payloadStream}
 use Rattle.stream.specs.Calls.{pageOf, Apply}
 use Rattle.stream.specs.Edges.{refuses-cut}
 use Rattle.stream.specs.declared.Applied.the-variants.{Refused as AppliedRefused}

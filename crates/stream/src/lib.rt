@@ -1,17 +1,15 @@
 // A page against its base: the differences as a stream of (jump, value) entries.
-pub mod encode;
-pub mod entry;
-pub mod payload;
-
 use layout::Kind;
 use layout::Layout;
 use layout::Refusal;
+use payload::Checked;
 ghost use mathlib.Core.Path.{_≡_};
 ghost use Prim.Native.Nat.{_≤_};
 ghost use lib.ListN.{length as lengthOf};
 ghost use Rattle.layout.specs.Sizes.{pageSize, room as roomOf};
 ghost use Rattle.layout.specs.Numbers.{kindNumber};
-ghost use Rattle.stream.specs.Steps.{farthest, reach, Applies, Compares};
+ghost use Rattle.payload.specs.Steps.{farthest, reach};
+ghost use Rattle.stream.specs.Steps.{Applies, Compares};
 ghost use Rattle.stream.specs.Calls.{pagesFit, kindFor, Apply, Compare};
 ghost use Rattle.stream.specs.declared.Compared.the-variants.{Done as ComparedDone};
 
@@ -30,45 +28,6 @@ pub enum Compared {
 pub enum Applied {
     Done { entries: usize, last: i32 },
     Refused(Refusal),
-}
-
-// What stands next in a payload: nothing more, no whole entry that stays in the page, or an entry's place and value, and where the
-// payload goes on after it.
-pub enum Step {
-    End,
-    Broken,
-    Entry {
-        position: i32,
-        value: u8,
-        next: usize,
-    },
-}
-
-// What a check of a whole payload finds: the number of entries and the last position of a sound one.
-pub enum Checked {
-    Unsound,
-    Sound { entries: usize, last: i32 },
-}
-
-// The writer's stream of two pages: its length, its number of entries, and the last differing position.
-pub struct Difference {
-    pub length: usize,
-    pub entries: usize,
-    pub last: i32,
-}
-
-// The numbers of the stream's codes, each once.
-pub struct Code;
-
-impl Code {
-    // The first byte of an entry with a 16-bit jump, and how many bytes an entry takes.
-    pub const LONG: u8 = 255;
-
-    pub const SHORT_WIDTH: usize = 2;
-
-    pub const LONG_WIDTH: usize = 4;
-    // The most bytes of a page that 16-bit jumps are made for.
-    pub const REACH: usize = 65536;
 }
 
 // Whether a base and another page have the lengths that they may have.
@@ -115,7 +74,7 @@ fn compare_to(base: &[u8], page: &[u8], payload: &mut [u8]) -> Compared
     ensures { λ r. ⌜ Compares (now (base .entry)) (now (page .entry)) (now (payload .entry)) r (now (payload .exit)) ⌝ }
 {
     let mut room = [0u8; Layout::ROOM];
-    let d = encode::difference(base, page, &mut room);
+    let d = writer::stream_of(base, page, &mut room);
     let length = d.length;
     match kind_for(length) {
         Kind::Empty => answered(Kind::Empty, length, d.entries, d.last),

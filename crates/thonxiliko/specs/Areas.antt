@@ -6,14 +6,14 @@ use Rattle.store.specs.Show.{showPlace}
 use Rattle.store.specs.declared.Place.{Place}
 use Rattle.store.specs.Format.{Format, formattedNumber, formatOutcome}
 use Rattle.store.specs.Judge.{Judge, JudgedNumbers, judgedNumbers, judgeNumbers}
-use Rattle.store.specs.Read.{Read, ReadNumbers, readingNumbers, readNumbers, readOutcome}
-use Rattle.store.specs.Write.{Write, WriteNumbers, writtenNumbers, writeNumbers, writeOutcome}
-use Rattle.store.specs.Build.{Build, BuildNumbers, builtNumbers, buildNumbers, buildOutcome}
+use Rattle.reading.specs.Read.{Read, ReadNumbers, readingNumbers, readNumbers, readOutcome}
+use Rattle.writing.specs.Write.{Write, WriteNumbers, writtenNumbers, writeNumbers, writeOutcome}
+use Rattle.building.specs.Build.{Build, BuildNumbers, builtNumbers, buildNumbers, buildOutcome}
 use Rattle.store.specs.declared.Formatted.{Formatted}
 use Rattle.store.specs.declared.Judged.{Judged}
-use Rattle.store.specs.declared.Reading.{Reading}
-use Rattle.store.specs.declared.Written.{Written}
-use Rattle.store.specs.declared.Built.{Built}
+use Rattle.reading.specs.declared.Reading.{Reading}
+use Rattle.writing.specs.declared.Written.{Written}
+use Rattle.building.specs.declared.Built.{Built}
 use Rattle.thonxiliko.specs.declared.«thx_done».{«thx_done»}
 use Rattle.thonxiliko.specs.declared.«thx_judged».{«thx_judged»}
 use Rattle.thonxiliko.specs.declared.«thx_part».{«thx_part»}

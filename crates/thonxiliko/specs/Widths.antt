@@ -13,15 +13,15 @@ use Rattle.layout.specs.Sizes.{pageSize, room}
 use Rattle.layout.specs.Numbers.{le}
 use Rattle.layout.specs.Refusals.{Row, _⇐_, firstOf, orElse, decided}
 use Rattle.layout.specs.Groups.{ordered}
-use Rattle.layout.specs.Slots.{slotNumbers, soundSlot, unsoundSlot, payloadLength, payloadOf, isPatch, emptySlot, patchSlot, fullSlot}
-use Rattle.stream.specs.Differences.{Change, diffs, spelled, coded, written}
-use Rattle.stream.specs.Entries.{sound, entries, payloadStream}
-use Rattle.stream.specs.StreamLaws.{sound-few}
+use Rattle.slots.specs.Slots.{slotNumbers, soundSlot, unsoundSlot, payloadLength, payloadOf, isPatch, emptySlot, patchSlot, fullSlot}
+use Rattle.writer.specs.Differences.{Change, diffs, spelled, coded, written}
+use Rattle.payload.specs.Entries.{sound, entries, payloadStream}
+use Rattle.payload.specs.EntryLaws.{sound-few}
 use Rattle.stream.specs.Calls.{pageOf, pagesFit, ComparedNumbers, comparedNumbers, comparison, compareNumbers, Compare, AppliedNumbers, appliedNumbers, applyRows, applyNumbers, Apply}
 use Rattle.stream.specs.Laws.{page-length, compare-done, apply-number, apply-done, apply-not}
 use Rattle.stream.specs.Kinds.{compare-gives, accepted-fits}
 use Rattle.store.specs.Judge.{Judge, JudgedNumbers, judgedNumbers, judgeRows, judgeNumbers}
-use Rattle.store.specs.Write.{Write, WriteNumbers, writtenNumbers, writeNumbers, decidedStream, writeRows, writeOutcome}
+use Rattle.writing.specs.Write.{Write, WriteNumbers, writtenNumbers, writeNumbers, decidedStream, writeRows, writeOutcome}
 use Rattle.layout.specs.declared.Kind.{Kind}
 use Rattle.stream.specs.declared.Compared.{Compared}
 use Rattle.stream.specs.declared.Compared.the-variants.{Done as ComparedDone}
@@ -29,8 +29,8 @@ use Rattle.stream.specs.declared.Applied.{Applied}
 use Rattle.stream.specs.declared.Applied.the-variants.{Done as AppliedDone}
 use Rattle.store.specs.declared.Judged.{Judged}
 use Rattle.store.specs.declared.Judged.the-variants.{Done as JudgedDone}
-use Rattle.store.specs.declared.Written.{Written}
-use Rattle.store.specs.declared.Written.the-variants.{Done as WrittenDone}
+use Rattle.writing.specs.declared.Written.{Written}
+use Rattle.writing.specs.declared.Written.the-variants.{Done as WrittenDone}
 
 -- The writer's stream has no more entries than the page has bytes, of four bytes at most
 

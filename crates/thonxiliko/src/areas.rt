@@ -5,11 +5,11 @@ use crate::thx_judged;
 use crate::thx_part;
 use crate::thx_reading;
 use crate::thx_written;
-use store::Built;
+use building::Built;
+use reading::Reading;
 use store::Formatted;
 use store::Judged;
-use store::Reading;
-use store::Written;
+use writing::Written;
 ghost use Rattle.layout.specs.Sizes.{pageSize};
 ghost use Rattle.thonxiliko.specs.Areas.{ThxFormat, ThxJudge, ThxShow, ThxRead, ThxWrite, ThxBuild};
 
@@ -65,7 +65,7 @@ pub extern "C" fn thx_read(
 ) -> thx_reading
     ensures { λ r. ⌜ ThxRead pageSize (now (patch .entry)) (now (full .entry)) block (now (base .entry)) (now (page .entry)) r (now (page .exit)) ⌝ }
 {
-    match store::read::read(patch, full, block as usize, base, page) {
+    match reading::read(patch, full, block as usize, base, page) {
         Reading::Done { kind } => thx_reading {
             number: 0,
             kind: layout::number::kind_number(kind),
@@ -87,7 +87,7 @@ pub extern "C" fn thx_write(
 ) -> thx_written
     ensures { λ r. ⌜ ThxWrite pageSize (now (patch .entry)) (now (full .entry)) block (now (base .entry)) (now (page .entry)) r (now (patch .exit)) (now (full .exit)) ⌝ }
 {
-    match store::write::write(patch, full, block as usize, base, page) {
+    match writing::write(patch, full, block as usize, base, page) {
         Written::Done { kind, length } => thx_written {
             number: 0,
             kind: layout::number::kind_number(kind),
@@ -105,7 +105,7 @@ pub extern "C" fn thx_write(
 pub extern "C" fn thx_build(patch: &[u8], full: &[u8], map: &mut [u8]) -> thx_built
     ensures { λ r. ⌜ ThxBuild pageSize (now (patch .entry)) (now (full .entry)) (now (map .entry)) r (now (map .exit)) ⌝ }
 {
-    match store::build::build(patch, full, map) {
+    match building::build(patch, full, map) {
         Built::Done => thx_built {
             number: 0,
             block: 0,

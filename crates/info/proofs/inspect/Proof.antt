@@ -3,7 +3,7 @@ use lib.IntN.{ℤ}
 use mir.Syntax.{w32}
 use mir.Val.{toZ, ofZ}
 use mir.ValLaws.{toZ-ofZ}
-use Rattle.layout.specs.Slots.{stateNumbers}
+use Rattle.slots.specs.Slots.{stateNumbers}
 use Rattle.layout.specs.Sizes.{pageSize}
 use Rattle.info.proofs.Told.{broken-told, patch-told}
 use Rattle.info.specs.Info.{info-length, info-slot, info-bare}

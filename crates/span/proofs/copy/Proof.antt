@@ -1,10 +1,9 @@
 use borrow.Rule.Slice.PartMut.{same-len-mid}
 use lib.Seq.{length-take-le}
-use lib.ListN.{length-drop}
+use lib.ListN.{length-drop, length, take, drop}
 use Rattle.span.proofs.Turns.{moved-on}
 use Rattle.span.specs.Laws.{splice-none, take-min, put-splice, put-copied}
 use Rattle.span.specs.Bytes.{splice}
-use lib.ListN.{length, take, drop}
 use mathlib.Core.List.{List}
 use mathlib.Core.Path.{_≡_, refl, sym, ap, _∙_}
 use native.Mathlib.Omega.{arith}

@@ -5,8 +5,8 @@ use lib.IntN.{ℤ}
 use lib.ListN.{length}
 use Prim.Native.Nat.{ℕ}
 use mathlib.Core.Path.{subst}
-use Rattle.stream.specs.declared.Checked.{Checked}
-use Rattle.stream.specs.Steps.{reach, Judges, SoundAs}
+use Rattle.payload.specs.declared.Checked.{Checked}
+use Rattle.payload.specs.Steps.{reach, Judges, SoundAs}
 use Rattle.stream.proofs.Answers.{applies-unsound, applies-sound}
 use borrow.Author.Needs.{needs}
 use Rattle.stream.proofs.apply_to.Statement.{statement}

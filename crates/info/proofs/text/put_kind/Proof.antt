@@ -1,7 +1,7 @@
 use Rattle.info.specs.Text.{kindLine}
 use Rattle.layout.specs.Numbers.{kindNumber}
 use Rattle.layout.specs.declared.Kind.{Kind}
-use Rattle.stream.specs.Steps.{Put}
+use Rattle.span.specs.Bytes.{Put}
 use mathlib.Core.Path.{sym, subst}
 use native.Mathlib.Omega.{arith}
 use borrow.Author.Needs.{needs}

@@ -4,7 +4,7 @@ use mir.ValLaws.{toZ-ofZ}
 use mir.Val.{toZ, ofZ}
 use mir.Syntax.{w32}
 use lib.IntN.{ℤ}
-use Rattle.stream.specs.Steps.{Put}
+use Rattle.span.specs.Bytes.{Put}
 use mathlib.Core.List.{List}
 use mathlib.Core.Path.{subst}
 use native.Mathlib.Omega.{arith}

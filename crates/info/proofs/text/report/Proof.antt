@@ -1,6 +1,6 @@
 use Rattle.info.specs.Text.{text}
 use Rattle.info.specs.Info.{InfoNumbers}
-use Rattle.stream.specs.Steps.{Put}
+use Rattle.span.specs.Bytes.{Put}
 use mathlib.Core.Path.{subst}
 use native.Mathlib.Omega.{arith}
 use borrow.Author.Needs.{needs}

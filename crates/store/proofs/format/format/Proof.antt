@@ -1,6 +1,7 @@
 use Rattle.span.specs.Told.{on, off}
-use Rattle.store.specs.Format.{formatOutcome, format-refused, format-done, format-patch, format-full}
-use Rattle.layout.specs.Areas.{freshPatch, freshFull}
+use Rattle.store.specs.Format.{formatOutcome}
+use Rattle.store.specs.FormatLaws.{format-refused, format-done, format-patch, format-full}
+use Rattle.headers.specs.Fresh.{freshPatch, freshFull}
 use Rattle.layout.specs.Sizes.{pageSize}
 use lib.ListN.{length}
 use mathlib.Core.Path.{_≡_, _∙_}

@@ -1,5 +1,5 @@
 use Rattle.span.specs.Told.{on, off}
-use Rattle.store.specs.Frame.{frame-is, frameBy}
+use Rattle.store.specs.FrameLaws.{frame-is, frameBy}
 use Rattle.layout.specs.Refusals.{orElse}
 use Rattle.layout.specs.Sizes.{pageSize}
 use mathlib.Core.Path.{refl}

@@ -1,5 +1,5 @@
-use Rattle.store.specs.Judge.{judge-length, judge-slot, judge-done}
-use Rattle.layout.specs.Slots.{stateNumbers}
+use Rattle.store.specs.JudgeLaws.{judge-length, judge-slot, judge-done}
+use Rattle.slots.specs.Slots.{stateNumbers}
 use mathlib.Core.List.{List}
 use mathlib.Core.Path.{sym, ap, _∙_}
 use Prim.Native.Nat.{ℕ}

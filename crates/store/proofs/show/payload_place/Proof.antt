@@ -1,12 +1,16 @@
 use Rattle.span.specs.Told.{on, off}
 use Rattle.store.specs.declared.Place.{Place}
-use Rattle.store.specs.Frame.{slotOf}
-use Rattle.store.specs.Show.{showPlace, show-length, show-header, show-block, show-slot, show-done}
-use Rattle.layout.specs.Slots.{isPatch, payloadLength, length-none, length-some}
+use Rattle.store.specs.Block.{slotOf}
+use Rattle.store.specs.Show.{showPlace}
+use Rattle.store.specs.ShowLaws.{show-length, show-header, show-block, show-slot, show-done}
+use Rattle.slots.specs.Slots.{isPatch, payloadLength}
+use Rattle.slots.specs.SlotLaws.{length-none, length-some}
 use Rattle.layout.specs.Refusals.{firstOf}
-use Rattle.layout.specs.Headers.{patchHeadRows}
-use Rattle.layout.specs.Areas.{blocksIn, patchFits, patch-fits-is}
-use Rattle.layout.specs.Numbers.{faultNumber, refusalNumber, refusal-some}
+use Rattle.headers.specs.Headers.{patchHeadRows}
+use Rattle.layout.specs.Areas.{blocksIn, patchFits}
+use Rattle.layout.specs.AreaLaws.{patch-fits-is}
+use Rattle.layout.specs.Numbers.{faultNumber, refusalNumber}
+use Rattle.layout.specs.NumberLaws.{refusal-some}
 use Rattle.layout.specs.Sizes.{pageSize, slotSize, slotAt, payloadAt, blocksAtMost}
 use Rattle.span.specs.Bytes.{part}
 use lib.ListN.{length}

@@ -1,5 +1,5 @@
 use Rattle.thonxiliko.specs.Areas.{build-held}
-use Rattle.store.specs.Build.{builtNumbers}
+use Rattle.building.specs.Build.{builtNumbers}
 use mathlib.Core.Path.{sym, ap, _∙_}
 use borrow.Author.Needs.{needs}
 use Rattle.thonxiliko.proofs.areas.thx_build.Statement.{statement}

@@ -1,5 +1,5 @@
 use Rattle.thonxiliko.specs.Areas.{read-held}
-use Rattle.store.specs.Read.{readingNumbers}
+use Rattle.reading.specs.Read.{readingNumbers}
 use mathlib.Core.Path.{sym, ap, _∙_}
 use borrow.Author.Needs.{needs}
 use Rattle.thonxiliko.proofs.areas.thx_read.Statement.{statement}

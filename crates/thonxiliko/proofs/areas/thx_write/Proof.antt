@@ -1,6 +1,6 @@
 use Rattle.thonxiliko.specs.Widths.{write-fits}
 use Rattle.thonxiliko.specs.Areas.{write-held}
-use Rattle.store.specs.Write.{writtenNumbers}
+use Rattle.writing.specs.Write.{writtenNumbers}
 use mathlib.Core.Path.{sym, ap, _∙_}
 use borrow.Author.Needs.{needs}
 use Rattle.thonxiliko.proofs.areas.thx_write.Statement.{statement}

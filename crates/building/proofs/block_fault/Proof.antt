@@ -1,0 +1,106 @@
+use Rattle.building.proofs.BuildTold.{told-unsound, told-full-none, told-full, told-empty, told-payload, told-patched}
+use Rattle.layout.specs.Sizes.{pageSize}
+use native.Mathlib.Omega.{arith}
+use mathlib.Core.Path.{_∙_}
+use borrow.Author.Needs.{needs}
+use Rattle.building.proofs.block_fault.Statement.{statement}
+use Rattle.building.proofs.block_fault.Tie as tie
+
+slot-at-requires : tie.Need-slot-at-requires
+slot-at-requires c κs = search needs
+
+part-requires : tie.Need-part-requires
+part-requires c κs = search needs
+
+slot-state-requires : tie.Need-slot-state-requires
+slot-state-requires c κs = search needs
+
+enum-told : tie.Need-enum-told
+enum-told c = search needs
+
+enum-told-2 : tie.Need-enum-told-2
+enum-told-2 c = search needs
+
+pages-requires : tie.Need-pages-requires
+pages-requires c κs = search needs
+
+returns : tie.Need-returns
+returns c =
+    let a = c .before .before .before .before .before .before .before .before .before .args in
+    told-full-none pageSize (a .patch .now) (a .full .now) (a .block) (c .before .before .before .before .before .before .slot-at .result) (c .before .before .before .before .before .part .result .now) (c .before .before .before .before .slot-state .result) (c .before .before .before .before .before .before .slot-at .ensures) (c .before .before .before .before .before .part .ensures) (c .before .before .before .before .slot-state .ensures) (c .before .before .enum-told2 .given .1) (omega (arith, c .before .pages .ensures, c .if1 .taken))
+
+enum-known-n : tie.Need-enum-known-n
+enum-known-n c = search needs
+
+part-requires-2 : tie.Need-part-requires-2
+part-requires-2 c κs = search needs
+
+check-requires : tie.Need-check-requires
+check-requires c κs = search needs
+
+enum-told-3 : tie.Need-enum-told-3
+enum-told-3 c = search needs
+
+enum-told-4 : tie.Need-enum-told-4
+enum-told-4 c = search needs
+
+place-fault-requires : tie.Need-place-fault-requires
+place-fault-requires c κs = search needs
+
+enum-told-5 : tie.Need-enum-told-5
+enum-told-5 c = search needs
+
+place-fault-requires-2 : tie.Need-place-fault-requires-2
+place-fault-requires-2 c κs = search needs
+
+returns-2 : tie.Need-returns-2
+returns-2 c =
+    let a = c .before .before .before .before .before .before .before .args in
+    told-unsound pageSize (a .patch .now) (a .full .now) (a .block) (c .before .before .before .before .slot-at .result) (c .before .before .before .part .result .now) (c .before .before .slot-state .result) (c .before .before .before .before .slot-at .ensures) (c .before .before .before .part .ensures) (c .before .before .slot-state .ensures) (c .enum-told .given .1)
+
+returns-3 : tie.Need-returns-3
+returns-3 c =
+    let a = c .before .before .before .before .before .before .before .before .before .args in
+    told-full pageSize (a .patch .now) (a .full .now) (a .block) (c .before .before .before .before .before .before .slot-at .result) (c .before .before .before .before .before .part .result .now) (c .before .before .before .before .slot-state .result) (c .before .before .before .before .before .before .slot-at .ensures) (c .before .before .before .before .before .part .ensures) (c .before .before .before .before .slot-state .ensures) (c .before .before .enum-told2 .given .1) (omega (arith, c .before .pages .ensures, c .if1 .left))
+
+returns-4 : tie.Need-returns-4
+returns-4 c =
+    let a = c .before .before .before .before .before .before .before .before .before .before .before .before .args in
+    told-payload pageSize (a .patch .now) (a .full .now) (a .block) (c .before .before .before .before .before .before .before .before .before .slot-at .result) (c .before .before .before .before .before .before .before .before .part .result .now) (c .before .before .before .before .before .before .before .slot-state .result) (c .before .before .before .before .before .before .before .before .before .slot-at .ensures) (c .before .before .before .before .before .before .before .before .part .ensures) (c .before .before .before .before .before .before .before .slot-state .ensures) (c .before .before .before .before .before .n .given .0 .0) (c .before .before .before .part2 .result .now) (c .before .before .check .result) (c .before .before .before .before .before .n .given .1) (c .before .before .before .part2 .ensures) (c .before .before .check .ensures) (c .enum-told3 .given .1)
+
+returns-5 : tie.Need-returns-5
+returns-5 c =
+    let a = c .before .before .before .before .before .before .before .before .before .before .before .before .before .args in
+    c .place-fault .ensures
+    ∙ told-patched pageSize (a .patch .now) (a .full .now) (a .block) (c .before .before .before .before .before .before .before .before .before .before .slot-at .result) (c .before .before .before .before .before .before .before .before .before .part .result .now) (c .before .before .before .before .before .before .before .before .slot-state .result) (c .before .before .before .before .before .before .before .before .before .before .slot-at .ensures) (c .before .before .before .before .before .before .before .before .before .part .ensures) (c .before .before .before .before .before .before .before .before .slot-state .ensures) (c .before .before .before .before .before .before .n .given .0 .0) (c .before .before .before .before .part2 .result .now) (c .before .before .before .check .result) (c .before .before .before .before .before .before .n .given .1) (c .before .before .before .before .part2 .ensures) (c .before .before .before .check .ensures) (c .before .enum-told4 .given .1)
+
+returns-6 : tie.Need-returns-6
+returns-6 c =
+    let a = c .before .before .before .before .before .before .before .before .args in
+    c .place-fault2 .ensures
+    ∙ told-empty pageSize (a .patch .now) (a .full .now) (a .block) (c .before .before .before .before .before .slot-at .result) (c .before .before .before .before .part .result .now) (c .before .before .before .slot-state .result) (c .before .before .before .before .before .slot-at .ensures) (c .before .before .before .before .part .ensures) (c .before .before .before .slot-state .ensures) (c .before .enum-told5 .given .1)
+
+pub block-fault-spec : {M : Type 1} → statement M
+block-fault-spec =
+    tie.close
+    (tie.spec
+    slot-at-requires
+    part-requires
+    slot-state-requires
+    enum-told
+    enum-told-2
+    pages-requires
+    returns
+    enum-known-n
+    part-requires-2
+    check-requires
+    enum-told-3
+    enum-told-4
+    place-fault-requires
+    enum-told-5
+    place-fault-requires-2
+    returns-2
+    returns-3
+    returns-4
+    returns-5
+    returns-6)

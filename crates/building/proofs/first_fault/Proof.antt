@@ -1,0 +1,77 @@
+use Rattle.layout.specs.Numbers.{faultNumber, refusalNumber}
+use Rattle.layout.specs.NumberLaws.{refusal-some}
+use Rattle.building.specs.BuildLaws.{faultNumbers, fault-next, fault-here, fault-end}
+use Rattle.building.specs.Build.{firstFault}
+use Rattle.layout.specs.Sizes.{pageSize}
+use Prim.Native.Nat.{ℕ, _-_, _≤_}
+use native.Mathlib.Omega.{arith}
+use mathlib.Core.Path.{_≡_, sym, ap, _∙_}
+use borrow.Author.Needs.{needs}
+use Rattle.building.proofs.first_fault.Statement.{statement}
+use Rattle.building.proofs.first_fault.Tie as tie
+
+abbrev Inv-loop : tie.InvT-loop
+Inv-loop patch full n block₀ block = (block ≤ n) × (firstFault pageSize patch full 0 n ≡ firstFault pageSize patch full block (n - block))
+
+abbrev μ-loop : tie.MeasureT-loop
+μ-loop patch full n block₀ block = n - block
+
+loop-holds : tie.Need-loop-holds Inv-loop μ-loop
+loop-holds c =
+    let a = c .before .before .args in
+    let q : a .n ≡ a .n - 0 = omega arith in
+    (omega arith, ap (λ (k : ℕ). firstFault pageSize (a .patch .now) (a .full .now) 0 k) q)
+
+cast-block-fault : tie.Need-cast-block-fault Inv-loop μ-loop
+cast-block-fault c = search needs
+
+block-fault-requires : tie.Need-block-fault-requires Inv-loop μ-loop
+block-fault-requires c κs = search needs
+
+enum-known-refusal : tie.Need-enum-known-refusal Inv-loop μ-loop
+enum-known-refusal c = search needs
+
+returns : tie.Need-returns Inv-loop μ-loop
+returns c =
+    let a = c .before .before .before .before .before .before .before .before .args in
+    let l = c .before .before .before .before .before .loop in
+    let r = c .before .refusal .given .0 .0 in
+    sym (ap faultNumbers (l .inv .1 ∙ fault-here pageSize (a .patch .now) (a .full .now) (l .block) (a .n) (refusalNumber r) (omega (arith, c .before .before .before .before .loop-test .taken)) (sym (c .before .before .before .block-fault .ensures) ∙ ap faultNumber (c .before .refusal .given .1)) (refusal-some r)))
+
+enum-told : tie.Need-enum-told Inv-loop μ-loop
+enum-told c = search needs
+
+add-block : tie.Need-add-block Inv-loop μ-loop
+add-block c = search needs
+
+loop-less : tie.Need-loop-less Inv-loop μ-loop
+loop-less c = search needs
+
+loop-again : tie.Need-loop-again Inv-loop μ-loop
+loop-again c =
+    let a = c .before .before .before .before .before .before .before .args in
+    let l = c .before .before .before .before .loop in
+    (omega (arith, c .before .before .before .loop-test .taken), l .inv .1 ∙ fault-next pageSize (a .patch .now) (a .full .now) (l .block) (a .n) (omega (arith, c .before .before .before .loop-test .taken)) (sym (c .before .before .block-fault .ensures) ∙ ap faultNumber (c .enum-told .given .1)))
+
+returns-2 : tie.Need-returns-2 Inv-loop μ-loop
+returns-2 c =
+    let a = c .before .before .before .before .args in
+    let l = c .before .loop in
+    sym (ap faultNumbers (l .inv .1 ∙ fault-end pageSize (a .patch .now) (a .full .now) (l .block) (a .n) (omega (arith, c .loop-test .left))))
+
+pub first-fault-spec : {M : Type 1} → statement M
+first-fault-spec =
+    tie.close
+    (tie.spec
+    Inv-loop
+    μ-loop
+    loop-holds
+    cast-block-fault
+    block-fault-requires
+    enum-known-refusal
+    returns
+    enum-told
+    add-block
+    loop-less
+    loop-again
+    returns-2)

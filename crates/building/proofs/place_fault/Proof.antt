@@ -1,0 +1,37 @@
+use Rattle.building.proofs.BuildTold.{place-told}
+use Rattle.building.specs.BuildLaws.{no-place, clean-place, stray-place}
+use Rattle.layout.specs.Sizes.{pageSize}
+use native.Mathlib.Omega.{arith}
+use mathlib.Core.Path.{sym, _∙_}
+use borrow.Author.Needs.{needs}
+use Rattle.building.proofs.place_fault.Statement.{statement}
+use Rattle.building.proofs.place_fault.Tie as tie
+
+pages-requires : tie.Need-pages-requires
+pages-requires c κs = search needs
+
+returns : tie.Need-returns
+returns c =
+    let a = c .before .before .before .args in
+    sym (no-place pageSize (a .full .now) (a .block) (omega (arith, c .before .pages .ensures, c .if1 .taken)))
+
+page-at-requires : tie.Need-page-at-requires
+page-at-requires c κs = search needs
+
+zero-part-requires : tie.Need-zero-part-requires
+zero-part-requires c κs = search needs
+
+returns-2 : tie.Need-returns-2
+returns-2 c =
+    let a = c .before .before .before .before .before .before .args in
+    sym (clean-place pageSize (a .full .now) (a .block) (place-told pageSize (a .full .now) (a .block) (c .before .before .page-at .result) (c .before .zero-part .result) (c .before .before .page-at .ensures) (c .before .zero-part .ensures) ∙ c .if2 .taken))
+
+returns-3 : tie.Need-returns-3
+returns-3 c =
+    let a = c .before .before .before .before .before .before .args in
+    sym (stray-place pageSize (a .full .now) (a .block) (omega (arith, c .before .before .before .before .pages .ensures, c .before .before .before .if1 .left)) (place-told pageSize (a .full .now) (a .block) (c .before .before .page-at .result) (c .before .zero-part .result) (c .before .before .page-at .ensures) (c .before .zero-part .ensures) ∙ c .if2 .left))
+
+pub place-fault-spec : {M : Type 1} → statement M
+place-fault-spec =
+    tie.close
+    (tie.spec pages-requires returns page-at-requires zero-part-requires returns-2 returns-3)

@@ -1,0 +1,4 @@
+pub mod Build
+pub mod BuildLaws
+pub mod BuildMeaning
+pub mod Given

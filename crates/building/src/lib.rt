@@ -1,0 +1,156 @@
+// Build the block map.
+use layout::Fault;
+use layout::Kind;
+use layout::Layout;
+use layout::Refusal;
+use payload::Checked;
+use slots::SlotState;
+ghost use Prim.Native.Nat.{_≤_};
+ghost use mathlib.Core.Path.{_≡_};
+ghost use mathlib.Core.Bool.{true};
+ghost use lib.ListN.{length};
+ghost use Rattle.span.specs.Bytes.{splice};
+ghost use Rattle.layout.specs.Sizes.{pageSize, blocksAtMost};
+ghost use Rattle.layout.specs.Numbers.{kindNumber, faultNumber};
+ghost use Rattle.layout.specs.Areas.{blocksIn, patchFits};
+ghost use Rattle.blockmap.specs.Pairs.{mapBytes};
+ghost use Rattle.blockmap.specs.Pack.{pairOf, pairIn, packedByte, packed};
+ghost use Rattle.building.specs.Build.{blockFault, firstFault, builtNumbers, Build};
+ghost use Rattle.building.specs.BuildLaws.{straysIn, faultNumbers, kindPair};
+
+// What Build answers. With a slot, payload, full page or place that is wrong comes its block; with any other refusal, 0.
+pub enum Built {
+    Done,
+    Refused { refusal: Refusal, block: usize },
+}
+
+// Stray bytes in the place of a block whose slot is not FULL_REF. A block not below m has no place.
+fn place_fault(full: &[u8], block: u32) -> Fault
+    ensures { λ r. ⌜ faultNumber r ≡ straysIn pageSize (now (full .entry)) block ⌝ }
+{
+    if layout::area::pages(full.len()) <= block as usize {
+        return Fault::Nothing;
+    }
+    if span::zero_part(full, Layout::page_at(block), Layout::PAGE) {
+        return Fault::Nothing;
+    }
+    Fault::Found(Refusal::Place)
+}
+
+// What is wrong first with one block: its slot, a full page that is not there, its payload, its place.
+fn block_fault(patch: &[u8], full: &[u8], block: u32) -> Fault
+    ensures { λ r. ⌜ faultNumber r ≡ blockFault pageSize (now (patch .entry)) (now (full .entry)) block ⌝ }
+{
+    let slot = span::part(patch, Layout::slot_at(block), Layout::SLOT);
+    match slots::slot_state(slot) {
+        SlotState::Unsound => Fault::Found(Refusal::Slot),
+        SlotState::Full => {
+            if layout::area::pages(full.len()) <= block as usize {
+                return Fault::Found(Refusal::FullPage);
+            }
+            Fault::Nothing
+        }
+        SlotState::Patch(n) => {
+            let payload = span::part(slot, Layout::PAYLOAD_AT, n);
+            match payload::check(payload, Layout::PAGE) {
+                Checked::Unsound => Fault::Found(Refusal::Payload),
+                Checked::Sound {
+                    entries: _,
+                    last: _,
+                } => place_fault(full, block),
+            }
+        }
+        SlotState::Empty => place_fault(full, block),
+    }
+}
+
+// The first fault of n blocks in rising order, with its block.
+fn first_fault(patch: &[u8], full: &[u8], n: usize) -> Built
+    requires { ⌜ n ≤ blocksAtMost pageSize ⌝ }
+    ensures { λ r. ⌜ builtNumbers r ≡ faultNumbers (firstFault pageSize (now (patch .entry)) (now (full .entry)) 0 n) ⌝ }
+{
+    let mut block = 0;
+    while block < n {
+        match block_fault(patch, full, block as u32) {
+            Fault::Found(refusal) => {
+                return Built::Refused { refusal, block };
+            }
+            Fault::Nothing => {
+                block += 1;
+            }
+        }
+    }
+    Built::Done
+}
+
+// The kind that the first byte of a sound slot stands for.
+fn kind_of(byte: u8) -> Kind
+    ensures { λ r. ⌜ pairOf (kindNumber r) ≡ pairOf byte ⌝ }
+{
+    if byte == Layout::EMPTY_KIND {
+        return Kind::Empty;
+    }
+    if byte == Layout::PATCH_KIND {
+        return Kind::Patch;
+    }
+    Kind::Full
+}
+
+// The pair of a block in the map of these n slots, all of them sound: by its slot's first byte alone. An unused pair is 0.
+fn pair_at(patch: &[u8], n: usize, block: usize) -> u8
+    requires { ⌜ (n ≡ blocksIn (length (now patch))) × (patchFits pageSize (length (now patch)) ≡ true) ⌝ }
+    ensures { λ r. ⌜ r ≡ pairIn (kindPair (now (patch .entry))) n block ⌝ }
+{
+    if n <= block {
+        return 0;
+    }
+    let at = Layout::slot_at(block as u32) + Layout::KIND_AT;
+    blockmap::pair_of(kind_of(patch[at]))
+}
+
+// One byte of the map: four blocks' pairs.
+fn map_byte(patch: &[u8], n: usize, at: usize) -> u8
+    requires { ⌜ (n ≡ blocksIn (length (now patch))) × (patchFits pageSize (length (now patch)) ≡ true) × (at ≤ blocksAtMost pageSize) ⌝ }
+    ensures { λ r. ⌜ r ≡ packedByte (kindPair (now (patch .entry))) n at ⌝ }
+{
+    let block = 4 * at;
+    blockmap::byte_of(
+        pair_at(patch, n, block),
+        pair_at(patch, n, block + 1),
+        pair_at(patch, n, block + 2),
+        pair_at(patch, n, block + 3),
+    )
+}
+
+// The map of n blocks whose slots are sound. Later bytes of the buffer stay.
+fn write_map(patch: &[u8], n: usize, map: &mut [u8])
+    requires { ⌜ (n ≡ blocksIn (length (now patch))) × (patchFits pageSize (length (now patch)) ≡ true) × (mapBytes n ≤ length (now map)) ⌝ }
+    ensures { λ _. ⌜ now (map .exit) ≡ splice (now (map .entry)) 0 (packed (kindPair (now (patch .entry))) n) ⌝ }
+{
+    let bytes = blockmap::map_bytes(n);
+    let mut at = 0;
+    while at < bytes {
+        map[at] = map_byte(patch, n, at);
+        at += 1;
+    }
+}
+
+// Every slot, payload and place is checked before the map's first byte is written.
+pub fn build(patch: &[u8], full: &[u8], map: &mut [u8]) -> Built
+    ensures { λ r. ⌜ Build pageSize (now (patch .entry)) (now (full .entry)) (now (map .entry)) r (now (map .exit)) ⌝ }
+{
+    let n = layout::area::blocks(patch.len());
+    let fits = blockmap::map_bytes(n) <= map.len();
+    match store::frame::frame_fault(true, fits, patch, full) {
+        Fault::Found(refusal) => Built::Refused { refusal, block: 0 },
+        Fault::Nothing => {
+            match first_fault(patch, full, n) {
+                Built::Refused { refusal, block } => Built::Refused { refusal, block },
+                Built::Done => {
+                    write_map(patch, n, map);
+                    Built::Done
+                }
+            }
+        }
+    }
+}

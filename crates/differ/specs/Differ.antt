@@ -1,0 +1,56 @@
+-- Where two lists differ next, and in how many places.
+use Prim.Native.Nat.{ℕ, zero, suc, _+_, _-_, _≤_, _<_}
+use mathlib.Core.Path.{_≡_}
+use mathlib.Core.Bool.{true, false}
+use mathlib.Core.List.{List, [], _∷_}
+use lib.Dec.{eqb}
+use lib.ListN.{length, drop, getD}
+use Rattle.differ.specs.declared.Cluster.{Cluster}
+
+-- in how many places the code counts differences at one go
+abbrev pub chunk : ℕ
+chunk = 64
+
+-- how many bytes two lists have in common from their start on
+unfoldable pub agree : List ℕ → List ℕ → ℕ
+agree [] ys = 0
+agree (x ∷ xs) [] = 0
+agree (x ∷ xs) (y ∷ ys) = elim (eqb x y) [ true ↦ suc (agree xs ys) | false ↦ 0 ]
+
+-- the first place, from `from` on, at which a and b differ or one of them ends
+unfoldable pub nextDiff : List ℕ → List ℕ → ℕ → ℕ
+nextDiff a b from = from + agree (drop from a) (drop from b)
+
+-- a and b hold the same bytes from `from` up to `to`
+unfoldable pub Same : List ℕ → List ℕ → ℕ → ℕ → Type 0
+Same a b from to = (i : ℕ) → from ≤ i → i < to → getD a i 0 ≡ getD b i 0
+
+-- one where a and b differ at a place, or none
+unfoldable pub differsAt : List ℕ → List ℕ → ℕ → ℕ
+differsAt a b i = elim (eqb (getD a i 0) (getD b i 0)) [ true ↦ 0 | false ↦ 1 ]
+
+-- how many of the n places from `from` on differ
+unfoldable pub diffsIn : List ℕ → List ℕ → ℕ → ℕ → ℕ
+diffsIn a b from zero = 0
+diffsIn a b from (suc n) = diffsIn a b from n + differsAt a b (from + n)
+
+-- the place after the last difference between `from` and `to`, or `from`
+pub record Lasts (a b : List ℕ) (from to r : ℕ) : Type 0 where
+  pub on : from ≤ r
+  pub within : r ≤ to
+  pub alike : Same a b r to
+  pub differ : from < r → getD a (r - 1) 0 ≡ getD b (r - 1) 0 → ⊥
+
+-- differences that stand within a byte's reach of `from`: their number, and the place after the last of them
+pub record Clusters (a b : List ℕ) (from : ℕ) (c : Cluster) : Type 0 where
+  pub on : from ≤ c .next
+  pub near : c .next ≤ from + 255
+  pub within : from < c .next → (c .next ≤ length a) × (c .next ≤ length b)
+  pub count : c .count ≡ diffsIn a b from (c .next - from)
+  pub differ : from < c .next → getD a (c .next - 1) 0 ≡ getD b (c .next - 1) 0 → ⊥
+
+-- what passing over equal bytes up to r gives: r lies on the way to `end`, and the next difference is still ahead
+pub record Skipped (a b : List ℕ) (from end r : ℕ) : Type 0 where
+  pub on : from ≤ r
+  pub within : r ≤ end
+  pub ahead : nextDiff a b from ≡ nextDiff a b r

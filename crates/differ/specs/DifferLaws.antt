@@ -1,0 +1,214 @@
+-- The laws of differences: the next one said of places and not by a walk, and counts of them.
+use Prim.Native.Nat.{ℕ, zero, suc, _+_, _-_, _≤_, _<_}
+use native.Mathlib.Omega.{arith}
+use native.Mathlib.Decide.{decLt}
+use native.Mathlib.Numerals.{add-one}
+use mathlib.Core.Path.{_≡_, refl, sym, ap, _∙_}
+use mathlib.Core.Bool.{Bool, true, false}
+use mathlib.Core.List.{List, [], _∷_}
+use lib.Dec.{eqb}
+use lib.ListN.{length, drop, getD, length-drop}
+use lib.Seq.{getD-drop}
+use borrow.Author.Tests.{eq-eqb, ne-eqb, eqb-true, eqb-false}
+use Rattle.span.specs.Bytes.{same}
+use Rattle.span.specs.Laws.{ext, same-true, same-false}
+use Rattle.differ.specs.Differ.{agree, nextDiff, Same, differsAt, diffsIn}
+
+-- what the next difference is, said of places and not by a walk
+pub record Next (a b : List ℕ) (from r : ℕ) : Type 0 where
+  pub on : from ≤ r
+  pub within : from < r → (r ≤ length a) × (r ≤ length b)
+  pub alike : Same a b from r
+  pub differ : r < length a → r < length b → getD a r 0 ≡ getD b r 0 → ⊥
+
+agree-within : (xs ys : List ℕ) → (agree xs ys ≤ length xs) × (agree xs ys ≤ length ys)
+unfolding agree
+agree-within [] ys = omega arith
+agree-within (x ∷ xs) [] = omega arith
+agree-within (x ∷ xs) (y ∷ ys) = go (eqb x y) (agree-within xs ys)
+  where
+    go : (t : Bool) → (agree xs ys ≤ length xs) × (agree xs ys ≤ length ys)
+        → (elim t as (λ _. ℕ) [ true ↦ suc (agree xs ys) | false ↦ 0 ] ≤ suc (length xs)) × (elim t as (λ _. ℕ) [ true ↦ suc (agree xs ys) | false ↦ 0 ] ≤ suc (length ys))
+    go true h = omega arith
+    go false h = omega arith
+
+agree-alike : (xs ys : List ℕ) (i : ℕ) → i < agree xs ys → getD xs i 0 ≡ getD ys i 0
+unfolding agree
+agree-alike [] ys i h = absurd (omega arith)
+agree-alike (x ∷ xs) [] i h = absurd (omega arith)
+agree-alike (x ∷ xs) (y ∷ ys) i h = go (eqb x y) refl i (agree-alike xs ys) h
+  where
+    go : (t : Bool) → eqb x y ≡ t → (i : ℕ) → ((j : ℕ) → j < agree xs ys → getD xs j 0 ≡ getD ys j 0)
+        → i < elim t as (λ _. ℕ) [ true ↦ suc (agree xs ys) | false ↦ 0 ] → getD (x ∷ xs) i 0 ≡ getD (y ∷ ys) i 0
+    go true e zero rest k = eqb-true x y e
+    go true e (suc j) rest k = rest j (omega arith)
+    go false e j rest k = absurd (omega arith)
+
+agree-differ : (xs ys : List ℕ) → agree xs ys < length xs → agree xs ys < length ys → getD xs (agree xs ys) 0 ≡ getD ys (agree xs ys) 0 → ⊥
+unfolding agree
+agree-differ [] ys h k e = omega arith
+agree-differ (x ∷ xs) [] h k e = omega arith
+agree-differ (x ∷ xs) (y ∷ ys) h k e = go (eqb x y) refl (agree-differ xs ys) h k e
+  where
+    go : (t : Bool) → eqb x y ≡ t → (agree xs ys < length xs → agree xs ys < length ys → getD xs (agree xs ys) 0 ≡ getD ys (agree xs ys) 0 → ⊥)
+        → elim t as (λ _. ℕ) [ true ↦ suc (agree xs ys) | false ↦ 0 ] < suc (length xs)
+        → elim t as (λ _. ℕ) [ true ↦ suc (agree xs ys) | false ↦ 0 ] < suc (length ys)
+        → getD (x ∷ xs) (elim t as (λ _. ℕ) [ true ↦ suc (agree xs ys) | false ↦ 0 ]) 0 ≡ getD (y ∷ ys) (elim t as (λ _. ℕ) [ true ↦ suc (agree xs ys) | false ↦ 0 ]) 0
+        → ⊥
+    go true e rest h k f = rest (omega arith) (omega arith) f
+    go false e rest h k f = eqb-false x y e f
+
+-- the walk finds that place
+pub next : (a b : List ℕ) (from : ℕ) → Next a b from (nextDiff a b from)
+unfolding nextDiff Same
+next a b from =
+    let xs : List ℕ = drop from a in
+    let ys : List ℕ = drop from b in
+    let n : ℕ = agree xs ys in
+    let w : (n ≤ length xs) × (n ≤ length ys) = agree-within xs ys in
+    let la : length xs ≡ length a - from = length-drop from a in
+    let lb : length ys ≡ length b - from = length-drop from b in
+    record {
+      on = omega arith;
+      within = λ h. (omega arith, omega arith);
+      alike =
+          λ i h k.
+          let j : ℕ = i - from in
+          let q : from + j ≡ i = omega arith in
+          ap (λ (p : ℕ). getD a p 0) (sym q)
+          ∙ sym (getD-drop from a j 0)
+          ∙ agree-alike xs ys j (omega arith)
+          ∙ getD-drop from b j 0
+          ∙ ap (λ (p : ℕ). getD b p 0) q;
+      differ = λ h k e. agree-differ xs ys (omega arith) (omega arith) (getD-drop from a n 0 ∙ e ∙ sym (getD-drop from b n 0));
+    }
+
+-- and there is no second such place
+pub next-one : (a b : List ℕ) (from r s : ℕ) → Next a b from r → Next a b from s → r ≡ s
+unfolding Same
+next-one a b from r s p q =
+    elim (decLt r s) [
+      | yes h ↦
+          let w : (s ≤ length a) × (s ≤ length b) = q .within (omega (arith, p .on)) in
+          absurd (p .differ (omega arith) (omega arith) (q .alike r (p .on) h))
+      | no h ↦
+          elim (decLt s r) [
+            | yes k ↦
+                let w : (r ≤ length a) × (r ≤ length b) = p .within (omega (arith, q .on)) in
+                absurd (q .differ (omega arith) (omega arith) (p .alike s (q .on) k))
+            | no k ↦ omega arith
+          ]
+    ]
+
+pub next-is : (a b : List ℕ) (from r : ℕ) → Next a b from r → nextDiff a b from ≡ r
+next-is a b from r p = next-one a b from (nextDiff a b from) r (next a b from) p
+
+-- equal bytes may be passed over
+pub next-skip : (a b : List ℕ) (from r : ℕ) → from ≤ r → r ≤ length a → r ≤ length b → Same a b from r → nextDiff a b from ≡ nextDiff a b r
+unfolding Same
+next-skip a b from r h la lb e =
+    let n : Next a b r (nextDiff a b r) = next a b r in
+    next-is a b from (nextDiff a b r)
+    (record {
+      on = omega arith;
+      within =
+          λ k.
+          elim (decLt r (nextDiff a b r)) [
+            | yes m ↦ n .within m
+            | no m ↦ (omega (arith, n .on), omega (arith, n .on))
+          ];
+      alike =
+          λ i k m.
+          elim (decLt i r) [
+            | yes o ↦ e i k o
+            | no o ↦ n .alike i (omega arith) m
+          ];
+      differ = n .differ;
+    })
+
+-- a difference, or an end, is where it stops
+pub next-here : (a b : List ℕ) (r : ℕ) → (r < length a → r < length b → getD a r 0 ≡ getD b r 0 → ⊥) → nextDiff a b r ≡ r
+unfolding Same
+next-here a b r d =
+    next-is a b r r (record { on = omega arith; within = λ h. absurd (omega arith); alike = λ i h k. absurd (omega arith); differ = d })
+
+-- The laws of that number
+
+pub alike-at : (a b : List ℕ) (i : ℕ) → getD a i 0 ≡ getD b i 0 → differsAt a b i ≡ 0
+unfolding differsAt
+alike-at a b i e = ap (λ (t : Bool). elim t as (λ _. ℕ) [ true ↦ 0 | false ↦ 1 ]) (eq-eqb (getD a i 0) (getD b i 0) e)
+
+pub unlike-at : (a b : List ℕ) (i : ℕ) → (getD a i 0 ≡ getD b i 0 → ⊥) → differsAt a b i ≡ 1
+unfolding differsAt
+unlike-at a b i d = ap (λ (t : Bool). elim t as (λ _. ℕ) [ true ↦ 0 | false ↦ 1 ]) (ne-eqb (getD a i 0) (getD b i 0) d)
+
+at-most-one : (a b : List ℕ) (i : ℕ) → differsAt a b i ≤ 1
+unfolding differsAt
+at-most-one a b i = go (eqb (getD a i 0) (getD b i 0))
+  where
+    go : (t : Bool) → elim t as (λ _. ℕ) [ true ↦ 0 | false ↦ 1 ] ≤ 1
+    go true = omega arith
+    go false = omega arith
+
+pub diffs-none : (a b : List ℕ) (from : ℕ) → diffsIn a b from 0 ≡ 0
+unfolding diffsIn
+diffs-none a b from = refl
+
+pub diffs-few : (a b : List ℕ) (from n : ℕ) → diffsIn a b from n ≤ n
+unfolding diffsIn
+diffs-few a b from zero = omega arith
+diffs-few a b from (suc n) = omega (arith, diffs-few a b from n, at-most-one a b (from + n))
+
+-- a place more at the end
+pub diffs-next : (a b : List ℕ) (from n : ℕ) → diffsIn a b from (n + 1) ≡ diffsIn a b from n + differsAt a b (from + n)
+unfolding diffsIn
+diffs-next a b from n = ap (λ (k : ℕ). diffsIn a b from k) (add-one n)
+
+-- a place more at the start
+pub diffs-first : (a b : List ℕ) (from n : ℕ) → diffsIn a b from (suc n) ≡ differsAt a b from + diffsIn a b (from + 1) n
+unfolding diffsIn
+diffs-first a b from zero =
+    let q : from + 0 ≡ from = omega arith in
+    let e : differsAt a b (from + 0) ≡ differsAt a b from = ap (λ (i : ℕ). differsAt a b i) q in
+    omega arith
+diffs-first a b from (suc n) =
+    let q : from + suc n ≡ from + 1 + n = omega arith in
+    let e : differsAt a b (from + suc n) ≡ differsAt a b (from + 1 + n) = ap (λ (i : ℕ). differsAt a b i) q in
+    omega (arith, diffs-first a b from n)
+
+-- equal places at the end count for nothing
+pub diffs-alike : (a b : List ℕ) (from k n : ℕ) → Same a b (from + k) (from + (k + n)) → diffsIn a b from (k + n) ≡ diffsIn a b from k
+unfolding Same diffsIn
+diffs-alike a b from k zero s =
+    let q : k + 0 ≡ k = omega arith in
+    ap (λ (i : ℕ). diffsIn a b from i) q
+diffs-alike a b from k (suc n) s =
+    let q : k + suc n ≡ suc (k + n) = omega arith in
+    let e : diffsIn a b from (k + suc n) ≡ diffsIn a b from (k + n) + differsAt a b (from + (k + n)) = ap (λ (i : ℕ). diffsIn a b from i) q in
+    omega (arith, alike-at a b (from + (k + n)) (s (from + (k + n)) (omega arith) (omega arith)), diffs-alike a b from k n (λ i h l. s i h (omega arith)))
+
+-- lists of one length with no difference before their end are the same
+pub same-by-next : (a b : List ℕ) → length a ≡ length b → eqb (nextDiff a b 0) (length a) ≡ same a b
+unfolding Same
+same-by-next a b e = go (eqb (nextDiff a b 0) (length a)) refl
+  where
+    n : Next a b 0 (nextDiff a b 0)
+    n = next a b 0
+
+    go : (t : Bool) → eqb (nextDiff a b 0) (length a) ≡ t → eqb (nextDiff a b 0) (length a) ≡ same a b
+    go true h =
+        let q : nextDiff a b 0 ≡ length a = eqb-true (nextDiff a b 0) (length a) h in
+        h ∙ sym (same-true a b (ext a b e (λ i k. n .alike i (omega arith) (omega arith))))
+    go false h =
+        h
+        ∙ sym
+        (same-false a b
+        (λ f.
+        eqb-false (nextDiff a b 0) (length a) h
+        (next-is a b 0 (length a)
+        (record {
+          on = omega arith;
+          within = λ k. (omega arith, omega arith);
+          alike = λ i k m. ap (λ (l : List ℕ). getD l i 0) f;
+          differ = λ k m q. omega arith;
+        }))))

@@ -1,0 +1,34 @@
+use Rattle.headers.specs.FreshLaws.{fresh-full-is}
+use Rattle.layout.specs.Sizes.{pageSize}
+use Rattle.span.specs.Bytes.{zeros, splice}
+use lib.ListN.{length, take}
+use mathlib.Core.List.{List}
+use mathlib.Core.Path.{ap, _∙_}
+use Prim.Native.Nat.{ℕ}
+use borrow.Author.Needs.{needs}
+use Rattle.headers.proofs.begin_full.Statement.{statement}
+use Rattle.headers.proofs.begin_full.Tie as tie
+
+full-fields-requires : tie.Need-full-fields-requires
+full-fields-requires c κs = search needs
+
+slice-aggregate-begin : tie.Need-slice-aggregate-begin
+slice-aggregate-begin c = search needs
+
+begin-requires : tie.Need-begin-requires
+begin-requires c κs = search needs
+
+same-length : tie.Need-same-length
+same-length c = search needs
+
+returns : tie.Need-returns
+returns c =
+    let n : ℕ = length (c .before .before .before .before .before .before .before .args .full .now) in
+    c .before .before .begin .ensures
+    ∙ ap (λ (l : List ℕ). splice (zeros n) 0 (take n l)) (c .before .before .before .before .before .full-fields .ensures)
+    ∙ fresh-full-is pageSize n
+
+pub begin-full-spec : {M : Type 1} → statement M
+begin-full-spec =
+    tie.close
+    (tie.spec full-fields-requires slice-aggregate-begin begin-requires same-length returns)

@@ -1,0 +1,5 @@
+pub mod Fresh
+pub mod FreshLaws
+pub mod HeaderLaws
+pub mod Headers
+pub mod Meaning

@@ -1,0 +1,144 @@
+// The headers of both areas: written, and checked.
+use layout::Fault;
+use layout::Layout;
+use layout::Refusal;
+ghost use mathlib.Core.Path.{_≡_};
+ghost use Prim.Native.Nat.{_≤_};
+ghost use lib.ListN.{length, take};
+ghost use Rattle.span.specs.Bytes.{zeros, splice};
+ghost use Rattle.layout.specs.Sizes.{pageSize, restAt};
+ghost use Rattle.layout.specs.Numbers.{faultNumber};
+ghost use Rattle.layout.specs.Refusals.{firstOf};
+ghost use Rattle.headers.specs.Headers.{patchFields, fullFields, header, headRows, patchHeadRows, headerRows};
+ghost use Rattle.headers.specs.Fresh.{freshPatch, freshFull};
+
+// The fields that begin a patch area of pages of this size: magic, version, flags 0, page size, slot size.
+fn patch_fields(size: u64) -> [u8; Layout::PATCH_FIELDS]
+    ensures { λ r. ⌜ r ≡ patchFields size ⌝ }
+{
+    let magic = Layout::PATCH_MAGIC;
+    let version = Layout::PATCH_VERSION;
+    let slot = Layout::SLOT;
+    [
+        magic[0],
+        magic[1],
+        magic[2],
+        magic[3],
+        magic[4],
+        magic[5],
+        magic[6],
+        magic[7],
+        (version % 256) as u8,
+        (version / 256 % 256) as u8,
+        0,
+        0,
+        (size % 256) as u8,
+        (size / 256 % 256) as u8,
+        (size / 256 / 256 % 256) as u8,
+        (size / 256 / 256 / 256 % 256) as u8,
+        (slot % 256) as u8,
+        (slot / 256 % 256) as u8,
+        (slot / 256 / 256 % 256) as u8,
+        (slot / 256 / 256 / 256 % 256) as u8,
+    ]
+}
+
+// The fields that begin a full area of pages of this size: magic, version, flags 0, page size.
+fn full_fields(size: u64) -> [u8; Layout::FULL_FIELDS]
+    ensures { λ r. ⌜ r ≡ fullFields size ⌝ }
+{
+    let magic = Layout::FULL_MAGIC;
+    let version = Layout::FULL_VERSION;
+    [
+        magic[0],
+        magic[1],
+        magic[2],
+        magic[3],
+        magic[4],
+        magic[5],
+        magic[6],
+        magic[7],
+        (version % 256) as u8,
+        (version / 256 % 256) as u8,
+        0,
+        0,
+        (size % 256) as u8,
+        (size / 256 % 256) as u8,
+        (size / 256 / 256 % 256) as u8,
+        (size / 256 / 256 / 256 % 256) as u8,
+    ]
+}
+
+// Magic, version, then the rest: what is wrong first with the header of `size` bytes that begins with these fields.
+fn head_fault(area: &[u8], fields: &[u8], size: usize) -> Fault
+    requires { ⌜ (restAt ≤ length (now fields)) × (length (now fields) ≤ size) ⌝ }
+    ensures { λ r. ⌜ faultNumber r ≡ firstOf (headRows (header (now (fields .entry)) size) size (now (area .entry))) ⌝ }
+{
+    let n = fields.len();
+    if !differ::same_part(area, fields, 0, Layout::VERSION_AT) {
+        return Fault::Found(Refusal::Header);
+    }
+    if !differ::same_part(
+        area,
+        fields,
+        Layout::VERSION_AT,
+        Layout::FLAGS_AT - Layout::VERSION_AT,
+    ) {
+        return Fault::Found(Refusal::Version);
+    }
+    if !differ::same_part(area, fields, Layout::FLAGS_AT, n - Layout::FLAGS_AT) {
+        return Fault::Found(Refusal::Header);
+    }
+    if !span::zero_part(area, n, size - n) {
+        return Fault::Found(Refusal::Header);
+    }
+    Fault::Nothing
+}
+
+// What is wrong first with a patch area's header.
+pub fn patch_fault(patch: &[u8]) -> Fault
+    ensures { λ r. ⌜ faultNumber r ≡ firstOf (patchHeadRows pageSize (now (patch .entry))) ⌝ }
+{
+    let fields = patch_fields(Layout::PAGE as u64);
+    head_fault(patch, &fields, Layout::PATCH_HEAD)
+}
+
+// What is wrong first with both headers. A full area of length 0 has none.
+pub fn headers_fault(patch: &[u8], full: &[u8]) -> Fault
+    ensures { λ r. ⌜ faultNumber r ≡ firstOf (headerRows pageSize (now (patch .entry)) (now (full .entry))) ⌝ }
+{
+    match patch_fault(patch) {
+        Fault::Found(r) => Fault::Found(r),
+        Fault::Nothing => {
+            if full.len() == 0 {
+                return Fault::Nothing;
+            }
+            let fields = full_fields(Layout::PAGE as u64);
+            head_fault(full, &fields, Layout::FULL_HEAD)
+        }
+    }
+}
+
+// Fields and then zeros, as far as the area goes.
+fn begin(area: &mut [u8], fields: &[u8])
+    ensures { λ _. ⌜ now (area .exit) ≡ splice (zeros (length (now (area .entry)))) 0 (take (length (now (area .entry))) (now (fields .entry))) ⌝ }
+{
+    span::fill(area);
+    span::copy(area, fields);
+}
+
+// A fresh patch area of this length, as far as it goes.
+pub fn begin_patch(patch: &mut [u8])
+    ensures { λ _. ⌜ now (patch .exit) ≡ take (length (now (patch .entry))) (freshPatch pageSize (length (now (patch .entry)))) ⌝ }
+{
+    let fields = patch_fields(Layout::PAGE as u64);
+    begin(patch, &fields);
+}
+
+// A fresh full area of this length, as far as it goes.
+pub fn begin_full(full: &mut [u8])
+    ensures { λ _. ⌜ now (full .exit) ≡ take (length (now (full .entry))) (freshFull pageSize (length (now (full .entry)))) ⌝ }
+{
+    let fields = full_fields(Layout::PAGE as u64);
+    begin(full, &fields);
+}

@@ -1,0 +1,146 @@
+-- What one turn of each loop over a payload gives, over plain lists.
+use Prim.Native.Nat.{ℕ, suc, _+_, _≤_, _<_}
+use native.Mathlib.Omega.{arith}
+use mathlib.Core.Path.{_≡_, refl, sym, ap, _∙_, subst}
+use mathlib.Core.Bool.{Bool, true, false, _&&_, and-false, false≢true}
+use mathlib.Core.List.{List}
+use mathlib.Core.Logic.{_⊎_, ⊎-elim}
+use lib.Dec.{leb, T}
+use lib.ListN.{length, drop, set, length-set}
+use lib.IntN.{ℤ, pos, negsuc, natAbs}
+use lib.Signed.{nonNeg}
+use mir.Syntax.{w32, w64}
+use mir.Val.{Fits, SFits, toZ, ofZ}
+use mir.ValLaws.{toZ-ofZ}
+use borrow.Author.Tests.{le-leb, lt-leb, ltb-true}
+use Rattle.layout.specs.Sizes.{room}
+use Rattle.payload.specs.Entries.{Stream, done, cut, out, code, inPage, stream, start, payloadStream, whole, sound, entries, last, put, applied}
+use Rattle.payload.specs.Steps.{Follows, Entered, SoundAs}
+use Rattle.payload.specs.declared.Step.{Step}
+
+-- A step's answer, once a `match` has told which it is.
+pub told : (n : ℕ) (payload : List ℕ) (place : ℕ) (s : Stream) (r r′ : Step) → r ≡ r′ → Follows n payload place s r → Follows n payload place s r′
+told n payload place s r r′ e f = subst (λ (x : Step). Follows n payload place s x) e f
+
+-- A place in the page is a signed 32-bit number, and an index.
+pub place-is : (n : ℕ) (q : ℤ) → inPage n q ≡ true → q ≡ pos (natAbs q)
+unfolding inPage
+place-is n (pos k) e = refl
+place-is n (negsuc k) e = absurd (false≢true e)
+
+pub place-in : (n : ℕ) (q : ℤ) → inPage n q ≡ true → natAbs q < n
+unfolding inPage
+place-in n (pos k) e = ltb-true k n e
+place-in n (negsuc k) e = absurd (false≢true e)
+
+pub place-fits : (n : ℕ) (q : ℤ) → n ≤ 65536 → inPage n q ≡ true → SFits w32 q
+place-fits n q h e =
+    let k : natAbs q < n = place-in n q e in
+    subst (SFits w32) (sym (place-is n q e)) (record { sfits = omega arith })
+
+pub place-back : (n : ℕ) (q : ℤ) → n ≤ 65536 → inPage n q ≡ true → toZ w32 (ofZ w32 q) ≡ q
+place-back n q h e = toZ-ofZ w32 q (place-fits n q h e)
+
+-- The check: what is known after the entries before `place`.
+pub record Passed (n : ℕ) (payload : List ℕ) (place : ℕ) (p : ℤ) (count : ℕ) : Type 0 where
+  pub on : place ≤ length payload
+  pub few : count ≤ place
+  pub wholly : whole (payloadStream n payload) ≡ whole (stream n p code (drop place payload))
+  pub many : entries (payloadStream n payload) ≡ count + entries (stream n p code (drop place payload))
+  pub final : last start (payloadStream n payload) ≡ last p (stream n p code (drop place payload))
+
+pub passed-none : (n : ℕ) (payload : List ℕ) → Passed n payload 0 start 0
+passed-none n payload = record { on = omega arith; few = omega arith; wholly = refl; many = omega arith; final = refl }
+
+module _ (n : ℕ) (payload : List ℕ) (place : ℕ) (p : ℤ) (count : ℕ) (h : Passed n payload place p count) where
+  pub passed-more : (q r : ℤ) (v next : ℕ) → r ≡ q → Entered n payload place (stream n p code (drop place payload)) q v next → Passed n payload next r (count + 1)
+  unfolding whole entries last
+  passed-more q r v next e m =
+      subst (λ (z : ℤ). Passed n payload next z (count + 1)) (sym e)
+      (record {
+        on = m .within;
+        few = omega (arith, m .on, h .few);
+        wholly = h .wholly ∙ ap (λ (s : Stream). whole s) (m .is);
+        many =
+            let f : entries (stream n p code (drop place payload)) ≡ suc (entries (stream n q code (drop next payload))) = ap (λ (s : Stream). entries s) (m .is) in
+            omega (arith, h .many);
+        final = h .final ∙ ap (λ (s : Stream). last p s) (m .is);
+      })
+
+  pub passed-all : 1 ≤ length payload → length payload ≤ 504 → stream n p code (drop place payload) ≡ done → SoundAs n payload count p
+  unfolding sound whole entries last
+  passed-all k l e =
+      let f : whole (payloadStream n payload) ≡ true = h .wholly ∙ ap (λ (s : Stream). whole s) e in
+      let g : entries (stream n p code (drop place payload)) ≡ 0 = ap (λ (s : Stream). entries s) e in
+      record {
+        is = rw (le-leb 1 (length payload) k, le-leb (length payload) room l, f);
+        entries = omega (arith, h .many);
+        last = sym (h .final ∙ ap (λ (s : Stream). last p s) e);
+      }
+
+  pub passed-broken : (stream n p code (drop place payload) ≡ cut) ⊎ (stream n p code (drop place payload) ≡ out) → sound n payload ≡ false
+  unfolding sound whole
+  passed-broken e =
+      let f : whole (payloadStream n payload) ≡ false =
+      h .wholly ∙ ⊎-elim (λ (x : stream n p code (drop place payload) ≡ cut). ap (λ (s : Stream). whole s) x) (λ (x : stream n p code (drop place payload) ≡ out). ap (λ (s : Stream). whole s) x) e in
+      ap (λ (t : Bool). leb 1 (length payload) && leb (length payload) room && t) f ∙ and-false (leb 1 (length payload) && leb (length payload) room)
+
+pub unsound-empty : (n : ℕ) (payload : List ℕ) → length payload ≡ 0 → sound n payload ≡ false
+unfolding sound
+unsound-empty n payload e = rw (lt-leb 1 (length payload) (omega arith))
+
+pub unsound-long : (n : ℕ) (payload : List ℕ) → 504 < length payload → sound n payload ≡ false
+unfolding sound
+unsound-long n payload h = rw (lt-leb (length payload) room h, le-leb 1 (length payload) (omega arith))
+
+-- The overlay: what is known after the entries before `place` are written.
+pub record Laid (n : ℕ) (page₀ payload page : List ℕ) (place : ℕ) (p : ℤ) : Type 0 where
+  pub on : place ≤ length payload
+  pub same : length page ≡ length page₀
+  pub still : applied page₀ (payloadStream n payload) ≡ applied page (stream n p code (drop place payload))
+
+pub laid-none : (n : ℕ) (page payload : List ℕ) → Laid n page payload page 0 start
+laid-none n page payload = record { on = omega arith; same = refl; still = refl }
+
+put-is : (n : ℕ) (page : List ℕ) (q : ℤ) (v : ℕ) → inPage n q ≡ true → put page q v ≡ set page (natAbs q) v
+unfolding inPage put
+put-is n page (pos k) v e = refl
+put-is n page (negsuc k) v e = absurd (false≢true e)
+
+module _ (n : ℕ) (page₀ payload page : List ℕ) (place : ℕ) (p : ℤ) (h : Laid n page₀ payload page place p) where
+  pub laid-more : (q r : ℤ) (v next : ℕ) → r ≡ q → Entered n payload place (stream n p code (drop place payload)) q v next → Laid n page₀ payload (set page (natAbs r) v) next r
+  unfolding applied
+  laid-more q r v next e m =
+      subst (λ (z : ℤ). Laid n page₀ payload (set page (natAbs z) v) next z) (sym e)
+      (record {
+        on = m .within;
+        same = length-set page (natAbs q) v ∙ h .same;
+        still =
+            h .still
+            ∙ ap (λ (s : Stream). applied page s) (m .is)
+            ∙ ap (λ (l : List ℕ). applied l (stream n q code (drop next payload))) (put-is n page q v (m .lands));
+      })
+
+  pub laid-all : stream n p code (drop place payload) ≡ done → page ≡ applied page₀ (payloadStream n payload)
+  unfolding applied
+  laid-all e = sym (h .still ∙ ap (λ (s : Stream). applied page s) e)
+
+  pub laid-broken : (stream n p code (drop place payload) ≡ cut) ⊎ (stream n p code (drop place payload) ≡ out) → page ≡ applied page₀ (payloadStream n payload)
+  unfolding applied
+  laid-broken e =
+      sym
+      (h .still
+      ∙ ⊎-elim (λ (x : stream n p code (drop place payload) ≡ cut). ap (λ (s : Stream). applied page s) x) (λ (x : stream n p code (drop place payload) ≡ out). ap (λ (s : Stream). applied page s) x) e)
+
+-- an index that the code reads back from a place's bits
+pub index-fits : (n : ℕ) (q : ℤ) → n ≤ 65536 → inPage n q ≡ true → T (nonNeg (toZ w32 (ofZ w32 q))) × Fits w64 (natAbs (toZ w32 (ofZ w32 q)))
+index-fits n q h e =
+    let b : toZ w32 (ofZ w32 q) ≡ pos (natAbs q) = place-back n q h e ∙ place-is n q e in
+    let k : natAbs q < n = place-in n q e in
+    let f : natAbs (toZ w32 (ofZ w32 q)) ≡ natAbs q = ap natAbs b in
+    (subst (λ (z : ℤ). T (nonNeg z)) (sym b) tt, record { fits = omega arith })
+
+pub index-in : (n : ℕ) (q : ℤ) → n ≤ 65536 → inPage n q ≡ true → natAbs (toZ w32 (ofZ w32 q)) < n
+index-in n q h e =
+    let f : natAbs (toZ w32 (ofZ w32 q)) ≡ natAbs q = ap natAbs (place-back n q h e) in
+    omega (arith, place-in n q e)

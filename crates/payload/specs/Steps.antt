@@ -1,0 +1,50 @@
+-- What the pieces of the reader owe their callers: the step, and the check of a whole payload.
+use Prim.Native.Nat.{ℕ, _-_, _<_, _≤_, min}
+use mathlib.Core.Path.{_≡_}
+use mathlib.Core.Bool.{Bool, true, false}
+use mathlib.Core.List.{List}
+use mathlib.Core.Logic.{_⊎_}
+use lib.ListN.{length, drop}
+use lib.IntN.{ℤ}
+use Rattle.payload.specs.Entries.{Stream, done, cut, out, entry, code, inPage, stream, start, payloadStream, sound, entries as entriesOf, last as lastOf}
+use Rattle.payload.specs.declared.Step.{Step}
+use Rattle.payload.specs.declared.Step.the-variants.{End, Broken, Entry}
+use Rattle.payload.specs.declared.Checked.{Checked}
+use Rattle.payload.specs.declared.Checked.the-variants.{Unsound, Sound}
+
+-- the most bytes of a page that 16-bit jumps are made for: the pieces look no further
+abbrev pub farthest : ℕ
+farthest = 65536
+
+abbrev pub reach : ℕ → ℕ
+reach n = min n farthest
+
+-- The reader's step
+
+-- an entry of the stream at `place`: its position, its value, and where the payload goes on
+pub record Entered (n : ℕ) (payload : List ℕ) (place : ℕ) (s : Stream) (q : ℤ) (v next : ℕ) : Type 0 where
+  pub on : place < next
+  pub within : next ≤ length payload
+  pub lands : inPage n q ≡ true
+  pub is : s ≡ entry (next - place) q v (stream n q code (drop next payload))
+
+-- how the stream s, which stands at `place` of the payload, begins
+abbrev pub Follows : ℕ → List ℕ → ℕ → Stream → Step → Type 0
+Follows n payload place s End = s ≡ done
+Follows n payload place s Broken = (s ≡ cut) ⊎ (s ≡ out)
+Follows n payload place s (Entry q v next) = Entered n payload place s q v next
+
+abbrev pub landing : Bool → ℤ → ℕ → ℕ → Step
+landing true q v next = Entry q v next
+landing false q v next = Broken
+
+-- The check of a whole payload
+
+pub record SoundAs (n : ℕ) (payload : List ℕ) (count : ℕ) (at : ℤ) : Type 0 where
+  pub is : sound n payload ≡ true
+  pub entries : count ≡ entriesOf (payloadStream n payload)
+  pub last : at ≡ lastOf start (payloadStream n payload)
+
+abbrev pub Judges : ℕ → List ℕ → Checked → Type 0
+Judges n payload Unsound = sound n payload ≡ false
+Judges n payload (Sound count at) = SoundAs n payload count at

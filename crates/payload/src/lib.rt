@@ -1,0 +1,105 @@
+// The reader's side of the stream: a payload's entries, one by one, checked as a whole, and laid over a page.
+pub mod entry;
+
+use layout::Layout;
+ghost use mathlib.Core.Path.{_≡_};
+ghost use lib.ListN.{length};
+ghost use Rattle.payload.specs.Entries.{payloadStream, applied};
+ghost use Rattle.payload.specs.Steps.{reach, Judges};
+
+// What stands next in a payload: nothing more, no whole entry that stays in the page, or an entry's place and value, and where the
+// payload goes on after it.
+pub enum Step {
+    End,
+    Broken,
+    Entry {
+        position: i32,
+        value: u8,
+        next: usize,
+    },
+}
+
+// What a check of a whole payload finds: the number of entries and the last position of a sound one.
+pub enum Checked {
+    Unsound,
+    Sound { entries: usize, last: i32 },
+}
+
+// The numbers of the stream's codes, each once.
+pub struct Code;
+
+impl Code {
+    // The first byte of an entry with a 16-bit jump, and how many bytes an entry takes.
+    pub const LONG: u8 = 255;
+
+    pub const SHORT_WIDTH: usize = 2;
+
+    pub const LONG_WIDTH: usize = 4;
+    // The most bytes of a page that 16-bit jumps are made for.
+    pub const REACH: usize = 65536;
+}
+
+// Whether a payload is sound in a page of this size, its number of entries and its last position.
+pub fn check(payload: &[u8], size: usize) -> Checked
+    ensures { λ r. ⌜ Judges (reach size) (now (payload .entry)) r ⌝ }
+{
+    if payload.len() == 0 {
+        return Checked::Unsound;
+    }
+    if Layout::ROOM < payload.len() {
+        return Checked::Unsound;
+    }
+    let mut place = 0;
+    let mut last: i32 = -1;
+    let mut entries = 0;
+    loop {
+        match entry::step(payload, place, last, size) {
+            Step::End => {
+                return Checked::Sound {
+                    entries: entries,
+                    last: last,
+                };
+            }
+            Step::Broken => {
+                return Checked::Unsound;
+            }
+            Step::Entry {
+                position: at,
+                value: _,
+                next,
+            } => {
+                last = at;
+                place = next;
+                entries += 1;
+            }
+        }
+    }
+}
+
+// Writes each entry's value at its place, up to the payload's end or the first entry that is broken.
+pub fn overlay(page: &mut [u8], payload: &[u8])
+    ensures { λ _. ⌜ now (page .exit) ≡ applied (now (page .entry)) (payloadStream (reach (length (now (page .entry)))) (now (payload .entry))) ⌝ }
+{
+    let size = page.len();
+    let mut place = 0;
+    let mut position: i32 = -1;
+    loop {
+        match entry::step(payload, place, position, size) {
+            Step::End => {
+                return;
+            }
+            Step::Broken => {
+                return;
+            }
+            Step::Entry {
+                position: at,
+                value,
+                next,
+            } => {
+                page[at as usize] = value;
+                position = at;
+                place = next;
+            }
+        }
+    }
+}

@@ -1,0 +1,173 @@
+use Rattle.reading.proofs.Pages.{copied-page}
+use Rattle.reading.specs.Parts.{slotOutcome}
+use Rattle.reading.specs.ReadLaws.{slot-missing, slot-unsound, slot-empty, slot-full, patch-read}
+use Rattle.stream.specs.Laws.{base-some}
+use Rattle.stream.specs.Calls.{pageOf}
+use Rattle.slots.specs.Slots.{slotNumbers, soundSlot, stateNumbers, payloadOf}
+use Rattle.slots.specs.SlotLaws.{told-patch}
+use Rattle.layout.specs.Areas.{pagesIn}
+use Rattle.span.specs.Laws.{part-length}
+use Rattle.span.specs.Bytes.{part}
+use Rattle.store.specs.Block.{slotOf, placeOf}
+use Rattle.layout.specs.Sizes.{pageSize, slotSize, pageAt, payloadAt}
+use lib.ListN.{length}
+use mathlib.Core.List.{List}
+use mathlib.Core.Path.{_≡_, sym, ap, _∙_}
+use native.Mathlib.Omega.{arith}
+use Prim.Native.Nat.{ℕ, _<_}
+use borrow.Author.Needs.{needs}
+use Rattle.reading.proofs.read_block.Statement.{statement}
+use Rattle.reading.proofs.read_block.Tie as tie
+
+slot-at-requires : tie.Need-slot-at-requires
+slot-at-requires c κs = search needs
+
+part-requires : tie.Need-part-requires
+part-requires c κs = search needs
+
+slot-state-requires : tie.Need-slot-state-requires
+slot-state-requires c κs = search needs
+
+enum-told : tie.Need-enum-told
+enum-told c = search needs
+
+enum-told-2 : tie.Need-enum-told-2
+enum-told-2 c = search needs
+
+copy-requires : tie.Need-copy-requires
+copy-requires c κs = search needs
+
+enum-known-n : tie.Need-enum-known-n
+enum-known-n c = search needs
+
+part-requires-2 : tie.Need-part-requires-2
+part-requires-2 c κs = search needs
+
+read-patch-requires : tie.Need-read-patch-requires
+read-patch-requires c κs = search needs
+
+enum-told-3 : tie.Need-enum-told-3
+enum-told-3 c = search needs
+
+pages-requires : tie.Need-pages-requires
+pages-requires c κs = search needs
+
+returns : tie.Need-returns
+unfolding slotOf
+returns c =
+    let at = c .before .before .before .before .before .before .before .before .before .before .before in
+    let a = at .args in
+    let s : List ℕ = slotOf (a .patch .now) (a .block) in
+    let same-slot : c .before .before .before .before .before .part .result .now ≡ s = c .before .before .before .before .before .part .ensures ∙ ap (λ (k : ℕ). part k slotSize (a .patch .now)) (c .before .before .before .before .before .before .slot-at .ensures) in
+    let numbers : stateNumbers (c .before .before .before .before .slot-state .result) ≡ slotNumbers s = c .before .before .before .before .slot-state .ensures ∙ ap (λ (l : List ℕ). slotNumbers l) same-slot in
+    let e : slotOutcome pageSize (a .patch .now) (a .full .now) (a .block) (a .base .now) (a .page .now) ≡ record { number = 8; kind = 0; page = a .page .now } =
+    slot-missing pageSize (a .patch .now) (a .full .now) (a .block) (a .base .now) (a .page .now) (sym numbers ∙ ap stateNumbers (c .before .before .enum-told3 .given .1)) (omega (arith, c .before .pages .ensures, c .if1 .taken)) in
+    record { numbers = rw e; bytes = rw e }
+
+page-at-requires : tie.Need-page-at-requires
+page-at-requires c κs = search needs
+
+part-requires-3 : tie.Need-part-requires-3
+part-requires-3 c κs = search needs
+
+copy-requires-2 : tie.Need-copy-requires-2
+copy-requires-2 c κs = search needs
+
+returns-2 : tie.Need-returns-2
+unfolding slotOf
+returns-2 c =
+    let at = c .before .before .before .before .before .before .before .before .before in
+    let a = at .args in
+    let s : List ℕ = slotOf (a .patch .now) (a .block) in
+    let same-slot : c .before .before .before .part .result .now ≡ s = c .before .before .before .part .ensures ∙ ap (λ (k : ℕ). part k slotSize (a .patch .now)) (c .before .before .before .before .slot-at .ensures) in
+    let numbers : stateNumbers (c .before .before .slot-state .result) ≡ slotNumbers s = c .before .before .slot-state .ensures ∙ ap (λ (l : List ℕ). slotNumbers l) same-slot in
+    let e : slotOutcome pageSize (a .patch .now) (a .full .now) (a .block) (a .base .now) (a .page .now) ≡ record { number = 6; kind = 0; page = a .page .now } =
+    slot-unsound pageSize (a .patch .now) (a .full .now) (a .block) (a .base .now) (a .page .now) (sym numbers ∙ ap stateNumbers (c .enum-told .given .1)) in
+    record { numbers = rw e; bytes = rw e }
+
+same-length : tie.Need-same-length
+same-length c = search needs
+
+returns-3 : tie.Need-returns-3
+unfolding slotOf
+returns-3 c =
+    let at = c .before .before .before .before .before .before .before .before .before .before .before .before .before in
+    let a = at .args in
+    let s : List ℕ = slotOf (a .patch .now) (a .block) in
+    let same-slot : c .before .before .before .before .before .before .before .part .result .now ≡ s = c .before .before .before .before .before .before .before .part .ensures ∙ ap (λ (k : ℕ). part k slotSize (a .patch .now)) (c .before .before .before .before .before .before .before .before .slot-at .ensures) in
+    let numbers : stateNumbers (c .before .before .before .before .before .before .slot-state .result) ≡ slotNumbers s = c .before .before .before .before .before .before .slot-state .ensures ∙ ap (λ (l : List ℕ). slotNumbers l) same-slot in
+    let e : slotOutcome pageSize (a .patch .now) (a .full .now) (a .block) (a .base .now) (a .page .now) ≡ record { number = 0; kind = 0; page = pageOf pageSize (a .base .now) } =
+    slot-empty pageSize (a .patch .now) (a .full .now) (a .block) (a .base .now) (a .page .now) (sym numbers ∙ ap stateNumbers (c .before .before .before .before .enum-told2 .given .1)) in
+    let lb : length (a .base .now) ≡ pageSize = at .pre .0 .0 in
+    record {
+      numbers = rw e;
+      bytes =
+          rw e
+          (copied-page (a .page .now) (a .base .now) (c .before .before .copy .last .0) (at .pre .0 .1) lb (c .before .before .copy .ensures)
+          ∙ sym (base-some pageSize (a .base .now) (λ q. omega arith)));
+    }
+
+same-length-2 : tie.Need-same-length-2
+same-length-2 c = search needs
+
+returns-4 : tie.Need-returns-4
+unfolding slotOf payloadOf
+returns-4 c =
+    let at = c .before .before .before .before .before .before .before .before .before .before .before .before .before .before .before in
+    let a = at .args in
+    let s : List ℕ = slotOf (a .patch .now) (a .block) in
+    let same-slot : c .before .before .before .before .before .before .before .before .before .part .result .now ≡ s = c .before .before .before .before .before .before .before .before .before .part .ensures ∙ ap (λ (k : ℕ). part k slotSize (a .patch .now)) (c .before .before .before .before .before .before .before .before .before .before .slot-at .ensures) in
+    let numbers : stateNumbers (c .before .before .before .before .before .before .before .before .slot-state .result) ≡ slotNumbers s = c .before .before .before .before .before .before .before .before .slot-state .ensures ∙ ap (λ (l : List ℕ). slotNumbers l) same-slot in
+    let n : ℕ = c .before .before .before .before .before .before .n .given .0 .0 in
+    let told : slotNumbers s ≡ soundSlot 1 n = sym numbers ∙ ap stateNumbers (c .before .before .before .before .before .before .n .given .1) in
+    let payload : c .before .before .before .before .part2 .result .now ≡ payloadOf s = c .before .before .before .before .part2 .ensures ∙ ap (λ (l : List ℕ). part payloadAt n l) same-slot ∙ ap (λ (k : ℕ). part payloadAt k s) (sym (told-patch s n (sym told) .1)) in
+    let lb : length (a .base .now) ≡ pageSize = at .pre .0 .0 in
+    patch-read pageSize (a .patch .now) (a .full .now) (a .block) (a .base .now) (a .page .now) n (c .before .before .before .before .part2 .result .now) (c .before .before .read-patch .result) (c .before .before .read-patch .last .1 .1 .0) told payload (base-some pageSize (a .base .now) (λ q. omega arith)) (c .before .before .read-patch .ensures)
+
+same-length-3 : tie.Need-same-length-3
+same-length-3 c = search needs
+
+returns-5 : tie.Need-returns-5
+unfolding slotOf placeOf
+returns-5 c =
+    let at = c .before .before .before .before .before .before .before .before .before .before .before .before .before .before .before .before .before in
+    let a = at .args in
+    let s : List ℕ = slotOf (a .patch .now) (a .block) in
+    let same-slot : c .before .before .before .before .before .before .before .before .before .before .before .part .result .now ≡ s = c .before .before .before .before .before .before .before .before .before .before .before .part .ensures ∙ ap (λ (k : ℕ). part k slotSize (a .patch .now)) (c .before .before .before .before .before .before .before .before .before .before .before .before .slot-at .ensures) in
+    let numbers : stateNumbers (c .before .before .before .before .before .before .before .before .before .before .slot-state .result) ≡ slotNumbers s = c .before .before .before .before .before .before .before .before .before .before .slot-state .ensures ∙ ap (λ (l : List ℕ). slotNumbers l) same-slot in
+    let below : a .block < pagesIn pageSize (length (a .full .now)) = omega (arith, c .before .before .before .before .before .before .before .pages .ensures, c .before .before .before .before .before .before .if1 .left) in
+    let e : slotOutcome pageSize (a .patch .now) (a .full .now) (a .block) (a .base .now) (a .page .now) ≡ record { number = 0; kind = 2; page = placeOf pageSize (a .full .now) (a .block) } =
+    slot-full pageSize (a .patch .now) (a .full .now) (a .block) (a .base .now) (a .page .now) (sym numbers ∙ ap stateNumbers (c .before .before .before .before .before .before .before .before .enum-told3 .given .1)) below in
+    let p : c .before .before .before .part3 .result .now ≡ part (pageAt pageSize (a .block)) pageSize (a .full .now) = c .before .before .before .part3 .ensures ∙ ap (λ (k : ℕ). part k pageSize (a .full .now)) (c .before .before .before .before .page-at .ensures) in
+    let l : length (c .before .before .before .part3 .result .now) ≡ pageSize = ap (λ (x : List ℕ). length x) p ∙ part-length (pageAt pageSize (a .block)) pageSize (a .full .now) (at .pre .1 (a .block) below) in
+    record {
+      numbers = rw e;
+      bytes = rw e (copied-page (a .page .now) (c .before .before .before .part3 .result .now) (c .before .before .copy2 .last .0) (at .pre .0 .1) l (c .before .before .copy2 .ensures) ∙ p);
+    }
+
+pub read-block-spec : {M : Type 1} → statement M
+read-block-spec =
+    tie.close
+    (tie.spec
+    slot-at-requires
+    part-requires
+    slot-state-requires
+    enum-told
+    enum-told-2
+    copy-requires
+    enum-known-n
+    part-requires-2
+    read-patch-requires
+    enum-told-3
+    pages-requires
+    returns
+    page-at-requires
+    part-requires-3
+    copy-requires-2
+    returns-2
+    same-length
+    returns-3
+    same-length-2
+    returns-4
+    same-length-3
+    returns-5)

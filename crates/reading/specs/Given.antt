@@ -1,0 +1,22 @@
+-- "Each refusal is given when its condition holds and no earlier one does, and at no other time": Read.
+use Prim.Native.Nat.{ℕ}
+use mathlib.Core.Path.{_≡_, refl}
+use mathlib.Core.List.{List}
+use Rattle.layout.specs.Refusals.{firstOf}
+use Rattle.layout.specs.RefusalLaws.{Exactly, exactly, decided-number, no-row, row, both}
+use Rattle.layout.specs.Groups.{ordered}
+use Rattle.headers.specs.HeaderLaws.{headers-numbered}
+use Rattle.layout.specs.Areas.{lengthRows}
+use Rattle.store.specs.Block.{slotRows, fullRows, payloadRows}
+use Rattle.reading.specs.Read.{ReadOutcome, readRows, readOutcome}
+
+module _ (P : ℕ) where
+  pub read-number : (patch full : List ℕ) (b : ℕ) (base page : List ℕ) → readOutcome P patch full b base page .number ≡ firstOf (readRows P patch full b base page)
+  unfolding readOutcome
+  read-number patch full b base page = decided-number (λ (o : ReadOutcome). o .number) _ _ (firstOf (readRows P patch full b base page)) refl (λ k. refl)
+
+  pub read-exactly : (patch full : List ℕ) (b : ℕ) (base page : List ℕ) → Exactly (readRows P patch full b base page) (readOutcome P patch full b base page .number)
+  unfolding readRows ordered lengthRows slotRows fullRows payloadRows
+  read-exactly patch full b base page =
+      exactly (readRows P patch full b base page) _ (read-number patch full b base page)
+      (row (row (both (headers-numbered P patch full) (row (row (row (row no-row)))))))

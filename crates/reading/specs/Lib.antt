@@ -1,0 +1,4 @@
+pub mod Given
+pub mod Parts
+pub mod Read
+pub mod ReadLaws

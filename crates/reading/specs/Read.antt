@@ -1,0 +1,57 @@
+-- Read a block: base, patched base or full page.
+use Prim.Native.Nat.{ℕ}
+use mathlib.Core.Path.{_≡_}
+use mathlib.Core.Bool.{cond}
+use mathlib.Core.List.{List, [], _∷_}
+use lib.Dec.{eqb}
+use lib.ListN.{length}
+use Rattle.layout.specs.Numbers.{kindNumber, refusalNumber}
+use Rattle.layout.specs.Refusals.{Row, firstOf, decided}
+use Rattle.layout.specs.Groups.{ordered, _▸_}
+use Rattle.layout.specs.Groups as group
+use Rattle.headers.specs.Headers.{headerRows}
+use Rattle.layout.specs.Areas.{lengthRows}
+use Rattle.slots.specs.Slots.{slotNumbers, payloadOf}
+use Rattle.payload.specs.Entries.{payloadStream, applied}
+use Rattle.stream.specs.Calls.{pageOf, pageRows}
+use Rattle.store.specs.Block.{slotOf, placeOf, blockRows, slotRows, fullRows, payloadRows}
+use Rattle.reading.specs.declared.Reading.{Reading}
+use Rattle.reading.specs.declared.Reading.the-variants.{Done, Refused}
+
+unfoldable pub readRows : ℕ → List ℕ → List ℕ → ℕ → List ℕ → List ℕ → List Row
+readRows P patch full b base page =
+    ordered
+    ((group.pages ▸ pageRows P base page) ∷ (group.lengths ▸ lengthRows P (length patch) (length full)) ∷ (group.headers ▸ headerRows P patch full) ∷ (group.block ▸ blockRows patch b) ∷ (group.slot ▸ slotRows (slotOf patch b)) ∷ (group.full ▸ fullRows P (slotOf patch b) full b) ∷ (group.payload ▸ payloadRows P (slotOf patch b)) ∷ [])
+
+-- what a block holds, by its slot's kind
+unfoldable pub contents : ℕ → List ℕ → List ℕ → ℕ → List ℕ → List ℕ
+contents P patch full b base =
+    let s = slotOf patch b in
+    cond (eqb (slotNumbers s .kind) 0) (pageOf P base)
+    (cond (eqb (slotNumbers s .kind) 1) (applied (pageOf P base) (payloadStream P (payloadOf s))) (placeOf P full b))
+
+pub record ReadOutcome : Type 0 where
+  pub number : ℕ
+  pub kind : ℕ
+  pub page : List ℕ
+
+unfoldable pub readOutcome : ℕ → List ℕ → List ℕ → ℕ → List ℕ → List ℕ → ReadOutcome
+readOutcome P patch full b base page =
+    decided (firstOf (readRows P patch full b base page)) (record { number = 0; kind = slotNumbers (slotOf patch b) .kind; page = contents P patch full b base })
+    (λ n. record { number = n; kind = 0; page = page })
+
+-- the paper's numbers for each case of the answer
+pub record ReadNumbers : Type 0 where
+  pub number : ℕ
+  pub kind : ℕ
+
+abbrev pub readingNumbers : Reading → ReadNumbers
+readingNumbers (Done k) = record { number = 0; kind = kindNumber k }
+readingNumbers (Refused r) = record { number = refusalNumber r; kind = 0 }
+
+abbrev pub readNumbers : ReadOutcome → ReadNumbers
+readNumbers o = record { number = o .number; kind = o .kind }
+
+pub record Read (P : ℕ) (patch full : List ℕ) (b : ℕ) (base page : List ℕ) (answer : Reading) (page′ : List ℕ) : Type 0 where
+  pub numbers : readingNumbers answer ≡ readNumbers (readOutcome P patch full b base page)
+  pub bytes : page′ ≡ readOutcome P patch full b base page .page

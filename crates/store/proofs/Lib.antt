@@ -1,3 +1,0 @@
-pub mod Pages
-pub mod Decisions
-pub mod BuildTold

@@ -1,0 +1,54 @@
+-- The laws of Show: its place by what is wrong first.
+use Prim.Native.Nat.{ℕ, _+_, _≤_, _<_}
+use native.Mathlib.Omega.{arith}
+use mathlib.Core.Path.{_≡_, sym, ap, _∙_}
+use mathlib.Core.Bool.{true, false, not, cond}
+use mathlib.Core.List.{List, [], _∷_}
+use lib.Dec.{leb}
+use borrow.Author.Tests.{le-leb, lt-leb}
+use lib.ListN.{length}
+use Rattle.layout.specs.Sizes.{payloadAt, slotAt}
+use Rattle.layout.specs.Refusals.{_⇐_, firstOf, orElse}
+use Rattle.layout.specs.RefusalLaws.{first-append, or-some, decided-done, decided-refused}
+use Rattle.layout.specs.Groups.{ordered}
+use Rattle.headers.specs.Headers.{patchHeadRows}
+use Rattle.layout.specs.Areas.{blocksIn, patchFits}
+use Rattle.slots.specs.Slots.{isPatch, payloadLength}
+use Rattle.store.specs.Block.{slotOf}
+use Rattle.store.specs.Show.{showRows, showPlace}
+
+-- the rows, one after the other
+show-rows : (P : ℕ) (patch : List ℕ) (b : ℕ)
+    → firstOf (showRows P patch b)
+    ≡ orElse (cond (not (patchFits P (length patch))) 2 0)
+    (orElse (firstOf (patchHeadRows P patch)) (orElse (cond (leb (blocksIn (length patch)) b) 5 0) (orElse (cond (not (isPatch (slotOf patch b))) 6 0) 0)))
+unfolding showRows ordered firstOf
+show-rows P patch b =
+    ap (λ (k : ℕ). orElse (cond (not (patchFits P (length patch))) 2 0) k)
+    (first-append (patchHeadRows P patch) ((5 ⇐ leb (blocksIn (length patch)) b) ∷ (6 ⇐ not (isPatch (slotOf patch b))) ∷ []))
+
+module _ (P : ℕ) (patch : List ℕ) (b : ℕ) where
+  refused : (k : ℕ) → firstOf (showRows P patch b) ≡ k → (k ≡ 0 → ⊥) → record { at = 0; len = 0 } ≡ showPlace P patch b
+  unfolding showPlace
+  refused k e h = sym (decided-refused _ _ (firstOf (showRows P patch b)) k e h)
+
+  pub show-length : patchFits P (length patch) ≡ false → record { at = 0; len = 0 } ≡ showPlace P patch b
+  unfolding orElse
+  show-length e = refused 2 (show-rows P patch b ∙ rw e) (λ q. omega arith)
+
+  pub show-header : (k : ℕ) → patchFits P (length patch) ≡ true → firstOf (patchHeadRows P patch) ≡ k → (k ≡ 0 → ⊥) → record { at = 0; len = 0 } ≡ showPlace P patch b
+  unfolding orElse
+  show-header k e f h = refused k (show-rows P patch b ∙ rw (e, f) (or-some k (orElse (cond (leb (blocksIn (length patch)) b) 5 0) (orElse (cond (not (isPatch (slotOf patch b))) 6 0) 0)) h)) h
+
+  module _ (e : patchFits P (length patch) ≡ true) (f : firstOf (patchHeadRows P patch) ≡ 0) where
+    pub show-block : blocksIn (length patch) ≤ b → record { at = 0; len = 0 } ≡ showPlace P patch b
+    unfolding orElse
+    show-block h = refused 5 (show-rows P patch b ∙ rw (e, f, le-leb (blocksIn (length patch)) b h)) (λ q. omega arith)
+
+    pub show-slot : b < blocksIn (length patch) → isPatch (slotOf patch b) ≡ false → record { at = 0; len = 0 } ≡ showPlace P patch b
+    unfolding orElse
+    show-slot h g = refused 6 (show-rows P patch b ∙ rw (e, f, lt-leb (blocksIn (length patch)) b h, g)) (λ q. omega arith)
+
+    pub show-done : b < blocksIn (length patch) → isPatch (slotOf patch b) ≡ true → record { at = slotAt b + payloadAt; len = payloadLength (slotOf patch b) } ≡ showPlace P patch b
+    unfolding orElse showPlace
+    show-done h g = sym (decided-done _ _ (firstOf (showRows P patch b)) (show-rows P patch b ∙ rw (e, f, lt-leb (blocksIn (length patch)) b h, g)))

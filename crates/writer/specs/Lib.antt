@@ -1,0 +1,5 @@
+pub mod Differences
+pub mod ReadBack
+pub mod StepLaws
+pub mod Steps
+pub mod Writer

@@ -1,0 +1,35 @@
+use lib.Dec.{leb}
+use mathlib.Core.Path.{ap}
+use Prim.Native.Nat.{ℕ}
+use borrow.Author.Needs.{needs}
+use Rattle.writing.proofs.place_missing.Statement.{statement}
+use Rattle.writing.proofs.place_missing.Tie as tie
+
+enum-told : tie.Need-enum-told
+enum-told c = search needs
+
+enum-told-2 : tie.Need-enum-told-2
+enum-told-2 c = search needs
+
+enum-told-3 : tie.Need-enum-told-3
+enum-told-3 c = search needs
+
+pages-requires : tie.Need-pages-requires
+pages-requires c κs = search needs
+
+returns : tie.Need-returns
+returns c =
+    rw (c .enum-told .given .1)
+
+returns-2 : tie.Need-returns-2
+returns-2 c =
+    rw (c .enum-told2 .given .1)
+
+returns-3 : tie.Need-returns-3
+returns-3 c =
+    rw (c .before .enum-told3 .given .1) (ap (λ (n : ℕ). leb n (c .before .before .before .args .block)) (c .pages .ensures))
+
+pub place-missing-spec : {M : Type 1} → statement M
+place-missing-spec =
+    tie.close
+    (tie.spec enum-told enum-told-2 enum-told-3 pages-requires returns returns-2 returns-3)

@@ -1,0 +1,68 @@
+// Carrying out a decision (kind, payload, page) on a block: at most two whole stores.
+use layout::Kind;
+use layout::Layout;
+ghost use mathlib.Core.Path.{_≡_};
+ghost use Prim.Native.Nat.{_+_, _≤_};
+ghost use lib.ListN.{length};
+ghost use Rattle.layout.specs.Sizes.{pageSize, slotSize, slotAt, room};
+ghost use Rattle.layout.specs.Numbers.{kindNumber};
+ghost use Rattle.store.specs.Block.{Places};
+ghost use Rattle.writing.specs.Carry.{carriedPatch, carriedFull};
+
+// The block's slot, whatever stood there.
+fn store_slot(patch: &mut [u8], block: u32, kind: Kind, payload: &[u8])
+    requires { ⌜ (slotAt block + slotSize ≤ length (now patch)) × (length (now payload) ≤ room) ⌝ }
+    ensures { λ _. ⌜ now (patch .exit) ≡ carriedPatch (now (patch .entry)) block (kindNumber kind) (now (payload .entry)) ⌝ }
+{
+    let at = Layout::slot_at(block);
+    let end = at + Layout::SLOT;
+    slots::put_slot(&mut patch[at..end], kind, payload);
+}
+
+// The block's place in the full area, if there is one: the page for FULL_REF, zeros for any other kind.
+fn store_place(full: &mut [u8], block: u32, kind: Kind, page: &[u8])
+    requires { ⌜ Places pageSize (now full) ⌝ }
+    requires { ⌜ length (now page) ≡ pageSize ⌝ }
+    ensures { λ _. ⌜ now (full .exit) ≡ carriedFull pageSize (now (full .entry)) block (kindNumber kind) (now (page .entry)) ⌝ }
+{
+    if layout::area::pages(full.len()) <= (block as usize) {
+        return;
+    }
+    let at = Layout::page_at(block);
+    let end = at + Layout::PAGE;
+    match kind {
+        Kind::Empty => span::fill(&mut full[at..end]),
+        Kind::Patch => span::fill(&mut full[at..end]),
+        Kind::Full => span::copy(&mut full[at..end], page),
+    }
+}
+
+// Page then slot for FULL_REF, slot then zeroed place for the other kinds: a stop in between leaves the block as before or as new.
+pub(crate) fn carry_out(
+    patch: &mut [u8],
+    full: &mut [u8],
+    block: u32,
+    kind: Kind,
+    payload: &[u8],
+    page: &[u8],
+)
+    requires { ⌜ (slotAt block + slotSize ≤ length (now patch)) × (length (now payload) ≤ room) ⌝ }
+    requires { ⌜ Places pageSize (now full) ⌝ }
+    requires { ⌜ length (now page) ≡ pageSize ⌝ }
+    ensures { λ _. ⌜ (now (patch .exit) ≡ carriedPatch (now (patch .entry)) block (kindNumber kind) (now (payload .entry))) × (now (full .exit) ≡ carriedFull pageSize (now (full .entry)) block (kindNumber kind) (now (page .entry))) ⌝ }
+{
+    match kind {
+        Kind::Full => {
+            store_place(full, block, kind, page);
+            store_slot(patch, block, kind, payload);
+        }
+        Kind::Empty => {
+            store_slot(patch, block, kind, payload);
+            store_place(full, block, kind, page);
+        }
+        Kind::Patch => {
+            store_slot(patch, block, kind, payload);
+            store_place(full, block, kind, page);
+        }
+    }
+}
