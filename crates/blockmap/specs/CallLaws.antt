@@ -15,14 +15,16 @@ use Rattle.layout.specs.Groups.{ordered}
 use Rattle.layout.specs.declared.Refusal.{Refusal}
 use Rattle.layout.specs.declared.Refusal.the-variants.{Length, Buffer, Block, Pair}
 use Rattle.blockmap.specs.Pairs.{mapBytes, pairAt, pairs, patchPair, fullPair, reservedPair, badPairs}
-use Rattle.blockmap.specs.Calls.{mapRows, LookedNumbers, lookUpRows, lookUpNumbers, lookedNumbers, LookUp, TalliedNumbers, tallyRows, tallyNumbers, talliedNumbers, Tally}
+use Rattle.blockmap.specs.Calls.{mapRows, LookedNumbers, lookUpRows, lookUpNumbers, lookedNumbers, LookUp, TalliedNumbers}
+use Rattle.blockmap.specs.Calls.{tallyRows, tallyNumbers, talliedNumbers, Tally}
 use Rattle.blockmap.specs.declared.Looked.{Looked}
 use Rattle.blockmap.specs.declared.Looked.the-variants.{Done as LookedDone, Refused as LookedRefused}
 use Rattle.blockmap.specs.declared.Tallied.{Tallied}
 use Rattle.blockmap.specs.declared.Tallied.the-variants.{Done as TalliedDone, Refused as TalliedRefused}
 
 module _ (P : ℕ) (map : List ℕ) (n : ℕ) where
-  look-refused : (b k : ℕ) (r : Refusal) → refusalNumber r ≡ suc k → firstOf (lookUpRows P map n b) ≡ suc k → LookUp P map n b (LookedRefused r)
+  look-refused : (b k : ℕ) (r : Refusal) → refusalNumber r ≡ suc k → firstOf (lookUpRows P map n b) ≡ suc k
+      → LookUp P map n b (LookedRefused r)
   unfolding lookUpNumbers decided
   look-refused b k r q e = record { numbers = rw (lookUpNumbers, q, e) }
 
@@ -34,7 +36,8 @@ module _ (P : ℕ) (map : List ℕ) (n : ℕ) where
   unfolding tallyNumbers decided
   tally-refused k r q e = record { numbers = rw (tallyNumbers, q, e) }
 
-  tally-given : (p f : ℕ) → firstOf (tallyRows P map n) ≡ 0 → p ≡ pairs patchPair map n → f ≡ pairs fullPair map n → Tally P map n (TalliedDone p f)
+  tally-given : (p f : ℕ) → firstOf (tallyRows P map n) ≡ 0 → p ≡ pairs patchPair map n → f ≡ pairs fullPair map n
+      → Tally P map n (TalliedDone p f)
   unfolding tallyNumbers decided
   tally-given p f e q r = record { numbers = rw (tallyNumbers, q, r, e) }
 
@@ -55,13 +58,15 @@ module _ (P : ℕ) (map : List ℕ) (n : ℕ) where
     unfolding lookUpRows mapRows ordered
     look-buffer b h =
         look-refused b 8 Buffer refl
-        (first-skip 2 (ltb (blocksAtMost P) n) _ fits ∙ first-hit 8 (ltb (length map) (mapBytes n)) _ (lt-ltb (length map) (mapBytes n) h))
+        (first-skip 2 (ltb (blocksAtMost P) n) _ fits
+        ∙ first-hit 8 (ltb (length map) (mapBytes n)) _ (lt-ltb (length map) (mapBytes n) h))
 
     pub tally-buffer : length map < mapBytes n → Tally P map n (TalliedRefused Buffer)
     unfolding tallyRows mapRows ordered
     tally-buffer h =
         tally-refused 8 Buffer refl
-        (first-skip 2 (ltb (blocksAtMost P) n) _ fits ∙ first-hit 8 (ltb (length map) (mapBytes n)) _ (lt-ltb (length map) (mapBytes n) h))
+        (first-skip 2 (ltb (blocksAtMost P) n) _ fits
+        ∙ first-hit 8 (ltb (length map) (mapBytes n)) _ (lt-ltb (length map) (mapBytes n) h))
 
     module _ (long : mapBytes n ≤ length map) where
       holds : ltb (length map) (mapBytes n) ≡ false
@@ -71,7 +76,8 @@ module _ (P : ℕ) (map : List ℕ) (n : ℕ) where
       unfolding lookUpRows mapRows ordered
       look-block b h =
           look-refused b 4 Block refl
-          (first-skip 2 (ltb (blocksAtMost P) n) _ fits ∙ first-skip 9 (ltb (length map) (mapBytes n)) _ holds ∙ first-hit 4 (leb n b) _ (le-leb n b h))
+          (first-skip 2 (ltb (blocksAtMost P) n) _ fits ∙ first-skip 9 (ltb (length map) (mapBytes n)) _ holds
+          ∙ first-hit 4 (leb n b) _ (le-leb n b h))
 
       pub look-pair : (b : ℕ) → b < n → pairAt map b ≡ reservedPair → LookUp P map n b (LookedRefused Pair)
       unfolding lookUpRows mapRows ordered
@@ -92,9 +98,11 @@ module _ (P : ℕ) (map : List ℕ) (n : ℕ) where
       unfolding tallyRows mapRows ordered
       tally-pair e =
           tally-refused 10 Pair refl
-          (first-skip 2 (ltb (blocksAtMost P) n) _ fits ∙ first-skip 9 (ltb (length map) (mapBytes n)) _ holds ∙ first-hit 10 (badPairs map n) _ e)
+          (first-skip 2 (ltb (blocksAtMost P) n) _ fits ∙ first-skip 9 (ltb (length map) (mapBytes n)) _ holds
+          ∙ first-hit 10 (badPairs map n) _ e)
 
-      pub tally-done : (p f : ℕ) → badPairs map n ≡ false → p ≡ pairs patchPair map n → f ≡ pairs fullPair map n → Tally P map n (TalliedDone p f)
+      pub tally-done : (p f : ℕ) → badPairs map n ≡ false → p ≡ pairs patchPair map n → f ≡ pairs fullPair map n
+          → Tally P map n (TalliedDone p f)
       unfolding tallyRows mapRows ordered
       tally-done p f e = tally-given p f (first-done (tallyRows P map n) (fits, (holds, (e, tt {0}))))
 

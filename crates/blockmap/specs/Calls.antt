@@ -19,7 +19,8 @@ use Rattle.blockmap.specs.declared.Tallied.the-variants.{Done as Tallied
 unfoldable pub mapRows : ℕ → List ℕ → ℕ → List Row → List Row → List Row
 mapRows P map n block pair =
     ordered
-    ((group.lengths ▸ (2 ⇐ ltb (blocksAtMost P) n) ∷ []) ∷ (group.buffers ▸ (9 ⇐ ltb (length map) (mapBytes n)) ∷ []) ∷ (group.block ▸ block) ∷ (group.pair ▸ pair) ∷ [])
+    ((group.lengths ▸ (2 ⇐ ltb (blocksAtMost P) n) ∷ []) ∷ (group.buffers ▸ (9 ⇐ ltb (length map) (mapBytes n)) ∷ [])
+    ∷ (group.block ▸ block) ∷ (group.pair ▸ pair) ∷ [])
 
 -- Look up
 

@@ -10,10 +10,12 @@ use Rattle.blockmap.specs.Calls.{mapRows, LookedNumbers, lookUpRows, loo
 pub look-up-exactly : (P : ℕ) (map : List ℕ) (n b : ℕ) → Exactly (lookUpRows P map n b) (lookUpNumbers P map n b .number)
 unfolding lookUpNumbers lookUpRows mapRows ordered
 look-up-exactly P map n b =
-    exactly (lookUpRows P map n b) _ (decided-number (λ (x : LookedNumbers). x .number) _ _ (firstOf (lookUpRows P map n b)) refl (λ k. refl))
+    exactly (lookUpRows P map n b) _ (decided-number (λ (x : LookedNumbers). x .number) _ _ (firstOf (lookUpRows P map n b)) refl
+    (λ k. refl))
     (row (row (row (row no-row))))
 
 pub tally-exactly : (P : ℕ) (map : List ℕ) (n : ℕ) → Exactly (tallyRows P map n) (tallyNumbers P map n .number)
 unfolding tallyNumbers tallyRows mapRows ordered
 tally-exactly P map n =
-    exactly (tallyRows P map n) _ (decided-number (λ (x : TalliedNumbers). x .number) _ _ (firstOf (tallyRows P map n)) refl (λ k. refl)) (row (row (row no-row)))
+    exactly (tallyRows P map n) _ (decided-number (λ (x : TalliedNumbers). x .number) _ _ (firstOf (tallyRows P map n)) refl (λ k. refl))
+    (row (row (row no-row)))

@@ -1,11 +1,13 @@
--- What the definitions of Tally mean, said again without their recursion: counts are lengths of lists of blocks, and a bad map has a bad pair.
+-- What the definitions of Tally mean, said again without their recursion: counts are lengths of lists of blocks, and a bad map has a bad
+-- pair.
 use Prim.Native.Nat.{ℕ, zero, suc, _+_, _-_, _*_, _≤_, _<_}
 use native.Mathlib.Omega.{arith}
 use native.Mathlib.Decide.{decLt}
 use mathlib.Core.Path.{_≡_, refl, sym, ap, _∙_}
 use mathlib.Core.Logic.{_↔_, _⊎_, ⊎-elim, inl, inr}
 use mathlib.Core.Bool.{Bool, true, false, not, _||_, cond, or-true}
-use mathlib.Core.List.{List, [], _∷_, _++_, List·Memᴰ, List·Memᴰ·head, List·Memᴰ·tail, List·Memᴰ·not-nil, List·Memᴰ·cases-cons, List·Memᴰ·append-cases, List·Memᴰ·eq-of-singleton, Memᴰ·append-left, Memᴰ·append-right}
+use mathlib.Core.List.{List, [], _∷_, _++_, List·Memᴰ, List·Memᴰ·head, List·Memᴰ·tail, List·Memᴰ·not-nil, List·Memᴰ·cases-cons}
+use mathlib.Core.List.{List·Memᴰ·append-cases, List·Memᴰ·eq-of-singleton, Memᴰ·append-left, Memᴰ·append-right}
 use lib.Dec.{eqb}
 use lib.ListN.{length, length-append}
 use borrow.Author.Tests.{eq-eqb, eqb-true, eqb-false}
@@ -154,14 +156,16 @@ blocks-with v map n =
 
 -- and no other rising list does
 
-rising-one : (xs ys : List ℕ) → Rising xs → Rising ys → ((b : ℕ) → List·Memᴰ b xs → List·Memᴰ b ys) → ((b : ℕ) → List·Memᴰ b ys → List·Memᴰ b xs) → xs ≡ ys
+rising-one : (xs ys : List ℕ) → Rising xs → Rising ys → ((b : ℕ) → List·Memᴰ b xs → List·Memᴰ b ys)
+    → ((b : ℕ) → List·Memᴰ b ys → List·Memᴰ b xs) → xs ≡ ys
 rising-one [] [] r s to from = refl
 rising-one [] (y ∷ ys) r s to from = absurd (List·Memᴰ·not-nil (from y (List·Memᴰ·head refl)))
 rising-one (x ∷ xs) [] r s to from = absurd (List·Memᴰ·not-nil (to x (List·Memᴰ·head refl)))
 rising-one (x ∷ xs) (y ∷ ys) r s to from =
     go
     (⊎-elim (λ e. e)
-    (λ m. ⊎-elim (λ e. sym e) (λ k. absurd (let a : y < x = s .0 x m in let b : x < y = r .0 y k in omega arith)) (List·Memᴰ·cases-cons (from y (List·Memᴰ·head refl))))
+    (λ m. ⊎-elim (λ e. sym e) (λ k. absurd (let a : y < x = s .0 x m in let b : x < y = r .0 y k in omega arith))
+    (List·Memᴰ·cases-cons (from y (List·Memᴰ·head refl))))
     (List·Memᴰ·cases-cons (to x (List·Memᴰ·head refl))))
     (rising-one xs ys (r .1) (s .1))
   where
@@ -171,7 +175,8 @@ rising-one (x ∷ xs) (y ∷ ys) r s to from =
         ∙ ap (λ (l : List ℕ). y ∷ l)
         (rest
         (λ b m. ⊎-elim (λ q. absurd (let a : x < b = r .0 b m in omega arith)) (λ k. k) (List·Memᴰ·cases-cons (to b (List·Memᴰ·tail m))))
-        (λ b m. ⊎-elim (λ q. absurd (let a : y < b = s .0 b m in omega arith)) (λ k. k) (List·Memᴰ·cases-cons (from b (List·Memᴰ·tail m)))))
+        (λ b m. ⊎-elim (λ q. absurd (let a : y < b = s .0 b m in omega arith)) (λ k. k)
+        (List·Memᴰ·cases-cons (from b (List·Memᴰ·tail m)))))
 
 pub pairs-counted : (v : ℕ) (map : List ℕ) (n : ℕ) (bs : List ℕ) → JustThose (HasPair v map n) bs → pairs v map n ≡ length bs
 pairs-counted v map n bs j =
@@ -192,7 +197,8 @@ reserved-at map zero e = absurd (let z : _≡_ {A = ℕ} 0 1 = cc in omega arith
 reserved-at map (suc n) e = go (someReserved map n) (eqb (pairAt map n) reservedPair) refl refl e (reserved-at map n)
   where
     go : (s t : Bool) → someReserved map n ≡ s → eqb (pairAt map n) reservedPair ≡ t → (s || t) ≡ true
-        → (someReserved map n ≡ true → (b : ℕ) × (b < n) × (pairAt map b ≡ reservedPair)) → (b : ℕ) × (b < suc n) × (pairAt map b ≡ reservedPair)
+        → (someReserved map n ≡ true → (b : ℕ) × (b < n) × (pairAt map b ≡ reservedPair))
+        → (b : ℕ) × (b < suc n) × (pairAt map b ≡ reservedPair)
     go true t p q w rest = let (b, h, k) = rest p in (b, omega arith, k)
     go false true p q w rest = (n, omega arith, eqb-true (pairAt map n) reservedPair q)
     go false false p q w rest = absurd (let z : _≡_ {A = ℕ} 0 1 = cc in omega arith)
@@ -214,7 +220,8 @@ used-at map n zero e = absurd (let z : _≡_ {A = ℕ} 0 1 = cc in omega arith)
 used-at map n (suc k) e = go (someUsed map n k) (eqb (pairAt map (n + k)) 0) refl refl e (used-at map n k)
   where
     go : (s t : Bool) → someUsed map n k ≡ s → eqb (pairAt map (n + k)) 0 ≡ t → (s || not t) ≡ true
-        → (someUsed map n k ≡ true → (b : ℕ) × (n ≤ b) × (b < n + k) × (pairAt map b ≡ 0 → ⊥)) → (b : ℕ) × (n ≤ b) × (b < n + suc k) × (pairAt map b ≡ 0 → ⊥)
+        → (someUsed map n k ≡ true → (b : ℕ) × (n ≤ b) × (b < n + k) × (pairAt map b ≡ 0 → ⊥))
+        → (b : ℕ) × (n ≤ b) × (b < n + suc k) × (pairAt map b ≡ 0 → ⊥)
     go true t p q w rest = let (b, h, l, z) = rest p in (b, h, omega arith, z)
     go false false p q w rest = (n + k, omega arith, omega arith, eqb-false (pairAt map (n + k)) 0 q)
     go false true p q w rest = absurd (let z : _≡_ {A = ℕ} 0 1 = cc in omega arith)

@@ -123,7 +123,8 @@ module _ (f : ℕ → ℕ) (n : ℕ) where
       rw (div-one, e) (byte-0 (pairIn f n (4 * i)) (pairIn f n (4 * i + 1)) (pairIn f n (4 * i + 2)) (pairIn f n (4 * i + 3)))
   inside i (suc zero) h = byte-1 (pairIn f n (4 * i)) (pairIn f n (4 * i + 1)) (pairIn f n (4 * i + 2)) (pairIn f n (4 * i + 3))
   inside i (suc (suc zero)) h = byte-2 (pairIn f n (4 * i)) (pairIn f n (4 * i + 1)) (pairIn f n (4 * i + 2)) (pairIn f n (4 * i + 3))
-  inside i (suc (suc (suc zero))) h = byte-3 (pairIn f n (4 * i)) (pairIn f n (4 * i + 1)) (pairIn f n (4 * i + 2)) (pairIn f n (4 * i + 3))
+  inside i (suc (suc (suc zero))) h = byte-3 (pairIn f n (4 * i)) (pairIn f n (4 * i + 1)) (pairIn f n (4 * i + 2))
+      (pairIn f n (4 * i + 3))
   inside i (suc (suc (suc (suc k)))) h = absurd (omega arith)
 
   pub packed-pair : (b : ℕ) → b < 4 * mapBytes n → pairAt (packed f n) b ≡ pairIn f n b % 4
@@ -143,7 +144,8 @@ module _ (f : ℕ → ℕ) (n : ℕ) where
 
 -- A map is determined by its pairs
 
-byte-one : (xs ys : List ℕ) (i : ℕ) → getD xs i 0 < 256 → getD ys i 0 < 256 → ((b : ℕ) → b < 4 * (i + 1) → 4 * i ≤ b → pairAt xs b ≡ pairAt ys b) → getD xs i 0 ≡ getD ys i 0
+byte-one : (xs ys : List ℕ) (i : ℕ) → getD xs i 0 < 256 → getD ys i 0 < 256
+    → ((b : ℕ) → b < 4 * (i + 1) → 4 * i ≤ b → pairAt xs b ≡ pairAt ys b) → getD xs i 0 ≡ getD ys i 0
 byte-one xs ys i h k e =
     let x : ℕ = getD xs i 0 in
     let y : ℕ = getD ys i 0 in

@@ -9,7 +9,8 @@ use mathlib.Core.List.{List}
 use lib.Dec.{eqb}
 use lib.ListN.{getD}
 use borrow.Author.Tests.{eq-eqb, ne-eqb, eqb-true, eqb-false}
-use Rattle.blockmap.specs.Pairs.{mapBytes, pairAt, pairs, patchPair, fullPair, reservedPair, someReserved, someUsed, badPairs, inByte, tallyEntry}
+use Rattle.blockmap.specs.Pairs.{mapBytes, pairAt, pairs, patchPair, fullPair, reservedPair, someReserved, someUsed, badPairs}
+use Rattle.blockmap.specs.Pairs.{inByte, tallyEntry}
 
 -- a pair by its byte and its place there
 pub pair-in : (map : List ℕ) (i k b : ℕ) → k < 4 → b ≡ 4 * i + k → pairAt map b ≡ getD map i 0 / 4 ^ k % 4
@@ -66,7 +67,8 @@ reserved-none map (suc b) e =
     let z : pairs reservedPair map b ≡ 0 = omega arith in
     go (eqb (pairAt map b) reservedPair) refl (reserved-none map b z)
   where
-    go : (t : Bool) → eqb (pairAt map b) reservedPair ≡ t → someReserved map b ≡ false → (someReserved map b || eqb (pairAt map b) reservedPair) ≡ false
+    go : (t : Bool) → eqb (pairAt map b) reservedPair ≡ t → someReserved map b ≡ false
+        → (someReserved map b || eqb (pairAt map b) reservedPair) ≡ false
     go true q h = absurd (let z : _≡_ {A = ℕ} (cond (eqb (pairAt map b) reservedPair) 1 0) 1 = rw q in omega arith)
     go false q h = rw (h, q)
 
@@ -149,7 +151,8 @@ module _ (map : List ℕ) (n : ℕ) (whole : n % 4 ≡ 0 → ⊥) where
       past j (omega arith) ∙ ap (λ (y : ℕ). y % 4) q
 
   -- a byte without this pair and those above it
-  clear : (r : ℕ) → n % 4 ≡ r → getD map (n / 4) 0 < 256 → ((j : ℕ) → r + j < 4 → getD map (n / 4) 0 / 4 ^ (r + j) % 4 ≡ 0) → getD map (n / 4) 0 / 4 ^ r ≡ 0
+  clear : (r : ℕ) → n % 4 ≡ r → getD map (n / 4) 0 < 256 → ((j : ℕ) → r + j < 4 → getD map (n / 4) 0 / 4 ^ (r + j) % 4 ≡ 0)
+      → getD map (n / 4) 0 / 4 ^ r ≡ 0
   clear zero e s h = absurd (whole e)
   clear (suc zero) e s h =
       let x : ℕ = getD map (n / 4) 0 in
@@ -229,9 +232,11 @@ module _ (map : List ℕ) (n : ℕ) (clean : someUsed map n (4 * mapBytes n - n)
       let k : ℕ = 4 * mapBytes n - 4 * (i + 1) in
       let q : 4 * (i + 1) + k ≡ 4 * mapBytes n = omega arith in
       let w : pairs reservedPair map (4 * mapBytes n) ≡ pairs reservedPair map n = pairs-whole reservedPair (λ z. omega arith) in
-      let r : pairs reservedPair map (4 * (i + 1)) ≤ pairs reservedPair map (4 * (i + 1) + k) = pairs-rise reservedPair map (4 * (i + 1)) k in
+      let r : pairs reservedPair map (4 * (i + 1)) ≤ pairs reservedPair map (4 * (i + 1) + k) = pairs-rise reservedPair map (4 * (i + 1))
+      k in
       let r′ : pairs reservedPair map (4 * (i + 1)) ≤ pairs reservedPair map (4 * mapBytes n) = rw q at r in
-      let b : pairs reservedPair map (4 * (i + 1)) ≡ pairs reservedPair map (4 * i) + inByte reservedPair (getD map i 0) = pairs-byte reservedPair map i in
+      let b : pairs reservedPair map (4 * (i + 1)) ≡ pairs reservedPair map (4 * i) + inByte reservedPair (getD map i 0) = pairs-byte
+      reservedPair map i in
       rw (reserved-some map n (λ z. bad (omega arith)))
 
 -- shifts by pairs

@@ -42,7 +42,8 @@ seen-same a b at i false s h = go (eqb (getD a (at + i) 0) (getD b (at + i) 0)) 
     go false e k = absurd (true≢false k)
 
 -- equal bytes are passed over
-pub skipped : (a b : List ℕ) (from at to : ℕ) → at ≤ to → to ≤ length a → to ≤ length b → nextDiff a b from ≡ nextDiff a b at → Same a b at to → nextDiff a b from ≡ nextDiff a b to
+pub skipped : (a b : List ℕ) (from at to : ℕ) → at ≤ to → to ≤ length a → to ≤ length b → nextDiff a b from ≡ nextDiff a b at → Same a b at to
+    → nextDiff a b from ≡ nextDiff a b to
 skipped a b from at to h la lb e s = e ∙ next-skip a b at to h la lb s
 
 -- a count has passed one byte more
@@ -80,7 +81,8 @@ cluster-none a b from =
     }
 
 -- a chunk's differences, up to the last of them
-pub cluster-chunk : (a b : List ℕ) (from count r : ℕ) → from + 64 ≤ length a → from + 64 ≤ length b → count ≡ diffsIn a b from 64 → Lasts a b from (from + 64) r
+pub cluster-chunk : (a b : List ℕ) (from count r : ℕ) → from + 64 ≤ length a → from + 64 ≤ length b → count ≡ diffsIn a b from 64
+    → Lasts a b from (from + 64) r
     → Clusters a b from (record { count = count; next = r })
 cluster-chunk a b from count r la lb e l =
     let o : from ≤ r = l .on in

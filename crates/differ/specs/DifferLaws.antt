@@ -28,7 +28,8 @@ agree-within (x ∷ xs) [] = omega arith
 agree-within (x ∷ xs) (y ∷ ys) = go (eqb x y) (agree-within xs ys)
   where
     go : (t : Bool) → (agree xs ys ≤ length xs) × (agree xs ys ≤ length ys)
-        → (elim t as (λ _. ℕ) [ true ↦ suc (agree xs ys) | false ↦ 0 ] ≤ suc (length xs)) × (elim t as (λ _. ℕ) [ true ↦ suc (agree xs ys) | false ↦ 0 ] ≤ suc (length ys))
+        → (elim t as (λ _. ℕ) [ true ↦ suc (agree xs ys) | false ↦ 0 ] ≤ suc (length xs))
+        × (elim t as (λ _. ℕ) [ true ↦ suc (agree xs ys) | false ↦ 0 ] ≤ suc (length ys))
     go true h = omega arith
     go false h = omega arith
 
@@ -44,16 +45,19 @@ agree-alike (x ∷ xs) (y ∷ ys) i h = go (eqb x y) refl i (agree-alike xs ys) 
     go true e (suc j) rest k = rest j (omega arith)
     go false e j rest k = absurd (omega arith)
 
-agree-differ : (xs ys : List ℕ) → agree xs ys < length xs → agree xs ys < length ys → getD xs (agree xs ys) 0 ≡ getD ys (agree xs ys) 0 → ⊥
+agree-differ : (xs ys : List ℕ) → agree xs ys < length xs → agree xs ys < length ys → getD xs (agree xs ys) 0 ≡ getD ys (agree xs ys) 0
+    → ⊥
 unfolding agree
 agree-differ [] ys h k e = omega arith
 agree-differ (x ∷ xs) [] h k e = omega arith
 agree-differ (x ∷ xs) (y ∷ ys) h k e = go (eqb x y) refl (agree-differ xs ys) h k e
   where
-    go : (t : Bool) → eqb x y ≡ t → (agree xs ys < length xs → agree xs ys < length ys → getD xs (agree xs ys) 0 ≡ getD ys (agree xs ys) 0 → ⊥)
+    go : (t : Bool) → eqb x y ≡ t → (agree xs ys < length xs → agree xs ys < length ys → getD xs (agree xs ys) 0 ≡ getD ys (agree xs ys) 0
+        → ⊥)
         → elim t as (λ _. ℕ) [ true ↦ suc (agree xs ys) | false ↦ 0 ] < suc (length xs)
         → elim t as (λ _. ℕ) [ true ↦ suc (agree xs ys) | false ↦ 0 ] < suc (length ys)
-        → getD (x ∷ xs) (elim t as (λ _. ℕ) [ true ↦ suc (agree xs ys) | false ↦ 0 ]) 0 ≡ getD (y ∷ ys) (elim t as (λ _. ℕ) [ true ↦ suc (agree xs ys) | false ↦ 0 ]) 0
+        → getD (x ∷ xs) (elim t as (λ _. ℕ) [ true ↦ suc (agree xs ys) | false ↦ 0 ]) 0
+        ≡ getD (y ∷ ys) (elim t as (λ _. ℕ) [ true ↦ suc (agree xs ys) | false ↦ 0 ]) 0
         → ⊥
     go true e rest h k f = rest (omega arith) (omega arith) f
     go false e rest h k f = eqb-false x y e f
@@ -104,7 +108,8 @@ pub next-is : (a b : List ℕ) (from r : ℕ) → Next a b from r → nextDiff a
 next-is a b from r p = next-one a b from (nextDiff a b from) r (next a b from) p
 
 -- equal bytes may be passed over
-pub next-skip : (a b : List ℕ) (from r : ℕ) → from ≤ r → r ≤ length a → r ≤ length b → Same a b from r → nextDiff a b from ≡ nextDiff a b r
+pub next-skip : (a b : List ℕ) (from r : ℕ) → from ≤ r → r ≤ length a → r ≤ length b → Same a b from r
+    → nextDiff a b from ≡ nextDiff a b r
 unfolding Same
 next-skip a b from r h la lb e =
     let n : Next a b r (nextDiff a b r) = next a b r in
@@ -184,8 +189,14 @@ diffs-alike a b from k zero s =
     ap (λ (i : ℕ). diffsIn a b from i) q
 diffs-alike a b from k (suc n) s =
     let q : k + suc n ≡ suc (k + n) = omega arith in
-    let e : diffsIn a b from (k + suc n) ≡ diffsIn a b from (k + n) + differsAt a b (from + (k + n)) = ap (λ (i : ℕ). diffsIn a b from i) q in
-    omega (arith, alike-at a b (from + (k + n)) (s (from + (k + n)) (omega arith) (omega arith)), diffs-alike a b from k n (λ i h l. s i h (omega arith)))
+    let e : diffsIn a b from (k + suc n) ≡ diffsIn a b from (k + n) + differsAt a b (from + (k + n)) = ap (λ (i : ℕ). diffsIn a b from i)
+    q in
+    omega (
+      arith,
+      alike-at a b (from + (k + n)) (s (from + (k + n)) (omega arith) (omega arith)),
+      diffs-alike a b from k n
+          (λ i h l. s i h (omega arith)),
+    )
 
 -- lists of one length with no difference before their end are the same
 pub same-by-next : (a b : List ℕ) → length a ≡ length b → eqb (nextDiff a b 0) (length a) ≡ same a b

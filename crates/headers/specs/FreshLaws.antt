@@ -16,15 +16,18 @@ use Rattle.layout.specs.Numbers.{le}
 use Rattle.headers.specs.Fresh.{freshPatch, freshFull}
 use lib.Seq.{getD-take}
 
-pub fresh-is : (fields : List ℕ) (n size : ℕ) → length fields ≤ size → splice (zeros n) 0 (take n fields) ≡ take n (header fields size ++ zeros (n - size))
+pub fresh-is : (fields : List ℕ) (n size : ℕ) → length fields ≤ size
+    → splice (zeros n) 0 (take n fields) ≡ take n (header fields size ++ zeros (n - size))
 unfolding header
 fresh-is fields n size h =
     let k : ℕ = n - length (take n fields) in
     let a : length (take n fields) ≡ min n (length fields) = length-take n fields in
     let b : length (take n fields ++ zeros k) ≡ length (take n fields) + length (zeros k) = length-append (take n fields) (zeros k) in
     let w : List ℕ = (fields ++ zeros (size - length fields)) ++ zeros (n - size) in
-    let l : length w ≡ length (fields ++ zeros (size - length fields)) + length (zeros (n - size)) = length-append (fields ++ zeros (size - length fields)) (zeros (n - size)) in
-    let m : length (fields ++ zeros (size - length fields)) ≡ length fields + length (zeros (size - length fields)) = length-append fields (zeros (size - length fields)) in
+    let l : length w ≡ length (fields ++ zeros (size - length fields)) + length (zeros (n - size)) = length-append
+    (fields ++ zeros (size - length fields)) (zeros (n - size)) in
+    let m : length (fields ++ zeros (size - length fields)) ≡ length fields + length (zeros (size - length fields)) = length-append fields
+    (zeros (size - length fields)) in
     let z : length (zeros k) ≡ k = zeros-length k in
     let y : length (zeros (n - size)) ≡ n - size = zeros-length (n - size) in
     let x : length (zeros (size - length fields)) ≡ size - length fields = zeros-length (size - length fields) in
@@ -35,7 +38,8 @@ fresh-is fields n size h =
     let j′ : i < n = omega arith in
     zeros-after (take n fields) k i
     ∙ getD-take n fields i 0 j′
-    ∙ sym (getD-take n w i 0 j′ ∙ zeros-after (fields ++ zeros (size - length fields)) (n - size) i ∙ zeros-after fields (size - length fields) i))
+    ∙ sym (getD-take n w i 0 j′ ∙ zeros-after (fields ++ zeros (size - length fields)) (n - size) i
+    ∙ zeros-after fields (size - length fields) i))
 
 pub fresh-patch-is : (P n : ℕ) → splice (zeros n) 0 (take n (patchFields P)) ≡ take n (freshPatch P n)
 unfolding freshPatch patchHeader patchFields le
@@ -48,7 +52,8 @@ fresh-full-is P n = go (eqb n 0) refl
     h : splice (zeros n) 0 (take n (fullFields P)) ≡ take n (header (fullFields P) fullHead ++ zeros (n - fullHead))
     h = fresh-is (fullFields P) n fullHead (lit≤ tt)
 
-    go : (t : Bool) → eqb n 0 ≡ t → splice (zeros n) 0 (take n (fullFields P)) ≡ take n (cond t [] (header (fullFields P) fullHead ++ zeros (n - fullHead)))
+    go : (t : Bool) → eqb n 0 ≡ t → splice (zeros n) 0 (take n (fullFields P))
+        ≡ take n (cond t [] (header (fullFields P) fullHead ++ zeros (n - fullHead)))
     go true e =
         let q : n ≡ 0 = eqb-true n 0 e in
         h ∙ ap (λ (k : ℕ). take k (header (fullFields P) fullHead ++ zeros (n - fullHead))) q ∙ sym (ap (λ (k : ℕ). take {A = ℕ} k []) q)
@@ -59,7 +64,8 @@ pub fresh-patch-length : (P l : ℕ) → patchHead ≤ l → length (freshPatch 
 unfolding freshPatch patchHeader header patchFields le
 fresh-patch-length P l h =
     let z : List ℕ = zeros (l - patchHead) in
-    let a : length (header (patchFields P) patchHead ++ z) ≡ length (header (patchFields P) patchHead) + length z = length-append (header (patchFields P) patchHead) z in
+    let a : length (header (patchFields P) patchHead ++ z) ≡ length (header (patchFields P) patchHead) + length z = length-append
+    (header (patchFields P) patchHead) z in
     let b : length (zeros (patchHead - 20)) ≡ patchHead - 20 = zeros-length (patchHead - 20) in
     let c : length z ≡ l - patchHead = zeros-length (l - patchHead) in
     omega arith

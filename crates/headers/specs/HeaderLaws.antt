@@ -20,7 +20,8 @@ headNumber a b c d = orElse (cond (not a) 3 0) (orElse (cond (not b) 4 0) (orEls
 
 module _ (fields area : List ℕ) (size : ℕ) (h : restAt ≤ length fields) (k : length fields ≤ size) where
   pub head-rows : firstOf (headRows (header fields size) size area)
-      ≡ headNumber (same (part 0 versionAt area) (part 0 versionAt fields)) (same (part versionAt (restAt - versionAt) area) (part versionAt (restAt - versionAt) fields))
+      ≡ headNumber (same (part 0 versionAt area) (part 0 versionAt fields))
+      (same (part versionAt (restAt - versionAt) area) (part versionAt (restAt - versionAt) fields))
       (same (part restAt (length fields - restAt) area) (part restAt (length fields - restAt) fields))
       (same (part (length fields) (size - length fields) area) (zeros (size - length fields)))
   unfolding headRows header firstOf headNumber
@@ -35,25 +36,37 @@ module _ (fields area : List ℕ) (size : ℕ) (h : restAt ≤ length fields) (k
       ∙ ap (λ (l : List ℕ). l ++ part (restAt + n) m (fields ++ zeros m)) (part-first restAt n fields (zeros m) (omega arith))
       ∙ ap (λ (x : ℕ). part restAt n fields ++ part x m (fields ++ zeros m)) r
       ∙ ap (λ (l : List ℕ). part restAt n fields ++ l) (part-second fields (zeros m) (length fields) m refl (zeros-length m)) in
-      let f : same (part restAt (size - restAt) area) (part restAt n fields ++ zeros m) ≡ (same (part restAt n area) (part restAt n fields) && same (part (length fields) m area) (zeros m)) =
+      let f : same (part restAt (size - restAt) area) (part restAt n fields ++ zeros m)
+      ≡ (same (part restAt n area) (part restAt n fields) && same (part (length fields) m area) (zeros m)) =
       ap (λ (x : ℕ). same (part restAt x area) (part restAt n fields ++ zeros m)) q
       ∙ same-parts restAt n m area (part restAt n fields) (zeros m) (part-length restAt n fields (omega arith)) (zeros-length m)
       ∙ ap (λ (x : ℕ). same (part restAt n area) (part restAt n fields) && same (part x m area) (zeros m)) r in
-      rw (part-first 0 versionAt fields (zeros m) (omega arith), part-first versionAt (restAt - versionAt) fields (zeros m) (omega arith), e, f)
+      rw (
+        part-first 0 versionAt fields (zeros m) (omega arith),
+        part-first versionAt (restAt - versionAt) fields (zeros m) (omega arith),
+        e,
+        f,
+      )
 
 -- what the two headers give together
-pub headers-none : (P : ℕ) (patch full : List ℕ) → firstOf (patchHeadRows P patch) ≡ 0 → length full ≡ 0 → firstOf (headerRows P patch full) ≡ 0
+pub headers-none : (P : ℕ) (patch full : List ℕ) → firstOf (patchHeadRows P patch) ≡ 0 → length full ≡ 0
+    → firstOf (headerRows P patch full) ≡ 0
 unfolding headerRows fullHeadRows firstOf
-headers-none P patch full e f = first-append (patchHeadRows P patch) (fullHeadRows P full) ∙ or-skip (firstOf (patchHeadRows P patch)) (firstOf (fullHeadRows P full)) e ∙ rw (eq-eqb (length full) 0 f)
+headers-none P patch full e f = first-append (patchHeadRows P patch) (fullHeadRows P full)
+    ∙ or-skip (firstOf (patchHeadRows P patch)) (firstOf (fullHeadRows P full)) e ∙ rw (eq-eqb (length full) 0 f)
 
-pub headers-patch : (P k : ℕ) (patch full : List ℕ) → firstOf (patchHeadRows P patch) ≡ k → (k ≡ 0 → ⊥) → firstOf (headerRows P patch full) ≡ k
+pub headers-patch : (P k : ℕ) (patch full : List ℕ) → firstOf (patchHeadRows P patch) ≡ k → (k ≡ 0 → ⊥)
+    → firstOf (headerRows P patch full) ≡ k
 unfolding headerRows
 headers-patch P k patch full e h =
-    first-append (patchHeadRows P patch) (fullHeadRows P full) ∙ ap (λ (n : ℕ). orElse n (firstOf (fullHeadRows P full))) e ∙ or-some k (firstOf (fullHeadRows P full)) h
+    first-append (patchHeadRows P patch) (fullHeadRows P full) ∙ ap (λ (n : ℕ). orElse n (firstOf (fullHeadRows P full))) e
+    ∙ or-some k (firstOf (fullHeadRows P full)) h
 
-pub headers-full : (P : ℕ) (patch full : List ℕ) → firstOf (patchHeadRows P patch) ≡ 0 → (length full ≡ 0 → ⊥) → firstOf (headerRows P patch full) ≡ firstOf (headRows (fullHeader P) fullHead full)
+pub headers-full : (P : ℕ) (patch full : List ℕ) → firstOf (patchHeadRows P patch) ≡ 0 → (length full ≡ 0 → ⊥)
+    → firstOf (headerRows P patch full) ≡ firstOf (headRows (fullHeader P) fullHead full)
 unfolding headerRows fullHeadRows
-headers-full P patch full e f = first-append (patchHeadRows P patch) (fullHeadRows P full) ∙ or-skip (firstOf (patchHeadRows P patch)) (firstOf (fullHeadRows P full)) e ∙ rw (ne-eqb (length full) 0 f)
+headers-full P patch full e f = first-append (patchHeadRows P patch) (fullHeadRows P full)
+    ∙ or-skip (firstOf (patchHeadRows P patch)) (firstOf (fullHeadRows P full)) e ∙ rw (ne-eqb (length full) 0 f)
 
 pub headers-numbered : (P : ℕ) (patch full : List ℕ) → Numbered (headerRows P patch full)
 unfolding headerRows patchHeadRows fullHeadRows headRows

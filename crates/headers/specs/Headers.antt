@@ -42,7 +42,8 @@ unlike area head at n = not (same (part at n area) (part at n head))
 -- "magic, version, then the rest"
 unfoldable pub headRows : List ℕ → ℕ → List ℕ → List Row
 headRows head size area =
-    (3 ⇐ unlike area head 0 versionAt) ∷ (4 ⇐ unlike area head versionAt (restAt - versionAt)) ∷ (3 ⇐ unlike area head restAt (size - restAt)) ∷ []
+    (3 ⇐ unlike area head 0 versionAt) ∷ (4 ⇐ unlike area head versionAt (restAt - versionAt))
+    ∷ (3 ⇐ unlike area head restAt (size - restAt)) ∷ []
 
 unfoldable pub patchHeadRows : ℕ → List ℕ → List Row
 patchHeadRows P patch = headRows (patchHeader P) patchHead patch

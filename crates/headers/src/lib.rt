@@ -121,7 +121,8 @@ pub fn headers_fault(patch: &[u8], full: &[u8]) -> Fault
 
 // Fields and then zeros, as far as the area goes.
 fn begin(area: &mut [u8], fields: &[u8])
-    ensures { λ _. ⌜ now (area .exit) ≡ splice (zeros (length (now (area .entry)))) 0 (take (length (now (area .entry))) (now (fields .entry))) ⌝ }
+    ensures { λ _. ⌜ now (area .exit) ≡ splice (zeros (length (now (area .entry)))) 0
+        (take (length (now (area .entry))) (now (fields .entry))) ⌝ }
 {
     span::fill(area);
     span::copy(area, fields);

@@ -15,7 +15,8 @@ pub patch-fits-is : (P l : ℕ) → patchFits P l ≡ true → (l ≡ slotAt (bl
 unfolding patchFits
 patch-fits-is P l h = go (eqb l (slotAt (blocksIn l))) (leb (blocksIn l) (blocksAtMost P)) refl refl h
   where
-    go : (a b : Bool) → eqb l (slotAt (blocksIn l)) ≡ a → leb (blocksIn l) (blocksAtMost P) ≡ b → (a && b) ≡ true → (l ≡ slotAt (blocksIn l)) × (blocksIn l ≤ blocksAtMost P)
+    go : (a b : Bool) → eqb l (slotAt (blocksIn l)) ≡ a → leb (blocksIn l) (blocksAtMost P) ≡ b → (a && b) ≡ true
+        → (l ≡ slotAt (blocksIn l)) × (blocksIn l ≤ blocksAtMost P)
     go true true p q k = (eqb-true l (slotAt (blocksIn l)) p, leb-true (blocksIn l) (blocksAtMost P) q)
     go true false p q k = absurd (false≢true k)
     go false b p q k = absurd (false≢true k)
@@ -24,7 +25,8 @@ pub full-fits-is : (P n l : ℕ) → fullFits P n l ≡ true → (l ≡ 0) ⊎ (
 unfolding fullFits
 full-fits-is P n l h = go (eqb l 0) (eqb l (pageAt P (pagesIn P l))) (leb (pagesIn P l) n) refl refl refl h
   where
-    go : (z a b : Bool) → eqb l 0 ≡ z → eqb l (pageAt P (pagesIn P l)) ≡ a → leb (pagesIn P l) n ≡ b → (z || (a && b)) ≡ true → (l ≡ 0) ⊎ ((l ≡ pageAt P (pagesIn P l)) × (pagesIn P l ≤ n))
+    go : (z a b : Bool) → eqb l 0 ≡ z → eqb l (pageAt P (pagesIn P l)) ≡ a → leb (pagesIn P l) n ≡ b → (z || (a && b)) ≡ true
+        → (l ≡ 0) ⊎ ((l ≡ pageAt P (pagesIn P l)) × (pagesIn P l ≤ n))
     go true a b r p q k = inl (eqb-true l 0 r)
     go false true true r p q k = inr (eqb-true l (pageAt P (pagesIn P l)) p, leb-true (pagesIn P l) n q)
     go false true false r p q k = absurd (false≢true k)

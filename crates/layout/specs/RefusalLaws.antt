@@ -26,7 +26,8 @@ unfolding firstOf orElse
 first-done [] h = refl
 first-done (r ∷ rows) h = rw (h .0) (first-done rows (h .1))
 
-pub first-given : (before : List Row) (n : ℕ) (b : Bool) (after : List Row) → NoneHolds before → b ≡ true → firstOf (before ++ ((suc n ⇐ b) ∷ after)) ≡ suc n
+pub first-given : (before : List Row) (n : ℕ) (b : Bool) (after : List Row) → NoneHolds before → b ≡ true
+    → firstOf (before ++ ((suc n ⇐ b) ∷ after)) ≡ suc n
 unfolding firstOf orElse
 first-given [] n b after h e = rw e
 first-given (r ∷ rows) n b after h e = rw (h .0) (first-given rows n b after (h .1) e)
@@ -48,7 +49,8 @@ unfolding firstOf orElse
 first-only [] n w e = absurd (omega arith)
 first-only (r ∷ rows) n (one-more some w) e = go (r .holds) (r .number) refl refl (first-only rows n w) e
   where
-    go : (b : Bool) (k : ℕ) → r .holds ≡ b → r .number ≡ k → (firstOf rows ≡ suc n → Gave rows (suc n)) → orElse (cond b k 0) (firstOf rows) ≡ suc n → Gave (r ∷ rows) (suc n)
+    go : (b : Bool) (k : ℕ) → r .holds ≡ b → r .number ≡ k → (firstOf rows ≡ suc n → Gave rows (suc n))
+        → orElse (cond b k 0) (firstOf rows) ≡ suc n → Gave (r ∷ rows) (suc n)
     go true zero p q rest h = absurd (some q)
     go true (suc k) p q rest h =
         let e′ : r ≡ (suc n ⇐ true) = λ i. record { number = (q ∙ h) i; holds = p i } in
@@ -90,12 +92,14 @@ exactly rows n e w =
     }
 
 -- the number of an outcome that rows decide, and where what is done has a number too
-pub decided-number : {A : Type 0} (number : A → ℕ) (d : A) (r : ℕ → A) (n : ℕ) → number d ≡ 0 → ((k : ℕ) → number (r k) ≡ k) → number (decided n d r) ≡ n
+pub decided-number : {A : Type 0} (number : A → ℕ) (d : A) (r : ℕ → A) (n : ℕ) → number d ≡ 0 → ((k : ℕ) → number (r k) ≡ k)
+    → number (decided n d r) ≡ n
 unfolding decided
 decided-number number d r zero e f = e
 decided-number number d r (suc k) e f = f (suc k)
 
-pub decided-or : {A : Type 0} (number : A → ℕ) (d : A) (r : ℕ → A) (n : ℕ) → ((k : ℕ) → number (r k) ≡ k) → number (decided n d r) ≡ orElse n (number d)
+pub decided-or : {A : Type 0} (number : A → ℕ) (d : A) (r : ℕ → A) (n : ℕ) → ((k : ℕ) → number (r k) ≡ k)
+    → number (decided n d r) ≡ orElse n (number d)
 unfolding decided orElse
 decided-or number d r zero f = refl
 decided-or number d r (suc k) f = f (suc k)
@@ -118,7 +122,8 @@ pub first-append : (xs ys : List Row) → firstOf (xs ++ ys) ≡ orElse (firstOf
 unfolding firstOf orElse
 first-append [] ys = refl
 first-append (r ∷ xs) ys =
-    ap (λ (k : ℕ). orElse (cond (r .holds) (r .number) 0) k) (first-append xs ys) ∙ sym (or-assoc (cond (r .holds) (r .number) 0) (firstOf xs) (firstOf ys))
+    ap (λ (k : ℕ). orElse (cond (r .holds) (r .number) 0) k) (first-append xs ys)
+    ∙ sym (or-assoc (cond (r .holds) (r .number) 0) (firstOf xs) (firstOf ys))
 
 pub or-skip : (a b : ℕ) → a ≡ 0 → orElse a b ≡ b
 unfolding orElse

@@ -3,7 +3,8 @@ pub mod area;
 pub mod number;
 
 ghost use mathlib.Core.Path.{_≡_};
-ghost use Rattle.layout.specs.Sizes.{pageSize, segment, blocksAtMost, patchHead, fullHead, slotSize, versionAt, restAt, lengthAt, payloadAt, room, slotAt, pageAt};
+ghost use Rattle.layout.specs.Sizes.{pageSize, segment, blocksAtMost, patchHead, fullHead, slotSize, versionAt, restAt, lengthAt};
+ghost use Rattle.layout.specs.Sizes.{payloadAt, room, slotAt, pageAt};
 
 // What a slot holds, and what a comparison finds.
 pub enum Kind {

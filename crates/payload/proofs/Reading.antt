@@ -55,7 +55,8 @@ module _ (n : ℕ) (p : ℤ) where
         go (inPage n q) refl f g′
       where
         go : (t : Bool) → inPage n (p +ℤ pos (j + 1)) ≡ t
-            → stream n p code (drop at s) ≡ elim t as (λ _. Stream) [ true ↦ entry w (p +ℤ pos (j + 1)) v (stream n (p +ℤ pos (j + 1)) code (drop (at + w) s)) | false ↦ out ]
+            → stream n p code (drop at s) ≡ elim t as (λ _. Stream)
+            [ true ↦ entry w (p +ℤ pos (j + 1)) v (stream n (p +ℤ pos (j + 1)) code (drop (at + w) s)) | false ↦ out ]
             → r ≡ landing t (p +ℤ pos (j + 1)) v (at + w)
             → Follows n s at (stream n p code (drop at s)) r
         go true t m x =
@@ -69,7 +70,8 @@ module _ (n : ℕ) (p : ℤ) where
             })
         go false t m x = subst (λ (y : Step). Follows n s at (stream n p code (drop at s)) y) (sym x) (inr m)
 
-    pub short-read : at + 1 < length s → (getD s at 0 ≡ 255 → ⊥) → stream n p code (drop at s) ≡ stream n p (value 2 (getD s at 0)) (getD s (at + 1) 0 ∷ drop (at + 2) s)
+    pub short-read : at + 1 < length s → (getD s at 0 ≡ 255 → ⊥)
+        → stream n p code (drop at s) ≡ stream n p (value 2 (getD s at 0)) (getD s (at + 1) 0 ∷ drop (at + 2) s)
     short-read h d =
         let e : at + 2 ≡ at + 1 + 1 = omega arith in
         ap (λ (l : List ℕ). stream n p code l) (peel s at (at + 1) (omega arith) refl)

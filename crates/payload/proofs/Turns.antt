@@ -53,7 +53,8 @@ pub passed-none : (n : ℕ) (payload : List ℕ) → Passed n payload 0 start 0
 passed-none n payload = record { on = omega arith; few = omega arith; wholly = refl; many = omega arith; final = refl }
 
 module _ (n : ℕ) (payload : List ℕ) (place : ℕ) (p : ℤ) (count : ℕ) (h : Passed n payload place p count) where
-  pub passed-more : (q r : ℤ) (v next : ℕ) → r ≡ q → Entered n payload place (stream n p code (drop place payload)) q v next → Passed n payload next r (count + 1)
+  pub passed-more : (q r : ℤ) (v next : ℕ) → r ≡ q → Entered n payload place (stream n p code (drop place payload)) q v next
+      → Passed n payload next r (count + 1)
   unfolding whole entries last
   passed-more q r v next e m =
       subst (λ (z : ℤ). Passed n payload next z (count + 1)) (sym e)
@@ -62,7 +63,8 @@ module _ (n : ℕ) (payload : List ℕ) (place : ℕ) (p : ℤ) (count : ℕ) (h
         few = omega (arith, m .on, h .few);
         wholly = h .wholly ∙ ap (λ (s : Stream). whole s) (m .is);
         many =
-            let f : entries (stream n p code (drop place payload)) ≡ suc (entries (stream n q code (drop next payload))) = ap (λ (s : Stream). entries s) (m .is) in
+            let f : entries (stream n p code (drop place payload)) ≡ suc (entries (stream n q code (drop next payload))) = ap (λ (s : Stream). entries s)
+            (m .is) in
             omega (arith, h .many);
         final = h .final ∙ ap (λ (s : Stream). last p s) (m .is);
       })
@@ -82,7 +84,8 @@ module _ (n : ℕ) (payload : List ℕ) (place : ℕ) (p : ℤ) (count : ℕ) (h
   unfolding sound whole
   passed-broken e =
       let f : whole (payloadStream n payload) ≡ false =
-      h .wholly ∙ ⊎-elim (λ (x : stream n p code (drop place payload) ≡ cut). ap (λ (s : Stream). whole s) x) (λ (x : stream n p code (drop place payload) ≡ out). ap (λ (s : Stream). whole s) x) e in
+      h .wholly ∙ ⊎-elim (λ (x : stream n p code (drop place payload) ≡ cut). ap (λ (s : Stream). whole s) x)
+      (λ (x : stream n p code (drop place payload) ≡ out). ap (λ (s : Stream). whole s) x) e in
       ap (λ (t : Bool). leb 1 (length payload) && leb (length payload) room && t) f ∙ and-false (leb 1 (length payload) && leb (length payload) room)
 
 pub unsound-empty : (n : ℕ) (payload : List ℕ) → length payload ≡ 0 → sound n payload ≡ false
@@ -108,7 +111,8 @@ put-is n page (pos k) v e = refl
 put-is n page (negsuc k) v e = absurd (false≢true e)
 
 module _ (n : ℕ) (page₀ payload page : List ℕ) (place : ℕ) (p : ℤ) (h : Laid n page₀ payload page place p) where
-  pub laid-more : (q r : ℤ) (v next : ℕ) → r ≡ q → Entered n payload place (stream n p code (drop place payload)) q v next → Laid n page₀ payload (set page (natAbs r) v) next r
+  pub laid-more : (q r : ℤ) (v next : ℕ) → r ≡ q → Entered n payload place (stream n p code (drop place payload)) q v next
+      → Laid n page₀ payload (set page (natAbs r) v) next r
   unfolding applied
   laid-more q r v next e m =
       subst (λ (z : ℤ). Laid n page₀ payload (set page (natAbs z) v) next z) (sym e)
@@ -125,12 +129,14 @@ module _ (n : ℕ) (page₀ payload page : List ℕ) (place : ℕ) (p : ℤ) (h 
   unfolding applied
   laid-all e = sym (h .still ∙ ap (λ (s : Stream). applied page s) e)
 
-  pub laid-broken : (stream n p code (drop place payload) ≡ cut) ⊎ (stream n p code (drop place payload) ≡ out) → page ≡ applied page₀ (payloadStream n payload)
+  pub laid-broken : (stream n p code (drop place payload) ≡ cut) ⊎ (stream n p code (drop place payload) ≡ out)
+      → page ≡ applied page₀ (payloadStream n payload)
   unfolding applied
   laid-broken e =
       sym
       (h .still
-      ∙ ⊎-elim (λ (x : stream n p code (drop place payload) ≡ cut). ap (λ (s : Stream). applied page s) x) (λ (x : stream n p code (drop place payload) ≡ out). ap (λ (s : Stream). applied page s) x) e)
+      ∙ ⊎-elim (λ (x : stream n p code (drop place payload) ≡ cut). ap (λ (s : Stream). applied page s) x)
+      (λ (x : stream n p code (drop place payload) ≡ out). ap (λ (s : Stream). applied page s) x) e)
 
 -- an index that the code reads back from a place's bits
 pub index-fits : (n : ℕ) (q : ℤ) → n ≤ 65536 → inPage n q ≡ true → T (nonNeg (toZ w32 (ofZ w32 q))) × Fits w64 (natAbs (toZ w32 (ofZ w32 q)))

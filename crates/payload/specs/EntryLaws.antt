@@ -9,21 +9,26 @@ use lib.ListN.{length}
 use lib.IntN.{ℤ, pos, _+ℤ_}
 use borrow.Author.Tests.{eq-eqb, ne-eqb, leb-true, le-leb}
 use Rattle.layout.specs.Sizes.{room}
-use Rattle.payload.specs.Entries.{Stream, out, entry, Next, code, low, high, value, inPage, stream, start, payloadStream, whole, sound, entries}
+use Rattle.payload.specs.Entries.{Stream, out, entry, Next, code, low, high, value, inPage, stream, start, payloadStream, whole}
+use Rattle.payload.specs.Entries.{sound, entries}
 
 module _ (n : ℕ) (p : ℤ) where
   pub code-short : (b : ℕ) (bs : List ℕ) → (b ≡ 255 → ⊥) → stream n p code (b ∷ bs) ≡ stream n p (value 2 b) bs
   unfolding stream
-  code-short b bs d = ap (λ (t : Bool). elim t as (λ _. Stream) [ true ↦ stream n p low bs | false ↦ stream n p (value 2 b) bs ]) (ne-eqb b 255 d)
+  code-short b bs d = ap (λ (t : Bool). elim t as (λ _. Stream) [ true ↦ stream n p low bs | false ↦ stream n p (value 2 b) bs ])
+      (ne-eqb b 255 d)
 
   pub code-long : (b : ℕ) (bs : List ℕ) → b ≡ 255 → stream n p code (b ∷ bs) ≡ stream n p low bs
   unfolding stream
-  code-long b bs d = ap (λ (t : Bool). elim t as (λ _. Stream) [ true ↦ stream n p low bs | false ↦ stream n p (value 2 b) bs ]) (eq-eqb b 255 d)
+  code-long b bs d = ap (λ (t : Bool). elim t as (λ _. Stream) [ true ↦ stream n p low bs | false ↦ stream n p (value 2 b) bs ])
+      (eq-eqb b 255 d)
 
   pub value-is : (w j v : ℕ) (bs : List ℕ) (t : Bool) → inPage n (p +ℤ pos (j + 1)) ≡ t
-      → stream n p (value w j) (v ∷ bs) ≡ elim t as (λ _. Stream) [ true ↦ entry w (p +ℤ pos (j + 1)) v (stream n (p +ℤ pos (j + 1)) code bs) | false ↦ out ]
+      → stream n p (value w j) (v ∷ bs)
+      ≡ elim t as (λ _. Stream) [ true ↦ entry w (p +ℤ pos (j + 1)) v (stream n (p +ℤ pos (j + 1)) code bs) | false ↦ out ]
   unfolding stream
-  value-is w j v bs t e = ap (λ (x : Bool). elim x as (λ _. Stream) [ true ↦ entry w (p +ℤ pos (j + 1)) v (stream n (p +ℤ pos (j + 1)) code bs) | false ↦ out ]) e
+  value-is w j v bs t e = ap (λ (x : Bool). elim x as (λ _. Stream)
+      [ true ↦ entry w (p +ℤ pos (j + 1)) v (stream n (p +ℤ pos (j + 1)) code bs) | false ↦ out ]) e
 
   -- an entry with a one-byte jump, and one with a 16-bit jump, that land in the page
   pub short-in : (j v : ℕ) (bs : List ℕ) → (j ≡ 255 → ⊥) → inPage n (p +ℤ pos (j + 1)) ≡ true
@@ -33,7 +38,8 @@ module _ (n : ℕ) (p : ℤ) where
   pub long-in : (a b v j : ℕ) (bs : List ℕ) → a + 256 * b ≡ j → inPage n (p +ℤ pos (j + 1)) ≡ true
       → stream n p code (255 ∷ a ∷ b ∷ v ∷ bs) ≡ entry 4 (p +ℤ pos (j + 1)) v (stream n (p +ℤ pos (j + 1)) code bs)
   unfolding stream
-  long-in a b v j bs f e = code-long 255 (a ∷ b ∷ v ∷ bs) refl ∙ ap (λ (k : ℕ). stream n p (value 4 k) (v ∷ bs)) f ∙ value-is 4 j v bs true e
+  long-in a b v j bs f e = code-long 255 (a ∷ b ∷ v ∷ bs) refl ∙ ap (λ (k : ℕ). stream n p (value 4 k) (v ∷ bs)) f
+      ∙ value-is 4 j v bs true e
 
 -- Every entry takes at least two bytes.
 
@@ -60,7 +66,10 @@ entries-few n (b ∷ bs) p (high a) = omega (arith, entries-few n bs p (value 4 
 entries-few n (b ∷ bs) p (value w j) = go (inPage n (p +ℤ pos (j + 1))) (entries-few n bs (p +ℤ pos (j + 1)) code)
   where
     go : (t : Bool) → 2 * entries (stream n (p +ℤ pos (j + 1)) code bs) ≤ length bs + 0
-        → 2 * entries (elim t as (λ _. Stream) [ true ↦ entry w (p +ℤ pos (j + 1)) b (stream n (p +ℤ pos (j + 1)) code bs) | false ↦ out ]) ≤ length (b ∷ bs) + 1
+        → 2 * entries (elim t as (λ _. Stream) [
+          | true ↦ entry w (p +ℤ pos (j + 1)) b (stream n (p +ℤ pos (j + 1)) code bs)
+          | false ↦ out
+        ]) ≤ length (b ∷ bs) + 1
     go true h = omega arith
     go false h = omega arith
 
@@ -74,7 +83,8 @@ pub sound-parts : (n : ℕ) (payload : List ℕ) → sound n payload ≡ true �
 unfolding sound
 sound-parts n payload h = go (leb 1 (length payload)) (leb (length payload) room) refl refl h
   where
-    go : (a b : Bool) → leb 1 (length payload) ≡ a → leb (length payload) room ≡ b → (a && b && whole (payloadStream n payload)) ≡ true → Parts n payload
+    go : (a b : Bool) → leb 1 (length payload) ≡ a → leb (length payload) room ≡ b → (a && b && whole (payloadStream n payload)) ≡ true
+        → Parts n payload
     go true true e f k = record { some = leb-true 1 (length payload) e; few = leb-true (length payload) room f; wholly = k }
     go true false e f k = absurd (false≢true k)
     go false b e f k = absurd (false≢true k)

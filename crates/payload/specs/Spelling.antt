@@ -114,7 +114,8 @@ spelled-whole n (e ∷ es) p c s = go (e .form) (c .0) (spelled-whole n es (p +�
         → whole (stream n p code (bytes f (e .jump) (e .value) ++ joined es)) ≡ true
     go short t r = ap (λ (x : Stream). whole x) (short-in n p (e .jump) (e .value) (joined es) (λ q. omega arith) inp) ∙ r
     go long t r =
-        ap (λ (x : Stream). whole x) (long-in n p (e .jump % 256) (e .jump / 256 % 256) (e .value) (e .jump) (joined es) (two-bytes (e .jump) t) inp) ∙ r
+        ap (λ (x : Stream). whole x) (long-in n p (e .jump % 256) (e .jump / 256 % 256) (e .value) (e .jump) (joined es)
+        (two-bytes (e .jump) t) inp) ∙ r
 
 module _ (n : ℕ) where
   -- an entry before a payload that is spelled already
@@ -173,23 +174,29 @@ module _ (n : ℕ) where
     where
       go : (t : Bool) → eqb b 255 ≡ t → Spelled n p (b ∷ v ∷ [])
       go true e = absurd (false≢true (sym (ap (λ (x : Stream). whole x) (code-long n p b (v ∷ []) (eqb-true b 255 e))) ∙ w))
-      go false e = short-case b v [] p (eqb-false b 255 e) (h .0) (λ q k. record { entries = []; coded = tt {0}; spells = refl; stays = tt {0} }) w
+      go false e = short-case b v [] p (eqb-false b 255 e) (h .0)
+          (λ q k. record { entries = []; coded = tt {0}; spells = refl; stays = tt {0} }) w
   whole-spelled (b ∷ v ∷ c ∷ []) p h w = go (eqb b 255) refl (λ q k. whole-spelled (c ∷ []) q (h .1 .1) k)
     where
-      go : (t : Bool) → eqb b 255 ≡ t → ((q : ℤ) → whole (stream n q code (c ∷ [])) ≡ true → Spelled n q (c ∷ [])) → Spelled n p (b ∷ v ∷ c ∷ [])
+      go : (t : Bool) → eqb b 255 ≡ t → ((q : ℤ) → whole (stream n q code (c ∷ [])) ≡ true → Spelled n q (c ∷ []))
+          → Spelled n p (b ∷ v ∷ c ∷ [])
       go true e rest = absurd (false≢true (sym (ap (λ (x : Stream). whole x) (code-long n p b (v ∷ c ∷ []) (eqb-true b 255 e))) ∙ w))
       go false e rest = short-case b v (c ∷ []) p (eqb-false b 255 e) (h .0) rest w
-  whole-spelled (b ∷ v ∷ c ∷ d ∷ bs) p h w = go (eqb b 255) refl (λ q k. whole-spelled (c ∷ d ∷ bs) q (h .1 .1) k) (λ q k. whole-spelled bs q (h .1 .1 .1 .1) k)
+  whole-spelled (b ∷ v ∷ c ∷ d ∷ bs) p h w = go (eqb b 255) refl (λ q k. whole-spelled (c ∷ d ∷ bs) q (h .1 .1) k)
+      (λ q k. whole-spelled bs q (h .1 .1 .1 .1) k)
     where
       go : (t : Bool) → eqb b 255 ≡ t → ((q : ℤ) → whole (stream n q code (c ∷ d ∷ bs)) ≡ true → Spelled n q (c ∷ d ∷ bs))
           → ((q : ℤ) → whole (stream n q code bs) ≡ true → Spelled n q bs) → Spelled n p (b ∷ v ∷ c ∷ d ∷ bs)
       go true e near far =
           let q : b ≡ 255 = eqb-true b 255 e in
-          long-first b (v ∷ c ∷ d ∷ bs) p q (long-case v c d bs p (h .1 .0) (h .1 .1 .0) far (sym (ap (λ (x : Stream). whole x) (code-long n p b (v ∷ c ∷ d ∷ bs) q)) ∙ w))
+          long-first b (v ∷ c ∷ d ∷ bs) p q
+          (long-case v c d bs p (h .1 .0) (h .1 .1 .0) far (sym (ap (λ (x : Stream). whole x) (code-long n p b (v ∷ c ∷ d ∷ bs) q))
+          ∙ w))
       go false e near far = short-case b v (c ∷ d ∷ bs) p (eqb-false b 255 e) (h .0) near w
 
 -- a payload is sound iff it has 1 to 504 bytes, and some entries spell it whose positions stay in the page
-pub spelled-sound : (n : ℕ) (payload : List ℕ) → 1 ≤ length payload → length payload ≤ room → Spelled n start payload → sound n payload ≡ true
+pub spelled-sound : (n : ℕ) (payload : List ℕ) → 1 ≤ length payload → length payload ≤ room → Spelled n start payload
+    → sound n payload ≡ true
 spelled-sound n payload some few s =
     parts-sound n payload
     (record {

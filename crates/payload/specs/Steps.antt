@@ -6,7 +6,8 @@ use mathlib.Core.List.{List}
 use mathlib.Core.Logic.{_⊎_}
 use lib.ListN.{length, drop}
 use lib.IntN.{ℤ}
-use Rattle.payload.specs.Entries.{Stream, done, cut, out, entry, code, inPage, stream, start, payloadStream, sound, entries as entriesOf, last as lastOf}
+use Rattle.payload.specs.Entries.{Stream, done, cut, out, entry, code, inPage, stream, start, payloadStream, sound}
+use Rattle.payload.specs.Entries.{entries as entriesOf, last as lastOf}
 use Rattle.payload.specs.declared.Step.{Step}
 use Rattle.payload.specs.declared.Step.the-variants.{End, Broken, Entry}
 use Rattle.payload.specs.declared.Checked.{Checked}

@@ -40,7 +40,8 @@ fn landed(position: i32, jump: u32, value: u8, next: usize, size: usize) -> Step
 
 // The entry at `place` of a payload, read from this position in a page of this size.
 pub fn step(payload: &[u8], place: usize, position: i32, size: usize) -> Step
-    ensures { λ r. ⌜ Follows (reach size) (now (payload .entry)) place (stream (reach size) position nextCode (drop place (now (payload .entry)))) r ⌝ }
+    ensures { λ r. ⌜ Follows (reach size) (now (payload .entry)) place
+        (stream (reach size) position nextCode (drop place (now (payload .entry)))) r ⌝ }
 {
     if payload.len() <= place {
         return Step::End;

@@ -78,7 +78,8 @@ pub fn check(payload: &[u8], size: usize) -> Checked
 
 // Writes each entry's value at its place, up to the payload's end or the first entry that is broken.
 pub fn overlay(page: &mut [u8], payload: &[u8])
-    ensures { λ _. ⌜ now (page .exit) ≡ applied (now (page .entry)) (payloadStream (reach (length (now (page .entry)))) (now (payload .entry))) ⌝ }
+    ensures { λ _. ⌜ now (page .exit)
+        ≡ applied (now (page .entry)) (payloadStream (reach (length (now (page .entry)))) (now (payload .entry))) ⌝ }
 {
     let size = page.len();
     let mut place = 0;

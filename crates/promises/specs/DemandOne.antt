@@ -2,8 +2,10 @@
 -- part where it hands a part out. A refused call changes no byte it was lent."
 --
 -- That every call takes anything and ends is what the prover checks: no call has a `requires`. The rest stands here, over the predicates
--- that the contracts cite: each number is given exactly when its condition holds and no earlier one does; and where the answer's number is
--- not 0, every lent byte is as it was, and the other numbers of the answer are 0, "except that Build gives the block with 6, 7, 8 and 10".
+-- that the contracts cite: each number is given exactly when its condition holds and no earlier one does; and where the answer's number
+-- is
+-- not 0, every lent byte is as it was, and the other numbers of the answer are 0, "except that Build gives the block with 6, 7, 8 and
+-- 10".
 -- Judge, Look up and Tally are lent nothing to write.
 use Prim.Native.Nat.{ℕ, _≤_}
 use native.Mathlib.Omega.{arith}
@@ -65,7 +67,8 @@ from-the-table Pair = (omega arith, omega arith)
 module _ (P : ℕ) where
   -- "Each refusal is given when its condition holds and no earlier one does, and at no other time." One statement a call, over its rows
 
-  pub format-refuses : (patch full : List ℕ) (a : Formatted) (p f : List ℕ) → Format P patch full a p f → Exactly (formatRows P patch full) (formattedNumber a)
+  pub format-refuses : (patch full : List ℕ) (a : Formatted) (p f : List ℕ) → Format P patch full a p f
+      → Exactly (formatRows P patch full) (formattedNumber a)
   format-refuses patch full a p f x = rw (x .numbers) (format-exactly P patch full)
 
   pub compare-refuses : (base page buffer : List ℕ) (a : Compared) (after : List ℕ) → Compare P base page buffer a after
@@ -80,28 +83,34 @@ module _ (P : ℕ) where
   judge-refuses slot a x = rw (x .numbers) (judge-exactly slot)
 
   -- "an empty part where it hands a part out"
-  pub show-hands-nothing : (patch : List ℕ) (b : ℕ) (shown : List ℕ) → Show P patch b shown → (shown ≡ []) ↔ (NoneHolds (showRows P patch b) → ⊥)
+  pub show-hands-nothing : (patch : List ℕ) (b : ℕ) (shown : List ℕ) → Show P patch b shown
+      → (shown ≡ []) ↔ (NoneHolds (showRows P patch b) → ⊥)
   show-hands-nothing patch b shown x = (
     λ e none. show-some P patch b none (sym (x .bytes) ∙ e),
     λ h. x .bytes ∙ show-kept P patch b (λ z. h (show-exactly P patch b .done .0 z)),
   )
 
-  pub read-refuses : (patch full : List ℕ) (b : ℕ) (base page : List ℕ) (a : Reading) (after : List ℕ) → Read P patch full b base page a after
+  pub read-refuses : (patch full : List ℕ) (b : ℕ) (base page : List ℕ) (a : Reading) (after : List ℕ)
+      → Read P patch full b base page a after
       → Exactly (readRows P patch full b base page) (readingNumbers a .number)
   read-refuses patch full b base page a after x = rw (x .numbers) (read-exactly P patch full b base page)
 
-  pub write-refuses : (patch full : List ℕ) (b : ℕ) (base page : List ℕ) (a : Written) (p f : List ℕ) → Write P patch full b base page a p f
+  pub write-refuses : (patch full : List ℕ) (b : ℕ) (base page : List ℕ) (a : Written) (p f : List ℕ)
+      → Write P patch full b base page a p f
       → Exactly (writeRows P patch full b base page) (writtenNumbers a .number)
   write-refuses patch full b base page a p f x = rw (x .numbers) (write-exactly P patch full b base page)
 
-  -- Build's rows are those of the frame and then each block's, in rising order. Which block it gives stands in `BuildMeans`, by the number of each block
-  pub build-refuses : (patch full map : List ℕ) (a : Built) (after : List ℕ) → Build P patch full map a after → Exactly (allRows P patch full map) (builtNumbers a .number)
+  -- Build's rows are those of the frame and then each block's, in rising order. Which block it gives stands in `BuildMeans`, by the
+  -- number of each block
+  pub build-refuses : (patch full map : List ℕ) (a : Built) (after : List ℕ) → Build P patch full map a after
+      → Exactly (allRows P patch full map) (builtNumbers a .number)
   build-refuses patch full map a after x = rw (x .numbers) (build-exactly P patch full map)
 
   pub block-refuses : (patch full : List ℕ) (b : ℕ) → Exactly (faultRows P patch full b) (blockFault P patch full b)
   block-refuses = block-exactly P
 
-  pub look-up-refuses : (map : List ℕ) (n b : ℕ) (a : Looked) → LookUp P map n b a → Exactly (lookUpRows P map n b) (lookedNumbers a .number)
+  pub look-up-refuses : (map : List ℕ) (n b : ℕ) (a : Looked) → LookUp P map n b a
+      → Exactly (lookUpRows P map n b) (lookedNumbers a .number)
   look-up-refuses map n b a x = rw (x .numbers) (look-up-exactly P map n b)
 
   pub tally-refuses : (map : List ℕ) (n : ℕ) (a : Tallied) → Tally P map n a → Exactly (tallyRows P map n) (talliedNumbers a .number)
@@ -109,7 +118,8 @@ module _ (P : ℕ) where
 
   -- Every lent byte is as it was
 
-  pub format-keeps : (patch full : List ℕ) (a : Formatted) (p f : List ℕ) → Format P patch full a p f → (formattedNumber a ≡ 0 → ⊥) → (p ≡ patch) × (f ≡ full)
+  pub format-keeps : (patch full : List ℕ) (a : Formatted) (p f : List ℕ) → Format P patch full a p f → (formattedNumber a ≡ 0 → ⊥)
+      → (p ≡ patch) × (f ≡ full)
   format-keeps patch full a p f x h =
       let k = format-kept P patch full (λ e. h (x .numbers ∙ e)) in
       (x .patch-bytes ∙ k .0, x .full-bytes ∙ k .1)
@@ -124,7 +134,8 @@ module _ (P : ℕ) where
   apply-keeps base payload page a after x h =
       x .bytes ∙ apply-kept P base payload page (λ e. h (ap (λ (n : AppliedNumbers). n .number) (x .numbers) ∙ e))
 
-  pub read-keeps : (patch full : List ℕ) (b : ℕ) (base page : List ℕ) (a : Reading) (after : List ℕ) → Read P patch full b base page a after
+  pub read-keeps : (patch full : List ℕ) (b : ℕ) (base page : List ℕ) (a : Reading) (after : List ℕ)
+      → Read P patch full b base page a after
       → (readingNumbers a .number ≡ 0 → ⊥) → after ≡ page
   read-keeps patch full b base page a after x h =
       x .bytes ∙ read-kept P patch full b base page (λ e. h (ap (λ (n : ReadNumbers). n .number) (x .numbers) ∙ e))
@@ -148,26 +159,32 @@ pub compare-zeros : (a : Compared) → (comparedNumbers a .number ≡ 0 → ⊥)
 compare-zeros (ComparedDone k n e l) h = absurd (h refl)
 compare-zeros (ComparedRefused r) h = refl
 
-pub apply-zeros : (a : Applied) → (appliedNumbers a .number ≡ 0 → ⊥) → appliedNumbers a ≡ record { number = appliedNumbers a .number; entries = 0; last = pos 0 }
+pub apply-zeros : (a : Applied) → (appliedNumbers a .number ≡ 0 → ⊥)
+    → appliedNumbers a ≡ record { number = appliedNumbers a .number; entries = 0; last = pos 0 }
 apply-zeros (AppliedDone e l) h = absurd (h refl)
 apply-zeros (AppliedRefused r) h = refl
 
-pub judge-zeros : (a : Judged) → (judgedNumbers a .number ≡ 0 → ⊥) → judgedNumbers a ≡ record { number = judgedNumbers a .number; kind = 0; length = 0 }
+pub judge-zeros : (a : Judged) → (judgedNumbers a .number ≡ 0 → ⊥)
+    → judgedNumbers a ≡ record { number = judgedNumbers a .number; kind = 0; length = 0 }
 judge-zeros (JudgedDone k n) h = absurd (h refl)
 judge-zeros (JudgedRefused r) h = refl
 
-pub read-zeros : (a : Reading) → (readingNumbers a .number ≡ 0 → ⊥) → readingNumbers a ≡ record { number = readingNumbers a .number; kind = 0 }
+pub read-zeros : (a : Reading) → (readingNumbers a .number ≡ 0 → ⊥)
+    → readingNumbers a ≡ record { number = readingNumbers a .number; kind = 0 }
 read-zeros (ReadingDone k) h = absurd (h refl)
 read-zeros (ReadingRefused r) h = refl
 
-pub write-zeros : (a : Written) → (writtenNumbers a .number ≡ 0 → ⊥) → writtenNumbers a ≡ record { number = writtenNumbers a .number; kind = 0; length = 0 }
+pub write-zeros : (a : Written) → (writtenNumbers a .number ≡ 0 → ⊥)
+    → writtenNumbers a ≡ record { number = writtenNumbers a .number; kind = 0; length = 0 }
 write-zeros (WrittenDone k n) h = absurd (h refl)
 write-zeros (WrittenRefused r) h = refl
 
-pub look-up-zeros : (a : Looked) → (lookedNumbers a .number ≡ 0 → ⊥) → lookedNumbers a ≡ record { number = lookedNumbers a .number; pair = 0 }
+pub look-up-zeros : (a : Looked) → (lookedNumbers a .number ≡ 0 → ⊥)
+    → lookedNumbers a ≡ record { number = lookedNumbers a .number; pair = 0 }
 look-up-zeros (LookedDone p) h = absurd (h refl)
 look-up-zeros (LookedRefused r) h = refl
 
-pub tally-zeros : (a : Tallied) → (talliedNumbers a .number ≡ 0 → ⊥) → talliedNumbers a ≡ record { number = talliedNumbers a .number; patch = 0; full = 0 }
+pub tally-zeros : (a : Tallied) → (talliedNumbers a .number ≡ 0 → ⊥)
+    → talliedNumbers a ≡ record { number = talliedNumbers a .number; patch = 0; full = 0 }
 tally-zeros (TalliedDone p f) h = absurd (h refl)
 tally-zeros (TalliedRefused r) h = refl

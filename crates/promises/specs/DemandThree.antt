@@ -29,14 +29,16 @@ readAt s b base page = readOutcome pageSize (s .patch) (s .full) b base page
 module _ (s : Areas) (fresh : FreshAreas pageSize s) (ws : List Lent) where
   -- (a) "only each block's last accepted write, in any order of blocks": every list of just those is accepted whole and leaves the same
   -- bytes, with no hypothesis on bases
-  pub lasts-leave-the-same : (ls : List Lent) → JustLasts pageSize s ws ls → (accepted pageSize s ls ≡ ls) × (after pageSize s ls ≡ after pageSize s ws)
+  pub lasts-leave-the-same : (ls : List Lent) → JustLasts pageSize s ws ls
+      → (accepted pageSize s ls ≡ ls) × (after pageSize s ls ≡ after pageSize s ws)
   lasts-leave-the-same ls l = (lasts-accepted pageSize s fresh ws ls l, lasts-leave pageSize s fresh ws ls l)
 
   -- and there is such a list, no two of its writes to one block
   pub lasts-exist : (ls : List Lent) × JustLasts pageSize s ws ls × NoRepeats (λ (w : Lent). w .block) ls
   lasts-exist = lasts-list pageSize s fresh ws
 
-  -- (c) Each block below n reads, with number 0, as its last accepted write's page, read over that write's base page, or as its base where
+  -- (c) Each block below n reads, with number 0, as its last accepted write's page, read over that write's base page, or as its base
+  -- where
   -- no write of it was accepted
   pub reads-as-last : (b : ℕ) → b < blocks (s .patch) → (w : Lent) → lastTo b (accepted pageSize s ws) ≡ some w
       → (base page : List ℕ) → PagesFit pageSize base page → pageOf pageSize base ≡ pageOf pageSize (w .base)
@@ -68,5 +70,6 @@ module _ (s t : Areas) (s-fresh : FreshAreas pageSize s) (t-fresh : FreshAreas p
   pub same-bytes-iff : (bases into : ℕ → List ℕ) → ((b : ℕ) → b < blocks (s .patch) → PagesFit pageSize (bases b) (into b))
       → OverBases pageSize bases s ws → OverBases pageSize bases t vs
       → (after pageSize s ws ≡ after pageSize t vs)
-      ↔ ((b : ℕ) → b < blocks (s .patch) → readAt (after pageSize s ws) b (bases b) (into b) .page ≡ readAt (after pageSize t vs) b (bases b) (into b) .page)
+      ↔ ((b : ℕ) → b < blocks (s .patch) → readAt (after pageSize s ws) b (bases b) (into b) .page
+      ≡ readAt (after pageSize t vs) b (bases b) (into b) .page)
   same-bytes-iff bases into fits = two-runs pageSize (lit≤ tt) s t s-fresh t-fresh patch-lengths full-lengths bases into fits ws vs

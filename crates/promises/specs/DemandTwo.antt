@@ -24,10 +24,12 @@ use Rattle.store.specs.Block.{slotOf, placeOf}
 use Rattle.reading.specs.Read.{ReadOutcome, readOutcome}
 use Rattle.writing.specs.Write.{WriteOutcome, writeOutcome}
 use Rattle.store.specs.Show.{Show}
-use Rattle.promises.specs.Words.{blocks, places, FrameFits, PatchOf, SoundSlot, PatchFits, ShowsNothing, Large, streamOf, Stored, WriteGives, ReadGives}
+use Rattle.promises.specs.Words.{blocks, places, FrameFits, PatchOf, SoundSlot, PatchFits, ShowsNothing, Large, streamOf, Stored}
+use Rattle.promises.specs.Words.{WriteGives, ReadGives}
 use Rattle.promises.specs.Tables.{write-table, read-table}
 use Rattle.promises.specs.StoreLaws.{write-stored}
-use Rattle.promises.specs.ReadLaws.{reads-empty, reads-patch, reads-unsound, reads-spelled, reads-unspelled, reads-full, reads-missing, reads-sound, zero-bases}
+use Rattle.promises.specs.ReadLaws.{reads-empty, reads-patch, reads-unsound, reads-spelled, reads-unspelled, reads-full}
+use Rattle.promises.specs.ReadLaws.{reads-missing, reads-sound, zero-bases}
 use Rattle.promises.specs.WriteLaws.{write-length, kind-empty, kind-patch, kind-full, no-room, reads-back, others-read}
 use Rattle.promises.specs.ShowLaws.{shown-payload, nothing-shown}
 
@@ -47,7 +49,8 @@ module _ (patch full : List ℕ) (b : ℕ) (base page : List ℕ) where
   read-gives = read-table pageSize patch full b base page
 
   -- "refuses for room only if the full area has no place for that block"
-  pub write-room : FrameFits pageSize patch full base page → b < blocks patch → (written .number ≡ 8) ↔ (Large pageSize base page × (places pageSize full ≤ b))
+  pub write-room : FrameFits pageSize patch full base page → b < blocks patch
+      → (written .number ≡ 8) ↔ (Large pageSize base page × (places pageSize full ≤ b))
   write-room = no-room pageSize patch full b base page
 
   module _ (done : written .number ≡ 0) where
@@ -98,10 +101,12 @@ module _ (patch full : List ℕ) (b : ℕ) (base page : List ℕ) where
         → read ≡ record { number = 0; kind = 1; page = pokes (pageOf pageSize base) (placed 0 (w .entries)) }
     patch-slot-spelled = reads-spelled pageSize patch full b base page fits below
 
-    pub patch-slot-unspelled : Bytes patch → (payload : List ℕ) → PatchOf (slotOf patch b) payload → (read .number ≡ 7) ↔ (Spelled pageSize start payload → ⊥)
+    pub patch-slot-unspelled : Bytes patch → (payload : List ℕ) → PatchOf (slotOf patch b) payload
+        → (read .number ≡ 7) ↔ (Spelled pageSize start payload → ⊥)
     patch-slot-unspelled = reads-unspelled pageSize patch full b base page fits below
 
-    pub full-slot : slotOf patch b ≡ fullSlot → b < places pageSize full → read ≡ record { number = 0; kind = 2; page = placeOf pageSize full b }
+    pub full-slot : slotOf patch b ≡ fullSlot → b < places pageSize full
+        → read ≡ record { number = 0; kind = 2; page = placeOf pageSize full b }
     full-slot = reads-full pageSize patch full b base page fits below
 
     pub full-slot-8 : slotOf patch b ≡ fullSlot → places pageSize full ≤ b → read ≡ record { number = 8; kind = 0; page = page }

@@ -1,5 +1,7 @@
--- "The answer and every lent byte after a call follow from the inputs, refusals too": two outcomes that both meet a call's predicate, which
--- is what its contract cites, have the same answer, the code's own enum, and the same bytes. One statement a call. Of Show the bytes are determined; where an empty part lies cannot be told (docs/PROMISES.md, O1).
+-- "The answer and every lent byte after a call follow from the inputs, refusals too": two outcomes that both meet a call's predicate,
+-- which
+-- is what its contract cites, have the same answer, the code's own enum, and the same bytes. One statement a call. Of Show the bytes are
+-- determined; where an empty part lies cannot be told (docs/PROMISES.md, O1).
 use Prim.Native.Nat.{ℕ}
 use mathlib.Core.Path.{_≡_, sym, _∙_}
 use mathlib.Core.List.{List}
@@ -26,14 +28,17 @@ use Rattle.writing.specs.declared.Written.{Written}
 use Rattle.promises.specs.Answers.{formatted-one, judged-one, reading-one, written-one}
 
 module _ (P : ℕ) where
-  pub one-format : (patch full : List ℕ) (a b : Formatted) (p q f g : List ℕ) → Format P patch full a p f → Format P patch full b q g → (a ≡ b) × (p ≡ q) × (f ≡ g)
+  pub one-format : (patch full : List ℕ) (a b : Formatted) (p q f g : List ℕ) → Format P patch full a p f → Format P patch full b q g
+      → (a ≡ b) × (p ≡ q) × (f ≡ g)
   one-format patch full a b p q f g x y =
       (formatted-one a b (x .numbers ∙ sym (y .numbers)), x .patch-bytes ∙ sym (y .patch-bytes), x .full-bytes ∙ sym (y .full-bytes))
 
-  pub one-compare : (base page buffer : List ℕ) (a b : Compared) (p q : List ℕ) → Compare P base page buffer a p → Compare P base page buffer b q → (a ≡ b) × (p ≡ q)
+  pub one-compare : (base page buffer : List ℕ) (a b : Compared) (p q : List ℕ) → Compare P base page buffer a p
+      → Compare P base page buffer b q → (a ≡ b) × (p ≡ q)
   one-compare = compare-only P
 
-  pub one-apply : (base payload page : List ℕ) (a b : Applied) (p q : List ℕ) → Apply P base payload page a p → Apply P base payload page b q → (a ≡ b) × (p ≡ q)
+  pub one-apply : (base payload page : List ℕ) (a b : Applied) (p q : List ℕ) → Apply P base payload page a p
+      → Apply P base payload page b q → (a ≡ b) × (p ≡ q)
   one-apply = apply-only P
 
   pub one-judge : (slot : List ℕ) (a b : Judged) → Judge slot a → Judge slot b → a ≡ b
@@ -51,7 +56,8 @@ module _ (P : ℕ) where
   one-write patch full n base page a b p q f g x y =
       (written-one a b (x .numbers ∙ sym (y .numbers)), x .patch-bytes ∙ sym (y .patch-bytes), x .full-bytes ∙ sym (y .full-bytes))
 
-  pub one-build : (patch full map : List ℕ) (a b : Built) (p q : List ℕ) → Build P patch full map a p → Build P patch full map b q → (a ≡ b) × (p ≡ q)
+  pub one-build : (patch full map : List ℕ) (a b : Built) (p q : List ℕ) → Build P patch full map a p → Build P patch full map b q
+      → (a ≡ b) × (p ≡ q)
   one-build = build-one P
 
   pub one-look-up : (map : List ℕ) (n b : ℕ) (x y : Looked) → LookUp P map n b x → LookUp P map n b y → x ≡ y

@@ -36,35 +36,44 @@ unfolding decided
 kept number field d r x e f zero h = absurd (h e)
 kept number field d r x e f (suc k) h = f (suc k)
 
-pub format-kept : (P : ℕ) (patch full : List ℕ) → (formatOutcome P patch full .number ≡ 0 → ⊥) → (formatOutcome P patch full .patch ≡ patch) × (formatOutcome P patch full .full ≡ full)
+pub format-kept : (P : ℕ) (patch full : List ℕ) → (formatOutcome P patch full .number ≡ 0 → ⊥)
+    → (formatOutcome P patch full .patch ≡ patch) × (formatOutcome P patch full .full ≡ full)
 unfolding formatOutcome
 format-kept P patch full h = (
-  kept (λ (o : FormatOutcome). o .number) (λ (o : FormatOutcome). o .patch) _ _ patch refl (λ k. refl) (firstOf (formatRows P patch full)) h,
-  kept (λ (o : FormatOutcome). o .number) (λ (o : FormatOutcome). o .full) _ _ full refl (λ k. refl) (firstOf (formatRows P patch full)) h,
+  kept (λ (o : FormatOutcome). o .number) (λ (o : FormatOutcome). o .patch) _ _ patch refl (λ k. refl) (firstOf (formatRows P patch full))
+      h,
+  kept (λ (o : FormatOutcome). o .number) (λ (o : FormatOutcome). o .full) _ _ full refl (λ k. refl) (firstOf (formatRows P patch full))
+      h,
 )
 
-pub compare-kept : (P : ℕ) (base page buffer : List ℕ) → (compareNumbers P base page buffer .number ≡ 0 → ⊥) → compareBuffer P base page buffer ≡ buffer
+pub compare-kept : (P : ℕ) (base page buffer : List ℕ) → (compareNumbers P base page buffer .number ≡ 0 → ⊥)
+    → compareBuffer P base page buffer ≡ buffer
 compare-kept P base page buffer h = go (firstOf (compareRows P base page buffer)) refl
   where
     go : (k : ℕ) → firstOf (compareRows P base page buffer) ≡ k → compareBuffer P base page buffer ≡ buffer
     go zero e = absurd (h (compare-gives P base page buffer ∙ e))
     go (suc m) e = compare-not P base page buffer m e .1
 
-pub apply-kept : (P : ℕ) (base payload page : List ℕ) → (applyNumbers P base payload page .number ≡ 0 → ⊥) → applyPage P base payload page ≡ page
+pub apply-kept : (P : ℕ) (base payload page : List ℕ) → (applyNumbers P base payload page .number ≡ 0 → ⊥)
+    → applyPage P base payload page ≡ page
 apply-kept P base payload page h = go (firstOf (applyRows P base payload page)) refl
   where
     go : (k : ℕ) → firstOf (applyRows P base payload page) ≡ k → applyPage P base payload page ≡ page
     go zero e = absurd (h (apply-gives P base payload page ∙ e))
     go (suc m) e = apply-not P base payload page m e .1
 
-pub show-kept : (P : ℕ) (patch : List ℕ) (b : ℕ) → (firstOf (showRows P patch b) ≡ 0 → ⊥) → part (showPlace P patch b .at) (showPlace P patch b .len) patch ≡ []
+pub show-kept : (P : ℕ) (patch : List ℕ) (b : ℕ) → (firstOf (showRows P patch b) ≡ 0 → ⊥)
+    → part (showPlace P patch b .at) (showPlace P patch b .len) patch ≡ []
 unfolding showPlace
-show-kept P patch b h = ap (λ (x : Place). part (x .at) (x .len) patch) (decided-refused _ _ (firstOf (showRows P patch b)) _ refl h) ∙ part-none 0 patch
+show-kept P patch b h = ap (λ (x : Place). part (x .at) (x .len) patch) (decided-refused _ _ (firstOf (showRows P patch b)) _ refl h)
+    ∙ part-none 0 patch
 
-pub read-kept : (P : ℕ) (patch full : List ℕ) (b : ℕ) (base page : List ℕ) → (readOutcome P patch full b base page .number ≡ 0 → ⊥) → readOutcome P patch full b base page .page ≡ page
+pub read-kept : (P : ℕ) (patch full : List ℕ) (b : ℕ) (base page : List ℕ) → (readOutcome P patch full b base page .number ≡ 0 → ⊥)
+    → readOutcome P patch full b base page .page ≡ page
 unfolding readOutcome
 read-kept P patch full b base page h =
-    kept (λ (o : ReadOutcome). o .number) (λ (o : ReadOutcome). o .page) _ _ page refl (λ k. refl) (firstOf (readRows P patch full b base page)) h
+    kept (λ (o : ReadOutcome). o .number) (λ (o : ReadOutcome). o .page) _ _ page refl (λ k. refl)
+    (firstOf (readRows P patch full b base page)) h
 
 pub write-kept : (P : ℕ) (patch full : List ℕ) (b : ℕ) (base page : List ℕ) → (writeOutcome P patch full b base page .number ≡ 0 → ⊥)
     → (writeOutcome P patch full b base page .patch ≡ patch) × (writeOutcome P patch full b base page .full ≡ full)
@@ -78,22 +87,26 @@ block-number : (P : ℕ) (patch full : List ℕ) (b : ℕ) → (blockFault P pat
 unfolding blockFault ordered slotRows fullRows payloadRows placeRows firstOf orElse
 block-number P patch full b =
     let s = slotOf patch b in
-    go (not (eqb (slotNumbers s .number) 0)) (eqb (slotNumbers s .kind) 2 && leb (pagesIn P (length full)) b) (eqb (slotNumbers s .kind) 1 && not (sound P (payloadOf s)))
+    go (not (eqb (slotNumbers s .number) 0)) (eqb (slotNumbers s .kind) 2 && leb (pagesIn P (length full)) b)
+    (eqb (slotNumbers s .kind) 1 && not (sound P (payloadOf s)))
     (not (eqb (slotNumbers s .kind) 2) && (ltb b (pagesIn P (length full)) && not (same (placeOf P full b) (zeros P))))
   where
-    go : (x y z w : Bool) → (firstOf ((6 ⇐ x) ∷ (8 ⇐ y) ∷ (7 ⇐ z) ∷ (10 ⇐ w) ∷ []) ≡ 0) ⊎ OfBlock (firstOf ((6 ⇐ x) ∷ (8 ⇐ y) ∷ (7 ⇐ z) ∷ (10 ⇐ w) ∷ []))
+    go : (x y z w : Bool) → (firstOf ((6 ⇐ x) ∷ (8 ⇐ y) ∷ (7 ⇐ z) ∷ (10 ⇐ w) ∷ []) ≡ 0)
+        ⊎ OfBlock (firstOf ((6 ⇐ x) ∷ (8 ⇐ y) ∷ (7 ⇐ z) ∷ (10 ⇐ w) ∷ []))
     go true y z w = inr slot-6
     go false true z w = inr page-8
     go false false true w = inr payload-7
     go false false false true = inr place-10
     go false false false false = inl refl
 
-fault-number : (P : ℕ) (patch full : List ℕ) (k b : ℕ) → (firstFault P patch full b k .number ≡ 0) ⊎ OfBlock (firstFault P patch full b k .number)
+fault-number : (P : ℕ) (patch full : List ℕ) (k b : ℕ)
+    → (firstFault P patch full b k .number ≡ 0) ⊎ OfBlock (firstFault P patch full b k .number)
 unfolding firstFault decided
 fault-number P patch full zero b = inl refl
 fault-number P patch full (suc k) b = go (blockFault P patch full b) (block-number P patch full b) (fault-number P patch full k (b + 1))
   where
-    go : (n : ℕ) → (n ≡ 0) ⊎ OfBlock n → (firstFault P patch full (b + 1) k .number ≡ 0) ⊎ OfBlock (firstFault P patch full (b + 1) k .number)
+    go : (n : ℕ) → (n ≡ 0) ⊎ OfBlock n → (firstFault P patch full (b + 1) k .number ≡ 0)
+        ⊎ OfBlock (firstFault P patch full (b + 1) k .number)
         → (decided n (firstFault P patch full (b + 1) k) (λ n. record { number = n; block = b }) .number ≡ 0)
         ⊎ OfBlock (decided n (firstFault P patch full (b + 1) k) (λ n. record { number = n; block = b }) .number)
     go zero h r = r
@@ -101,15 +114,18 @@ fault-number P patch full (suc k) b = go (blockFault P patch full b) (block-numb
     go (suc n) (inr h) r = inr h
 
 pub build-kept : (P : ℕ) (patch full map : List ℕ) → (buildOutcome P patch full map .number ≡ 0 → ⊥)
-    → (buildOutcome P patch full map .map ≡ map) × ((buildOutcome P patch full map .block ≡ 0) ⊎ OfBlock (buildOutcome P patch full map .number))
+    → (buildOutcome P patch full map .map ≡ map)
+    × ((buildOutcome P patch full map .block ≡ 0) ⊎ OfBlock (buildOutcome P patch full map .number))
 unfolding buildOutcome decided
 build-kept P patch full map h =
     let fault = firstFault P patch full 0 (blocksIn (length patch)) in
-    go (firstOf (buildRows P patch full map)) (fault .number) (fault .block) (splice map 0 (builtMap patch)) (fault-number P patch full (blocksIn (length patch)) 0) h
+    go (firstOf (buildRows P patch full map)) (fault .number) (fault .block) (splice map 0 (builtMap patch))
+    (fault-number P patch full (blocksIn (length patch)) 0) h
   where
     built : ℕ → ℕ → ℕ → List ℕ → BuildOutcome
     built k n b done =
-        decided k (decided n (record { number = 0; block = 0; map = done }) (λ n. record { number = n; block = b; map = map })) (λ n. record { number = n; block = 0; map = map })
+        decided k (decided n (record { number = 0; block = 0; map = done }) (λ n. record { number = n; block = b; map = map }))
+        (λ n. record { number = n; block = 0; map = map })
 
     go : (k n b : ℕ) (done : List ℕ) → (n ≡ 0) ⊎ OfBlock n → (built k n b done .number ≡ 0 → ⊥)
         → (built k n b done .map ≡ map) × ((built k n b done .block ≡ 0) ⊎ OfBlock (built k n b done .number))

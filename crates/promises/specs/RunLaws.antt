@@ -24,7 +24,9 @@ use Rattle.promises.specs.Cells.{emptied, emptied-length, emptied-same}
 use Rattle.promises.specs.StoreLaws.{base-page-length, imageOf, contentOf, stored-so, accepted as acceptedIs}
 use Rattle.promises.specs.ReadLaws.{reads-empty, stored-reads}
 use Rattle.promises.specs.RunBuild.{empty-fine, stored-fine, builds}
-use Rattle.promises.specs.Runs.{run, last, later, Fresh, Taken, writes, lastWrite, LastWrites, lastWrites, NoRepeats, WritesOver, ReadSame, last-writes-are, last-writes-apart, writes-taken, writes-same, writes-at, last-in, writes-frame, writes-same-iff-read-same}
+use Rattle.promises.specs.Runs.{run, last, later, Fresh, Taken, writes, lastWrite, LastWrites, lastWrites, NoRepeats, WritesOver}
+use Rattle.promises.specs.Runs.{ReadSame, last-writes-are, last-writes-apart, writes-taken, writes-same, writes-at, last-in}
+use Rattle.promises.specs.Runs.{writes-frame, writes-same-iff-read-same}
 use Rattle.promises.specs.RunWords.{Areas, Lent, taken, next, after, accepted, lastTo, JustLasts, OverBases, FreshAreas}
 use Rattle.promises.specs.RunStore.{Cell, cellAt, frameOf, store, store-laws, taken-frame, accepted-write, frame-next}
 use Rattle.promises.specs.RunReads.{pageIn, reading, reading-laws}
@@ -41,21 +43,24 @@ module _ (P : ℕ) where
   last-is : (b : ℕ) (s : Areas) (ws : List Lent) → lastWrite (store P) (frameOf s) b ws ≡ lastTo b (accepted P s ws)
   unfolding lastWrite last lastTo accepted later
   last-is b s [] = refl
-  last-is b s (w ∷ ws) = rw (taken-frame P s w) (go (taken P s w) (sym (ap (λ (f : Areas). lastWrite (store P) f b ws) (frame-next P s w)) ∙ last-is b (next P s w) ws))
+  last-is b s (w ∷ ws) = rw (taken-frame P s w) (go (taken P s w) (sym (ap (λ (f : Areas). lastWrite (store P) f b ws) (frame-next P s w))
+      ∙ last-is b (next P s w) ws))
     where
       skip : (m : Option Lent) → later false w m ≡ m
       skip none = refl
       skip (some v) = refl
 
       go : (t : Bool) → lastWrite (store P) (frameOf s) b ws ≡ lastTo b (accepted P (next P s w) ws)
-          → later (t && eqb (w .block) b) w (lastWrite (store P) (frameOf s) b ws) ≡ lastTo b (cond t (w ∷ accepted P (next P s w) ws) (accepted P (next P s w) ws))
+          → later (t && eqb (w .block) b) w (lastWrite (store P) (frameOf s) b ws)
+          ≡ lastTo b (cond t (w ∷ accepted P (next P s w) ws) (accepted P (next P s w) ws))
       go true e = ap (later (eqb (w .block) b) w) e
       go false e = skip (lastWrite (store P) (frameOf s) b ws) ∙ e
 
   in-accepted : (s : Areas) (ws : List Lent) (w : Lent) → List·Memᴰ w ws → taken P (frameOf s) w ≡ true → List·Memᴰ w (accepted P s ws)
   unfolding accepted
   in-accepted s [] w i e = absurd (List·Memᴰ·not-nil i)
-  in-accepted s (v ∷ ws) w i e = go (taken P s v) refl (List·Memᴰ·cases-cons i) (λ j. in-accepted (next P s v) ws w j (ap (λ (f : Areas). taken P f w) (frame-next P s v) ∙ e))
+  in-accepted s (v ∷ ws) w i e = go (taken P s v) refl (List·Memᴰ·cases-cons i)
+      (λ j. in-accepted (next P s v) ws w j (ap (λ (f : Areas). taken P f w) (frame-next P s v) ∙ e))
     where
       go : (t : Bool) → taken P s v ≡ t → (w ≡ v) ⊎ List·Memᴰ w ws → (List·Memᴰ w ws → List·Memᴰ w (accepted P (next P s v) ws))
           → List·Memᴰ w (cond t (v ∷ accepted P (next P s v) ws) (accepted P (next P s v) ws))
@@ -78,7 +83,8 @@ module _ (P : ℕ) where
     fresh =
         record {
           good =
-              lengths-by P (s .patch) (s .full) (emptied patchHead (s .patch)) (emptied fullHead (s .full)) (emptied-length patchHead (s .patch)) (emptied-length fullHead (s .full))
+              lengths-by P (s .patch) (s .full) (emptied patchHead (s .patch)) (emptied fullHead (s .full))
+              (emptied-length patchHead (s .patch)) (emptied-length fullHead (s .full))
               (fresh-lengths P s h);
           all-blank = λ b n. fresh-cell P s h b (rw (emptied-length patchHead (s .patch)) at n);
         }
@@ -106,7 +112,8 @@ module _ (P : ℕ) where
         let f = emptied-same fullHead (after P s ws .full) (s .full) .0 (ap (λ (x : Areas). x .full) e) in
         record { patch-length = p .0; full-length = f .0; patch-header = p .1; full-header = f .1 }
 
-    pub run-fits : (ws : List Lent) (base page : List ℕ) → PagesFit P base page → FrameFits P (after P s ws .patch) (after P s ws .full) base page
+    pub run-fits : (ws : List Lent) (base page : List ℕ) → PagesFit P base page
+        → FrameFits P (after P s ws .patch) (after P s ws .full) base page
     run-fits ws base page f =
         record {
           pages = f;
@@ -115,7 +122,8 @@ module _ (P : ℕ) where
         }
 
     -- what a block holds
-    cell-is : (ws : List Lent) (b : ℕ) → b < blocks (s .patch) → cellAt P (after P s ws) b ≡ Option·elim (lastTo b (accepted P s ws)) (store P .blank) (store P .cell)
+    cell-is : (ws : List Lent) (b : ℕ) → b < blocks (s .patch)
+        → cellAt P (after P s ws) b ≡ Option·elim (lastTo b (accepted P s ws)) (store P .blank) (store P .cell)
     cell-is ws b n =
         ap (λ (t : Areas). cellAt P t b) (sym (after-is s ws))
         ∙ writes-at (store P) (store-laws P) s fresh ws b (rw (emptied-length patchHead (s .patch)) n)
@@ -131,7 +139,8 @@ module _ (P : ℕ) where
         )
 
     -- its place, if it has one
-    place-is : (ws : List Lent) (b : ℕ) {c : Cell} → cellAt P (after P s ws) b ≡ c → b < places P (after P s ws .full) → placeOf P (after P s ws .full) b ≡ c .place
+    place-is : (ws : List Lent) (b : ℕ) {c : Cell} → cellAt P (after P s ws) b ≡ c → b < places P (after P s ws .full)
+        → placeOf P (after P s ws .full) b ≡ c .place
     place-is ws b q m = rw (lt-ltb b (places P (after P s ws .full)) m) at (ap (λ (x : Cell). x .place) q)
 
     -- where a write stands, the block is stored as its page over its base
@@ -154,7 +163,8 @@ module _ (P : ℕ) where
           room-for = λ l. rw (kept ws .full-length) (rw (t .1) at (a .room-for l));
         }
 
-    blank-cell : (ws : List Lent) (b : ℕ) → b < blocks (s .patch) → lastTo b (accepted P s ws) ≡ none → cellAt P (after P s ws) b ≡ store P .blank
+    blank-cell : (ws : List Lent) (b : ℕ) → b < blocks (s .patch) → lastTo b (accepted P s ws) ≡ none
+        → cellAt P (after P s ws) b ≡ store P .blank
     unfolding Option·elim
     blank-cell ws b below e = cell-is ws b below ∙ rw e
 
@@ -166,13 +176,16 @@ module _ (P : ℕ) where
       pub reads-none : lastTo b (accepted P s ws) ≡ none
           → readOutcome P (after P s ws .patch) (after P s ws .full) b base page ≡ record { number = 0; kind = 0; page = pageOf P base }
       reads-none e =
-          reads-empty P (after P s ws .patch) (after P s ws .full) b base page (run-fits ws base page f) below′ (ap (λ (x : Cell). x .slot) (blank-cell ws b below e))
+          reads-empty P (after P s ws .patch) (after P s ws .full) b base page (run-fits ws base page f) below′
+          (ap (λ (x : Cell). x .slot) (blank-cell ws b below e))
 
       pub reads-last : P ≤ 65536 → (w : Lent) → lastTo b (accepted P s ws) ≡ some w → pageOf P base ≡ pageOf P (w .base)
-          → readOutcome P (after P s ws .patch) (after P s ws .full) b base page ≡ record { number = 0; kind = decidedKind P (w .base) (w .page); page = w .page }
+          → readOutcome P (after P s ws .patch) (after P s ws .full) b base page
+          ≡ record { number = 0; kind = decidedKind P (w .base) (w .page); page = w .page }
       reads-last small w e q =
           let k : Held ws b w = held ws b w below e in
-          stored-reads P small (w .base) (w .page) (k .fit) (stored-so P (w .base) (w .page) (k .fit)) (after P s ws .patch) (after P s ws .full) b base page
+          stored-reads P small (w .base) (w .page) (k .fit) (stored-so P (w .base) (w .page) (k .fit)) (after P s ws .patch)
+          (after P s ws .full) b base page
           (run-fits ws base page f)
           below′
           q
@@ -181,7 +194,8 @@ module _ (P : ℕ) where
           (k .room-for)
 
     pub build-accepts : P ≤ 65536 → (ws : List Lent) (map : List ℕ) → mapBytes (blocks (after P s ws .patch)) ≤ length map
-        → buildOutcome P (after P s ws .patch) (after P s ws .full) map ≡ record { number = 0; block = 0; map = splice map 0 (builtMap (after P s ws .patch)) }
+        → buildOutcome P (after P s ws .patch) (after P s ws .full) map
+        ≡ record { number = 0; block = 0; map = splice map 0 (builtMap (after P s ws .patch)) }
     build-accepts small ws map long = builds P (after P s ws .patch) (after P s ws .full) fine (f .lengths) (f .headers) map long
       where
         f : FrameFits P (after P s ws .patch) (after P s ws .full) [] (zeros P)
@@ -199,13 +213,15 @@ module _ (P : ℕ) where
                 empty-fine P (after P s ws .patch) (after P s ws .full) b (ap (λ (x : Cell). x .slot) c) (place-is ws b c)
             go (some w) e =
                 let k : Held ws b w = held ws b w below e in
-                stored-fine P small (w .base) (w .page) (k .fit) (stored-so P (w .base) (w .page) (k .fit)) (after P s ws .patch) (after P s ws .full) b (k .slot) (k .place) (k .room-for)
+                stored-fine P small (w .base) (w .page) (k .fit) (stored-so P (w .base) (w .page) (k .fit)) (after P s ws .patch)
+                (after P s ws .full) b (k .slot) (k .place) (k .room-for)
 
     -- (b)
     module _ (small : P ≤ 65536) (bases into : ℕ → List ℕ) (fits : (b : ℕ) → b < blocks (s .patch) → PagesFit P (bases b) (into b)) where
       -- what is read of each block is what `Runs` reads of its cell
       read-is : (ws : List Lent) → OverBases P bases s ws → (b : ℕ) → b < blocks (s .patch)
-          → readOutcome P (after P s ws .patch) (after P s ws .full) b (bases b) (into b) .page ≡ pageIn P (pageOf P (bases b)) (cellAt P (after P s ws) b)
+          → readOutcome P (after P s ws .patch) (after P s ws .full) b (bases b) (into b) .page
+          ≡ pageIn P (pageOf P (bases b)) (cellAt P (after P s ws) b)
       unfolding Option·elim lastTo
       read-is ws over b n = go (lastTo b (accepted P s ws)) refl
         where
@@ -213,7 +229,8 @@ module _ (P : ℕ) where
           β = pageOf P (bases b)
 
           go : (m : Option Lent) → lastTo b (accepted P s ws) ≡ m
-              → readOutcome P (after P s ws .patch) (after P s ws .full) b (bases b) (into b) .page ≡ pageIn P β (cellAt P (after P s ws) b)
+              → readOutcome P (after P s ws .patch) (after P s ws .full) b (bases b) (into b) .page
+              ≡ pageIn P β (cellAt P (after P s ws) b)
           go none e =
               ap (λ (o : ReadOutcome). o .page) (reads-none ws b n (bases b) (into b) (fits b n) e)
               ∙ sym (reading-laws P small .reads-blank β (base-page-length P (bases b) (into b) (fits b n)))
@@ -230,14 +247,16 @@ module _ (P : ℕ) where
       pub same-iff : (ws vs : List Lent) → OverBases P bases s ws → OverBases P bases s vs
           → (after P s ws ≡ after P s vs)
           ↔ ((b : ℕ) → b < blocks (s .patch)
-          → readOutcome P (after P s ws .patch) (after P s ws .full) b (bases b) (into b) .page ≡ readOutcome P (after P s vs .patch) (after P s vs .full) b (bases b) (into b) .page)
+          → readOutcome P (after P s ws .patch) (after P s ws .full) b (bases b) (into b) .page
+          ≡ readOutcome P (after P s vs .patch) (after P s vs .full) b (bases b) (into b) .page)
       unfolding ReadSame WritesOver
       same-iff ws vs over over′ = (
         λ e b n. ap (λ (t : Areas). readOutcome P (t .patch) (t .full) b (bases b) (into b) .page) e,
         λ r.
             sym (after-is s ws)
             ∙ writes-same-iff-read-same (store P) (store-laws P) (reading P) (reading-laws P small) s fresh (λ b. pageOf P (bases b))
-            (λ b n. base-page-length P (bases b) (into b) (fits b (rw (emptied-length patchHead (s .patch)) at n))) ws vs (λ w i e. over w (in-accepted s ws w i e))
+            (λ b n. base-page-length P (bases b) (into b) (fits b (rw (emptied-length patchHead (s .patch)) at n))) ws vs
+            (λ w i e. over w (in-accepted s ws w i e))
             (λ w i e. over′ w (in-accepted s vs w i e)) .1
             (λ b n.
             let k : b < blocks (s .patch) = rw (emptied-length patchHead (s .patch)) at n in
@@ -251,21 +270,25 @@ module _ (P : ℕ) where
 
 -- Fresh areas of the same lengths are the same bytes
 
-fresh-one : (P : ℕ) (s t : Areas) → FreshAreas P s → FreshAreas P t → length (s .patch) ≡ length (t .patch) → length (s .full) ≡ length (t .full) → s ≡ t
+fresh-one : (P : ℕ) (s t : Areas) → FreshAreas P s → FreshAreas P t → length (s .patch) ≡ length (t .patch)
+    → length (s .full) ≡ length (t .full) → s ≡ t
 fresh-one P s t h k p f =
     fresh-is P s h ∙ (λ i. record { patch = freshPatch P (p i); full = freshFull P (f i) }) ∙ sym (fresh-is P t k)
 
-pub two-runs : (P : ℕ) → P ≤ 65536 → (s t : Areas) → FreshAreas P s → FreshAreas P t → length (s .patch) ≡ length (t .patch) → length (s .full) ≡ length (t .full)
+pub two-runs : (P : ℕ) → P ≤ 65536 → (s t : Areas) → FreshAreas P s → FreshAreas P t → length (s .patch) ≡ length (t .patch)
+    → length (s .full) ≡ length (t .full)
     → (bases into : ℕ → List ℕ) → ((b : ℕ) → b < blocks (s .patch) → PagesFit P (bases b) (into b))
     → (ws vs : List Lent) → OverBases P bases s ws → OverBases P bases t vs
     → (after P s ws ≡ after P t vs)
     ↔ ((b : ℕ) → b < blocks (s .patch)
-    → readOutcome P (after P s ws .patch) (after P s ws .full) b (bases b) (into b) .page ≡ readOutcome P (after P t vs .patch) (after P t vs .full) b (bases b) (into b) .page)
+    → readOutcome P (after P s ws .patch) (after P s ws .full) b (bases b) (into b) .page
+    ≡ readOutcome P (after P t vs .patch) (after P t vs .full) b (bases b) (into b) .page)
 two-runs P small s t h k p f bases into fits ws vs =
     subst
     (λ (x : Areas).
     OverBases P bases s ws → OverBases P bases x vs
     → (after P s ws ≡ after P x vs)
     ↔ ((b : ℕ) → b < blocks (s .patch)
-    → readOutcome P (after P s ws .patch) (after P s ws .full) b (bases b) (into b) .page ≡ readOutcome P (after P x vs .patch) (after P x vs .full) b (bases b) (into b) .page))
+    → readOutcome P (after P s ws .patch) (after P s ws .full) b (bases b) (into b) .page
+    ≡ readOutcome P (after P x vs .patch) (after P x vs .full) b (bases b) (into b) .page))
     (fresh-one P s t h k p f) (same-iff P s h small bases into fits ws vs)

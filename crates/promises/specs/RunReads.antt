@@ -50,7 +50,8 @@ stored-page : {k : ℕ} {s c : List ℕ} (P : ℕ) → P ≤ 65536 → (base pag
 unfolding pageIn
 stored-page P small base page fit (StoredAs.empty e) = rw empty-numbers (sym e)
 stored-page P small base page fit (StoredAs.patch low high) =
-    let back : Back P (pageOf P base) page = read-back P (pageOf P base) page small (base-page-length P base page fit) (fit .page-length) in
+    let back : Back P (pageOf P base) page = read-back P (pageOf P base) page small (base-page-length P base page fit)
+    (fit .page-length) in
     let q = patch-of (patchSlot (streamOf P base page)) (streamOf P base page) (record { image = refl; some = low; room-for = high }) in
     rw (q .0, q .1) (back .page)
 stored-page P small base page fit (StoredAs.full l) = rw full-numbers
@@ -70,7 +71,8 @@ reading-laws P small =
       cell-canon = λ f w e. refl;
       reads-cell =
           λ f w e.
-          let fit : PagesFit P (w .base) (w .page) = accepted P (f .patch) (f .full) (w .block) (w .base) (w .page) (accepted-write P f w e) .fits .pages in
+          let fit : PagesFit P (w .base) (w .page) = accepted P (f .patch) (f .full) (w .block) (w .base) (w .page)
+          (accepted-write P f w e) .fits .pages in
           stored-page P small (w .base) (w .page) fit (stored-so P (w .base) (w .page) fit);
       canon-base = λ β fit. blank-cell P β;
       reads-blank = λ β fit. blank-page P β;

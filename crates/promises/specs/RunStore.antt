@@ -20,7 +20,8 @@ use Rattle.promises.specs.FrameLaws.{frameNumber, frame-emptied, lengths
 use Rattle.writing.specs.Given.{write-number}
 use Rattle.promises.specs.Tables.{write-rows}
 use Rattle.promises.specs.Cells.{cells-ext, emptied, emptied-length, emptied-part, emptied-same}
-use Rattle.promises.specs.StoreLaws.{write-done, write-not, Accepted, accepted, write-stored, imageOf, contentOf, carried-slot, carried-place, content-none}
+use Rattle.promises.specs.StoreLaws.{write-done, write-not, Accepted, accepted, write-stored, imageOf, contentOf, carried-slot}
+use Rattle.promises.specs.StoreLaws.{carried-place, content-none}
 use Rattle.promises.specs.Runs.{Store, write, wipe, Laws}
 use Rattle.promises.specs.RunWords.{Areas, Lent, outcome, taken, next}
 
@@ -61,21 +62,31 @@ taken-frame P s w = ap (λ (k : ℕ). eqb k 0) (number (frameOf s) ∙ same ∙ 
   where
     number : (t : Areas) → outcome P t w .number
         ≡ orElse (frameNumber P (t .patch) (t .full) (w .base) (w .page))
-        (cond (leb (blocks (t .patch)) (w .block)) 5 (cond (eqb (decidedKind P (w .base) (w .page)) 2 && leb (places P (t .full)) (w .block)) 8 0))
-    number t = write-number P (t .patch) (t .full) (w .block) (w .base) (w .page) ∙ write-rows P (t .patch) (t .full) (w .block) (w .base) (w .page)
+        (cond (leb (blocks (t .patch)) (w .block)) 5
+        (cond (eqb (decidedKind P (w .base) (w .page)) 2 && leb (places P (t .full)) (w .block)) 8 0))
+    number t = write-number P (t .patch) (t .full) (w .block) (w .base) (w .page)
+        ∙ write-rows P (t .patch) (t .full) (w .block) (w .base) (w .page)
 
     same : orElse (frameNumber P (emptied patchHead (s .patch)) (emptied fullHead (s .full)) (w .base) (w .page))
-        (cond (leb (blocks (emptied patchHead (s .patch))) (w .block)) 5 (cond (eqb (decidedKind P (w .base) (w .page)) 2 && leb (places P (emptied fullHead (s .full))) (w .block)) 8 0))
+        (cond (leb (blocks (emptied patchHead (s .patch))) (w .block)) 5
+        (cond (eqb (decidedKind P (w .base) (w .page)) 2 && leb (places P (emptied fullHead (s .full))) (w .block)) 8 0))
         ≡ orElse (frameNumber P (s .patch) (s .full) (w .base) (w .page))
-        (cond (leb (blocks (s .patch)) (w .block)) 5 (cond (eqb (decidedKind P (w .base) (w .page)) 2 && leb (places P (s .full)) (w .block)) 8 0))
-    same = rw (frame-emptied P (s .patch) (s .full) (w .base) (w .page), emptied-length patchHead (s .patch), emptied-length fullHead (s .full))
+        (cond (leb (blocks (s .patch)) (w .block)) 5
+        (cond (eqb (decidedKind P (w .base) (w .page)) 2 && leb (places P (s .full)) (w .block)) 8 0))
+    same = rw (
+      frame-emptied P (s .patch) (s .full) (w .base) (w .page),
+      emptied-length patchHead (s .patch),
+      emptied-length fullHead
+          (s .full),
+    )
 
 module _ (P : ℕ) (s : Areas) (w : Lent) where
   pub accepted-write : taken P s w ≡ true → outcome P s w .number ≡ 0
   accepted-write e = eqb-true (outcome P s w .number) 0 e
 
   not-taken : taken P s w ≡ false → next P s w ≡ s
-  not-taken e = ap (λ (o : WriteOutcome). record { patch = o .patch; full = o .full }) (write-not P (s .patch) (s .full) (w .block) (w .base) (w .page) (eqb-false (outcome P s w .number) 0 e))
+  not-taken e = ap (λ (o : WriteOutcome). record { patch = o .patch; full = o .full })
+      (write-not P (s .patch) (s .full) (w .block) (w .base) (w .page) (eqb-false (outcome P s w .number) 0 e))
 
   module _ (e : taken P s w ≡ true) where
     a : Accepted P (s .patch) (s .full) (w .block) (w .base) (w .page)
@@ -84,18 +95,24 @@ module _ (P : ℕ) (s : Areas) (w : Lent) where
     done : Stored P (s .patch) (s .full) (w .block) (w .base) (w .page) (outcome P s w .kind) (outcome P s w .patch) (outcome P s w .full)
     done = write-stored P (s .patch) (s .full) (w .block) (w .base) (w .page) (accepted-write e)
 
-    pub cell-here : cellAt P (next P s w) (w .block) ≡ record { slot = imageOf P (w .base) (w .page); place = contentOf P (w .base) (w .page) }
+    pub cell-here : cellAt P (next P s w) (w .block)
+        ≡ record { slot = imageOf P (w .base) (w .page); place = contentOf P (w .base) (w .page) }
     cell-here = λ i. record { slot = slot i; place = place (ltb (w .block) (places P (s .full))) refl i }
       where
         slot : slotOf (outcome P s w .patch) (w .block) ≡ imageOf P (w .base) (w .page)
-        slot = ap (λ (o : WriteOutcome). slotOf (o .patch) (w .block)) (write-done P (s .patch) (s .full) (w .block) (w .base) (w .page) (accepted-write e)) ∙ carried-slot P (s .patch) (s .full) (w .block) (w .base) (w .page) (a .fits) (a .below)
+        slot = ap (λ (o : WriteOutcome). slotOf (o .patch) (w .block))
+            (write-done P (s .patch) (s .full) (w .block) (w .base) (w .page) (accepted-write e))
+            ∙ carried-slot P (s .patch) (s .full) (w .block) (w .base) (w .page) (a .fits) (a .below)
 
         place : (t : Bool) → ltb (w .block) (places P (s .full)) ≡ t
-            → cond (ltb (w .block) (places P (outcome P s w .full))) (placeOf P (outcome P s w .full) (w .block)) (zeros P) ≡ contentOf P (w .base) (w .page)
+            → cond (ltb (w .block) (places P (outcome P s w .full))) (placeOf P (outcome P s w .full) (w .block)) (zeros P)
+            ≡ contentOf P (w .base) (w .page)
         place true q =
             rw (done .frame .full-length, q)
-            (ap (λ (o : WriteOutcome). placeOf P (o .full) (w .block)) (write-done P (s .patch) (s .full) (w .block) (w .base) (w .page) (accepted-write e))
-            ∙ carried-place P (s .patch) (s .full) (w .block) (w .base) (w .page) (a .fits) (a .below) (ltb-true (w .block) (places P (s .full)) q))
+            (ap (λ (o : WriteOutcome). placeOf P (o .full) (w .block))
+            (write-done P (s .patch) (s .full) (w .block) (w .base) (w .page) (accepted-write e))
+            ∙ carried-place P (s .patch) (s .full) (w .block) (w .base) (w .page) (a .fits) (a .below)
+            (ltb-true (w .block) (places P (s .full)) q))
         place false q =
             rw (done .frame .full-length, q)
             (sym
@@ -138,7 +155,8 @@ module _ (P : ℕ) (s t : Areas) (fits : LengthsFit P (s .patch) (s .full)) (e :
   unfolding slotOf
   same-patch =
       let f = emptied-same patchHead (s .patch) (t .patch) .0 (ap (λ (x : Areas). x .patch) e) in
-      cells-ext patchHead slotSize (blocks (s .patch)) (s .patch) (t .patch) (fits .patch-length) (sym (f .0)) (f .1) (λ c n. ap (λ (x : Cell). x .slot) (h c n))
+      cells-ext patchHead slotSize (blocks (s .patch)) (s .patch) (t .patch) (fits .patch-length) (sym (f .0)) (f .1)
+      (λ c n. ap (λ (x : Cell). x .slot) (h c n))
 
   same-full : s .full ≡ t .full
   unfolding placeOf
@@ -147,8 +165,10 @@ module _ (P : ℕ) (s t : Areas) (fits : LengthsFit P (s .patch) (s .full)) (e :
       f : (length (s .full) ≡ length (t .full)) × (part 0 fullHead (s .full) ≡ part 0 fullHead (t .full))
       f = emptied-same fullHead (s .full) (t .full) .0 (ap (λ (x : Areas). x .full) e)
 
-      go : (length (s .full) ≡ 0) ⊎ ((length (s .full) ≡ pageAt P (places P (s .full))) × (places P (s .full) ≤ blocks (s .patch))) → s .full ≡ t .full
-      go (inl z) = cells-ext 0 0 0 (s .full) (t .full) z (sym (f .0)) (part-none 0 (s .full) ∙ sym (part-none 0 (t .full))) (λ c n. absurd (omega arith))
+      go : (length (s .full) ≡ 0) ⊎ ((length (s .full) ≡ pageAt P (places P (s .full))) × (places P (s .full) ≤ blocks (s .patch)))
+          → s .full ≡ t .full
+      go (inl z) = cells-ext 0 0 0 (s .full) (t .full) z (sym (f .0)) (part-none 0 (s .full) ∙ sym (part-none 0 (t .full)))
+          (λ c n. absurd (omega arith))
       go (inr l) =
           cells-ext fullHead P (places P (s .full)) (s .full) (t .full) (l .0) (sym (f .0)) (f .1)
           (λ c n. rw (← f .0, lt-ltb c (places P (s .full)) n) at (ap (λ (x : Cell). x .place) (h c (omega (arith, l .1)))))
@@ -165,6 +185,7 @@ store-laws P =
       ext =
           λ s t good e h.
           let fits : LengthsFit P (s .patch) (s .full) = lengths-moved P _ _ (s .patch) (s .full) (unemptied (s .patch) (s .full)) good in
-          let cells : (b : ℕ) → b < blocks (s .patch) → cellAt P s b ≡ cellAt P t b = λ b n. h b (rw (emptied-length patchHead (s .patch)) n) in
+          let cells : (b : ℕ) → b < blocks (s .patch)
+          → cellAt P s b ≡ cellAt P t b = λ b n. h b (rw (emptied-length patchHead (s .patch)) n) in
           λ i. record { patch = same-patch P s t fits e cells i; full = same-full P s t fits e cells i };
     }

@@ -6,7 +6,8 @@ use mathlib.Core.Path.{_≡_, refl, sym, ap, _∙_}
 use mathlib.Core.Logic.{_↔_, _⊎_, inl, inr}
 use mathlib.Core.Bool.{Bool, true, false, _&&_, true≢false}
 use mathlib.Core.Option.{Option, none, some, Option·map, Option·elim, Option·none-ne-some, Option·some-injective}
-use mathlib.Core.List.{List, [], _∷_, _++_, map, List·Memᴰ, List·Memᴰ·head, List·Memᴰ·tail, List·Memᴰ·cases-cons, List·Memᴰ·not-nil, Memᴰ·append-right}
+use mathlib.Core.List.{List, [], _∷_, _++_, map, List·Memᴰ, List·Memᴰ·head, List·Memᴰ·tail, List·Memᴰ·cases-cons, List·Memᴰ·not-nil}
+use mathlib.Core.List.{Memᴰ·append-right}
 use lib.Dec.{eqb}
 use borrow.Author.Tests.{eqb-true, eqb-false, eq-eqb}
 
@@ -58,10 +59,14 @@ both : (t u : Bool) → (t && u) ≡ true → (t ≡ true) × (u ≡ true)
 both true u e = (refl, e)
 both false u e = absurd (true≢false (sym e))
 
-later-some : {A : Type 0} (t : Bool) (x z : A) (m : Option A) → (later t x m ≡ some z) ↔ ((m ≡ some z) ⊎ ((x ≡ z) × (t ≡ true) × (m ≡ none)))
+later-some : {A : Type 0} (t : Bool) (x z : A) (m : Option A)
+    → (later t x m ≡ some z) ↔ ((m ≡ some z) ⊎ ((x ≡ z) × (t ≡ true) × (m ≡ none)))
 unfolding later
 later-some t x z (some y) = (inl, elim [ inl e ↦ e | inr q ↦ absurd (Option·none-ne-some _ (sym (q .2))) ])
-later-some true x z none = (λ e. inr (Option·some-injective _ _ e, refl, refl), elim [ inl e ↦ absurd (Option·none-ne-some _ e) | inr q ↦ ap some (q .0) ])
+later-some true x z none = (
+  λ e. inr (Option·some-injective _ _ e, refl, refl),
+  elim [ inl e ↦ absurd (Option·none-ne-some _ e) | inr q ↦ ap some (q .0) ],
+)
 later-some false x z none = (inl, elim [ inl e ↦ e | inr q ↦ absurd (true≢false (sym (q .1))) ])
 
 later-none : {A : Type 0} (t : Bool) (x : A) (m : Option A) → later t x m ≡ none → (m ≡ none) × (t ≡ false)
@@ -74,8 +79,10 @@ keep-mem : {A B : Type 0} (t : Bool) (x z : A) (m : Option B) (xs : List A)
     → List·Memᴰ z (keep t x m xs) ↔ (List·Memᴰ z xs ⊎ ((z ≡ x) × (t ≡ true) × (m ≡ none)))
 unfolding keep
 keep-mem t x z (some y) xs = (inl, elim [ inl i ↦ i | inr q ↦ absurd (Option·none-ne-some _ (sym (q .2))) ])
-keep-mem true x z none xs =
-    (λ i. elim (List·Memᴰ·cases-cons i) [ inl e ↦ inr (e, refl, refl) | inr j ↦ inl j ], elim [ inl i ↦ List·Memᴰ·tail i | inr q ↦ List·Memᴰ·head (q .0) ])
+keep-mem true x z none xs = (
+  λ i. elim (List·Memᴰ·cases-cons i) [ inl e ↦ inr (e, refl, refl) | inr j ↦ inl j ],
+  elim [ inl i ↦ List·Memᴰ·tail i | inr q ↦ List·Memᴰ·head (q .0) ],
+)
 keep-mem false x z none xs = (inl, elim [ inl i ↦ i | inr q ↦ absurd (true≢false (sym (q .1))) ])
 
 last-map : {A B : Type 0} (p : B → Bool) (f : A → B) (xs : List A) → last p (map f xs) ≡ Option·map f (last (λ x. p (f x)) xs)
@@ -101,12 +108,26 @@ module _ {A : Type 0} (p : A → Bool) where
   last-at [] x e = absurd (Option·none-ne-some _ e)
   last-at (y ∷ xs) x e = go (last-at xs x) (later-some (p y) y x (last p xs) .0 e)
     where
-      go : (last p xs ≡ some x → LastAt p xs x) → (last p xs ≡ some x) ⊎ ((y ≡ x) × (p y ≡ true) × (last p xs ≡ none)) → LastAt p (y ∷ xs) x
+      go : (last p xs ≡ some x → LastAt p xs x) → (last p xs ≡ some x) ⊎ ((y ≡ x) × (p y ≡ true) × (last p xs ≡ none))
+          → LastAt p (y ∷ xs) x
       go below (inl e) =
           let l : LastAt p xs x = below e in
-          record { before = y ∷ l .before; after = l .after; split = ap (λ (k : List A). y ∷ k) (l .split); passes = l .passes; none-later = l .none-later }
+          record {
+            before = y ∷ l .before;
+            after = l .after;
+            split = ap (λ (k : List A). y ∷ k) (l .split);
+            passes = l .passes;
+            none-later = l .none-later;
+          }
       go below (inr q) =
-          record { before = []; after = xs; split = ap (λ (z : A). z ∷ xs) (q .0); passes = ap p (sym (q .0)) ∙ q .1; none-later = last-none xs (q .2) }
+          record {
+            before = [];
+            after = xs;
+            split = ap (λ (z : A). z ∷ xs) (q .0);
+            passes = ap p (sym (q .0))
+                ∙ q .1;
+            none-later = last-none xs (q .2);
+          }
 
   pub last-in : {x : A} (xs : List A) → last p xs ≡ some x → List·Memᴰ x xs × (p x ≡ true)
   last-in {x} xs e =
@@ -272,7 +293,8 @@ module _ (S : Store) where
   hit : {f : Frame} {b : ℕ} {w : Write} → (accepts f (write w) && eqb (block w) b) ≡ true → (accepts f (write w) ≡ true) × (block w ≡ b)
   hit {f} {b} {w} e = let k = both _ _ e in (k .0, eqb-true (block w) b (k .1))
 
-  stands : {f : Frame} {b : ℕ} {w : Write} (os : Ops) → standing f b os ≡ some (write w) → List·Memᴰ (write w) os × (accepts f (write w) ≡ true) × (block w ≡ b)
+  stands : {f : Frame} {b : ℕ} {w : Write} (os : Ops) → standing f b os ≡ some (write w)
+      → List·Memᴰ (write w) os × (accepts f (write w) ≡ true) × (block w ≡ b)
   unfolding standing touches
   stands {f} {b} os e = let i = last-in (touches f b) os e in (i .0, hit (i .1) .0, hit (i .1) .1)
 
@@ -280,7 +302,8 @@ module _ (S : Store) where
   unfolding standing lastWrite touches
   writes-stand f b ws = last-map (touches f b) write ws
 
-  write-stands : (f : Frame) (ws : List Write) (w : Write) → (standing f (block w) (map write ws) ≡ some (write w)) ↔ (lastWrite f (block w) ws ≡ some w)
+  write-stands : (f : Frame) (ws : List Write) (w : Write) → (standing f (block w) (map write ws) ≡ some (write w))
+      ↔ (lastWrite f (block w) ws ≡ some w)
   write-stands f ws w = rw (writes-stand f (block w) ws) (back (lastWrite f (block w) ws), λ e. rw e)
     where
       back : (m : Option Write) → _≡_ {A = Option (Op Write Wipe)} (Option·map write m) (some (write w)) → m ≡ some w
@@ -301,7 +324,8 @@ module _ (S : Store) where
   lasts-are f (o ∷ os) v = more o (lasts-are f os v)
     where
       later-v : (o : Op Write Wipe) → (standing f (block v) (o ∷ os) ≡ some (write v))
-          ↔ ((standing f (block v) os ≡ some (write v)) ⊎ ((o ≡ write v) × (touches f (block v) o ≡ true) × (standing f (block v) os ≡ none)))
+          ↔ ((standing f (block v) os ≡ some (write v))
+          ⊎ ((o ≡ write v) × (touches f (block v) o ≡ true) × (standing f (block v) os ≡ none)))
       later-v o = later-some (touches f (block v) o) o (write v) (standing f (block v) os)
 
       more : (o : Op Write Wipe) → List·Memᴰ v (lasts f os) ↔ (standing f (block v) os ≡ some (write v))
@@ -332,7 +356,8 @@ module _ (S : Store) where
   lasts-apart f (wipe c ∷ os) = lasts-apart f os
   lasts-apart f (write w ∷ os) = go (accepts f (write w)) (standing f (block w) os) refl (lasts-apart f os)
     where
-      go : (t : Bool) (m : Option (Op Write Wipe)) → standing f (block w) os ≡ m → NoRepeats block (lasts f os) → NoRepeats block (keep t w m (lasts f os))
+      go : (t : Bool) (m : Option (Op Write Wipe)) → standing f (block w) os ≡ m → NoRepeats block (lasts f os)
+          → NoRepeats block (keep t w m (lasts f os))
       go t (some o) e r = r
       go true none e r = (λ v i q. Option·none-ne-some _ (sym e ∙ rw q at (lasts-are f os v .0 i)), r)
       go false none e r = r
@@ -345,7 +370,8 @@ module _ (S : Store) where
   unfolding lastWrites
   last-writes-apart f ws = lasts-apart f (map write ws)
 
-  pub lasts-accepted : (f : Frame) (os : Ops) (ls : List Write) → Lasts f os ls → (w : Write) → List·Memᴰ w ls → accepts f (write w) ≡ true
+  pub lasts-accepted : (f : Frame) (os : Ops) (ls : List Write) → Lasts f os ls → (w : Write) → List·Memᴰ w ls
+      → accepts f (write w) ≡ true
   unfolding Lasts
   lasts-accepted f os ls l w i = stands os (l w .0 i) .1
 
@@ -356,7 +382,8 @@ module _ (S : Store) where
     run-frame s [] = refl
     run-frame s (o ∷ os) = run-frame (step s o) os ∙ L .frame-kept s o
 
-    step-at : (s : State) (o : Op Write Wipe) (b : ℕ) → b < blocks (frame s) → at (step s o) b ≡ leaves (at s b) (later (touches (frame s) b o) o none)
+    step-at : (s : State) (o : Op Write Wipe) (b : ℕ) → b < blocks (frame s)
+        → at (step s o) b ≡ leaves (at s b) (later (touches (frame s) b o) o none)
     unfolding touches leaves later
     step-at s (write w) b h = go (accepts (frame s) (write w)) refl (eqb (block w) b) refl
       where
@@ -387,13 +414,15 @@ module _ (S : Store) where
         go true none = refl
         go false none = refl
 
-    same-run : (s : State) → Good (frame s) → (os os′ : Ops) → ((b : ℕ) → b < blocks (frame s) → at (run step s os) b ≡ at (run step s os′) b)
+    same-run : (s : State) → Good (frame s) → (os os′ : Ops)
+        → ((b : ℕ) → b < blocks (frame s) → at (run step s os) b ≡ at (run step s os′) b)
         → run step s os ≡ run step s os′
     same-run s good os os′ h =
         let e : frame (run step s os) ≡ frame s = run-frame s os in
         L .ext (run step s os) (run step s os′) (rw e good) (e ∙ sym (run-frame s os′)) (rw e h)
 
-    fresh-at : (s : State) → Fresh s → (os : Ops) (b : ℕ) → b < blocks (frame s) → at (run step s os) b ≡ leaves blank (standing (frame s) b os)
+    fresh-at : (s : State) → Fresh s → (os : Ops) (b : ℕ) → b < blocks (frame s)
+        → at (run step s os) b ≡ leaves blank (standing (frame s) b os)
     fresh-at s fresh os b h = run-at s os b h ∙ rw (fresh .all-blank b h)
 
     -- from a fresh state the last accepted writes alone, in any order, are all accepted and leave what the whole run leaves
@@ -402,9 +431,14 @@ module _ (S : Store) where
       where
         go : (t : State) (ks : List Write) → ((w : Write) → List·Memᴰ w ks → accepts (frame t) (write w) ≡ true) → Taken t ks
         go t [] h = tt
-        go t (k ∷ ks) h = (h k (List·Memᴰ·head refl), go (step t (write k)) ks (λ w i. rw (L .frame-kept t (write k)) (h w (List·Memᴰ·tail i))))
+        go t (k ∷ ks) h = (
+          h k (List·Memᴰ·head refl),
+          go (step t (write k)) ks
+              (λ w i. rw (L .frame-kept t (write k)) (h w (List·Memᴰ·tail i))),
+        )
 
-    pub lasts-same : (s : State) → Fresh s → (os : Ops) (ls : List Write) → Lasts (frame s) os ls → run step s (map write ls) ≡ run step s os
+    pub lasts-same : (s : State) → Fresh s → (os : Ops) (ls : List Write) → Lasts (frame s) os ls
+        → run step s (map write ls) ≡ run step s os
     unfolding Lasts leaves lastWrite
     lasts-same s fresh os ls l =
         same-run s (fresh .good) (map write ls) os
@@ -427,7 +461,8 @@ module _ (S : Store) where
         → at (writes s ws) b ≡ Option·elim (lastWrite (frame s) b ws) blank cell
     unfolding writes leaves Option·elim
     writes-at s fresh ws b h =
-        rw (← run-map step write s ws) (fresh-at s fresh (map write ws) b h ∙ rw (writes-stand (frame s) b ws) (go (lastWrite (frame s) b ws)))
+        rw (← run-map step write s ws) (fresh-at s fresh (map write ws) b h
+        ∙ rw (writes-stand (frame s) b ws) (go (lastWrite (frame s) b ws)))
       where
         go : (m : Option Write) → leaves blank (Option·map write m) ≡ Option·elim m blank cell
         go none = refl
@@ -443,7 +478,8 @@ module _ (S : Store) where
     pub writes-same : (s : State) → Fresh s → (ws ls : List Write) → LastWrites (frame s) ws ls → writes s ls ≡ writes s ws
     unfolding writes
     writes-same s fresh ws ls l =
-        rw (← run-map step write s ls, ← run-map step write s ws) (lasts-same s fresh (map write ws) ls (lasts-of-writes (frame s) ws ls .0 l))
+        rw (← run-map step write s ls, ← run-map step write s ws)
+        (lasts-same s fresh (map write ws) ls (lasts-of-writes (frame s) ws ls .0 l))
 
   module _ (L : Laws) (R : Reading) (Q : ReadLaws R) where
     open Reading R using (Base, Page, Fits, basePage, reads, canon, baseOf, pageOf)
@@ -454,7 +490,8 @@ module _ (S : Store) where
 
     module _ (s : State) (fresh : Fresh s) (bases : ℕ → Base) (fit : (b : ℕ) → b < blocks (frame s) → Fits (bases b)) where
       -- what is read of a cell that a run leaves, and that no other cell is read so
-      seen : (os : Ops) → Over R bases (frame s) os → (b : ℕ) → b < blocks (frame s) → (m : Option (Op Write Wipe)) → standing (frame s) b os ≡ m
+      seen : (os : Ops) → Over R bases (frame s) os → (b : ℕ) → b < blocks (frame s) → (m : Option (Op Write Wipe))
+          → standing (frame s) b os ≡ m
           → (reads (bases b) (leaves blank m) ≡ shown R (bases b) m) × (canon (bases b) (shown R (bases b) m) ≡ leaves blank m)
       unfolding Over shown leaves
       seen os over b h none e = (Q .reads-blank (bases b) (fit b h), Q .canon-base (bases b) (fit b h))
@@ -480,7 +517,8 @@ module _ (S : Store) where
       unfolding ReadSame
       same-iff-read-same os os′ over over′ = (
         λ e b h. ap (λ (t : State). reads (bases b) (at t b)) e,
-        λ e. same-run L s (fresh .good) os os′ (λ b h. sym (run-canon os over b h) ∙ ap (canon (bases b)) (e b h) ∙ run-canon os′ over′ b h),
+        λ e. same-run L s (fresh .good) os os′ (λ b h. sym (run-canon os over b h) ∙ ap (canon (bases b)) (e b h)
+            ∙ run-canon os′ over′ b h),
       )
 
       pub writes-same-iff-read-same : (ws ws′ : List Write) → WritesOver R bases (frame s) ws → WritesOver R bases (frame s) ws′
@@ -488,4 +526,5 @@ module _ (S : Store) where
       unfolding writes
       writes-same-iff-read-same ws ws′ over over′ =
           rw (← run-map step write s ws, ← run-map step write s ws′)
-          (same-iff-read-same (map write ws) (map write ws′) (over-writes bases (frame s) ws over) (over-writes bases (frame s) ws′ over′))
+          (same-iff-read-same (map write ws) (map write ws′) (over-writes bases (frame s) ws over)
+          (over-writes bases (frame s) ws′ over′))

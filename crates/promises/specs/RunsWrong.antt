@@ -1,4 +1,5 @@
--- Statements about runs that are false: each is a part of demand 3 with one thing changed or left out, and a run over the areas and pages of
+-- Statements about runs that are false: each is a part of demand 3 with one thing changed or left out, and a run over the areas and pages
+-- of
 -- `Sample` shows it so.
 use Prim.Native.Nat.{ℕ, _<_}
 use native.Mathlib.Omega.{arith}
@@ -26,7 +27,8 @@ use Rattle.promises.specs.Runs.{last}
 use Rattle.promises.specs.RunWords.{Areas, Lent, next, after, accepted, lastTo, FreshAreas}
 use Rattle.promises.specs.RunLaws.{run-fits, reads-none}
 use Rattle.promises.specs.DemandThree.{readAt}
-use Rattle.promises.specs.Sample.{sample, sample-fresh, two-blocks, takes, page, same-bytes, one, two, many, one-fits, two-fits, many-fits, stream-one, large-ones, large-twos, to, both-taken, slot-of, changes, same-page}
+use Rattle.promises.specs.Sample.{sample, sample-fresh, two-blocks, takes, page, same-bytes, one, two, many, one-fits, two-fits}
+use Rattle.promises.specs.Sample.{many-fits, stream-one, large-ones, large-twos, to, both-taken, slot-of, changes, same-page}
 
 -- the first of some writes that went to block b
 unfoldable pub firstTo : ℕ → List Lent → Option Lent
@@ -50,9 +52,11 @@ not-first claim =
     only false e = absurd (Option·none-ne-some _ e)
 
 -- runs that read the same, whatever base pages they were written over
-pub not-any-base : ((s : Areas) → FreshAreas pageSize s → (bases into : ℕ → List ℕ) → ((b : ℕ) → b < blocks (s .patch) → PagesFit pageSize (bases b) (into b))
+pub not-any-base : ((s : Areas) → FreshAreas pageSize s → (bases into : ℕ → List ℕ)
+    → ((b : ℕ) → b < blocks (s .patch) → PagesFit pageSize (bases b) (into b))
     → (ws vs : List Lent)
-    → ((b : ℕ) → b < blocks (s .patch) → readAt (after pageSize s ws) b (bases b) (into b) .page ≡ readAt (after pageSize s vs) b (bases b) (into b) .page)
+    → ((b : ℕ) → b < blocks (s .patch) → readAt (after pageSize s ws) b (bases b) (into b) .page
+    ≡ readAt (after pageSize s vs) b (bases b) (into b) .page)
     → after pageSize s ws ≡ after pageSize s vs)
     → ⊥
 unfolding after accepted lastTo last page pageOf zeros slotImage kindFor stream inPage whole sound put applied
@@ -68,26 +72,31 @@ not-any-base claim = changes 0 (lit< tt) (claim sample sample-fresh (λ b. one) 
         (reads-patch pageSize (next pageSize sample (to 0 one) .patch) (next pageSize sample (to 0 one) .full) 0 one one
         (run-fits pageSize sample sample-fresh (to 0 one ∷ []) one one both) (rw (two-blocks (to 0 one ∷ [])) (lit< tt)) (0 ∷ 7 ∷ [])
         (record { image = slot-of [] one (0 ∷ 7 ∷ []) one-fits stream-one; some = lit≤ tt; room-for = lit≤ tt }) refl)
-        ∙ sym (ap (λ (o : ReadOutcome). o .page) (reads-none pageSize sample sample-fresh [] 0 (rw (two-blocks []) (lit< tt)) one one both refl))
+        ∙ sym (ap (λ (o : ReadOutcome). o .page) (reads-none pageSize sample sample-fresh [] 0 (rw (two-blocks []) (lit< tt)) one one both
+        refl))
 
     same : (b : ℕ) → b < blocks (sample .patch) → readAt (next pageSize sample (to 0 one)) b one one .page ≡ readAt sample b one one .page
     same b n =
         elim (decLt 0 b) [
-          | yes h ↦ ap (λ (o : ReadOutcome). o .page) (others-read pageSize (sample .patch) (sample .full) 0 [] one b (λ q. omega arith) one one)
+          | yes h ↦ ap (λ (o : ReadOutcome). o .page) (others-read pageSize (sample .patch) (sample .full) 0 [] one b (λ q. omega arith)
+              one one)
           | no h ↦ let z : b ≡ 0 = omega arith in rw z at-0
         ]
 
 -- runs that leave the same slots: that of a full page does not say which
-pub not-slots-alone : ((s : Areas) → FreshAreas pageSize s → (ws vs : List Lent) → after pageSize s ws .patch ≡ after pageSize s vs .patch → after pageSize s ws ≡ after pageSize s vs) → ⊥
+pub not-slots-alone : ((s : Areas) → FreshAreas pageSize s → (ws vs : List Lent) → after pageSize s ws .patch ≡ after pageSize s vs .patch
+    → after pageSize s ws ≡ after pageSize s vs) → ⊥
 unfolding after many carriedPatch slotImage
 not-slots-alone claim =
     let z : _≡_ {A = ℕ} 1 2 =
     same-bytes (replicate 253 1) (replicate 253 2)
     (same-page [] [] (many 1) (many 2) (many-fits 1) (many-fits 2)
-    (claim sample sample-fresh (to 0 (many 1) ∷ []) (to 0 (many 2) ∷ []) (full-patch (many 1) (many-fits 1) large-ones ∙ sym (full-patch (many 2) (many-fits 2) large-twos)))) 0 in
+    (claim sample sample-fresh (to 0 (many 1) ∷ []) (to 0 (many 2) ∷ []) (full-patch (many 1) (many-fits 1) large-ones
+    ∙ sym (full-patch (many 2) (many-fits 2) large-twos)))) 0 in
     omega arith
   where
-    full-patch : (x : List ℕ) → PagesFit pageSize [] x → decidedKind pageSize [] x ≡ 2 → next pageSize sample (to 0 x) .patch ≡ splice (sample .patch) (slotAt 0) fullSlot
+    full-patch : (x : List ℕ) → PagesFit pageSize [] x → decidedKind pageSize [] x ≡ 2
+        → next pageSize sample (to 0 x) .patch ≡ splice (sample .patch) (slotAt 0) fullSlot
     full-patch x f l =
         ap (λ (o : WriteOutcome). o .patch) (write-done pageSize (sample .patch) (sample .full) 0 [] x (takes [] (to 0 x) (lit< tt) f))
         ∙ ap (λ (k : ℕ). splice (sample .patch) (slotAt 0) (slotImage k (decidedStream pageSize [] x))) l

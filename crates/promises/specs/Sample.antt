@@ -50,10 +50,16 @@ sample-fresh =
     }
   where
     fits : lengthsFit pageSize (zeros (slotAt 2)) (zeros (pageAt pageSize 2)) ≡ true
-    fits = rw (zeros-length (slotAt 2), zeros-length (pageAt pageSize 2), patch-fits pageSize 2 (lit≤ tt), blocks-of 2) (full-fits pageSize 2 2 (lit< tt) (lit≤ tt))
+    fits = rw (zeros-length (slotAt 2), zeros-length (pageAt pageSize 2), patch-fits pageSize 2 (lit≤ tt), blocks-of 2)
+        (full-fits pageSize 2 2 (lit< tt) (lit≤ tt))
 
     made : formatOutcome pageSize (zeros (slotAt 2)) (zeros (pageAt pageSize 2))
-        ≡ record { number = 0; patch = freshPatch pageSize (length (zeros (slotAt 2))); full = freshFull pageSize (length (zeros (pageAt pageSize 2))) }
+        ≡ record {
+          number = 0;
+          patch = freshPatch pageSize (length (zeros (slotAt 2)));
+          full = freshFull pageSize
+              (length (zeros (pageAt pageSize 2)));
+        }
     made = format-done pageSize (zeros (slotAt 2)) (zeros (pageAt pageSize 2)) fits
 
 module _ (ws : List Lent) where
@@ -63,16 +69,19 @@ module _ (ws : List Lent) where
 
   pub two-places : places pageSize (after pageSize sample ws .full) ≡ 2
   unfolding sample
-  two-places = rw (kept pageSize sample sample-fresh ws .full-length, fresh-full-length pageSize (pageAt pageSize 2) (inr (lit≤ tt))) (pages-of pageSize 2 (lit< tt))
+  two-places = rw (kept pageSize sample sample-fresh ws .full-length, fresh-full-length pageSize (pageAt pageSize 2) (inr (lit≤ tt)))
+      (pages-of pageSize 2 (lit< tt))
 
   -- a write of a whole page to one of them is accepted
-  pub takes : (w : Lent) → w .block < 2 → PagesFit pageSize (w .base) (w .page) → outcome pageSize (after pageSize sample ws) w .number ≡ 0
+  pub takes : (w : Lent) → w .block < 2 → PagesFit pageSize (w .base) (w .page) → outcome pageSize (after pageSize sample ws) w .number
+      ≡ 0
   takes w h f =
       write-table pageSize (after pageSize sample ws .patch) (after pageSize sample ws .full) (w .block) (w .base) (w .page) 0 .1
       (WriteGives.done (run-fits pageSize sample sample-fresh ws (w .base) (w .page) f) (rw two-blocks h) (λ l. rw two-places h))
 
   -- and one to any other block is refused with 5
-  pub refuses : (w : Lent) → 2 ≤ w .block → PagesFit pageSize (w .base) (w .page) → outcome pageSize (after pageSize sample ws) w .number ≡ 5
+  pub refuses : (w : Lent) → 2 ≤ w .block → PagesFit pageSize (w .base) (w .page) → outcome pageSize (after pageSize sample ws) w .number
+      ≡ 5
   refuses w h f =
       write-table pageSize (after pageSize sample ws .patch) (after pageSize sample ws .full) (w .block) (w .base) (w .page) 5 .1
       (WriteGives.block (run-fits pageSize sample sample-fresh ws (w .base) (w .page) f) (rw two-blocks h))
@@ -89,7 +98,8 @@ fits ys h = record { base-length = inl refl; page-length = simp (length-append, 
 
 pub same-bytes : (xs ys : List ℕ) → page xs ≡ page ys → (i : ℕ) → getD xs i 0 ≡ getD ys i 0
 unfolding page
-same-bytes xs ys e i = sym (zeros-after xs (pageSize - length xs) i) ∙ ap (λ (l : List ℕ). getD l i 0) e ∙ zeros-after ys (pageSize - length ys) i
+same-bytes xs ys e i = sym (zeros-after xs (pageSize - length xs) i) ∙ ap (λ (l : List ℕ). getD l i 0) e
+    ∙ zeros-after ys (pageSize - length ys) i
 
 abbrev pub one : List ℕ
 one = page (7 ∷ [])
@@ -146,8 +156,10 @@ both-taken b h =
 
 -- the slot and the place after one to block 0
 cell-of : (ws : List Lent) (x : List ℕ) → PagesFit pageSize [] x
-    → cellAt pageSize (next pageSize (after pageSize sample ws) (to 0 x)) 0 ≡ record { slot = imageOf pageSize [] x; place = contentOf pageSize [] x }
-cell-of ws x f = cell-here pageSize (after pageSize sample ws) (to 0 x) (eq-eqb (outcome pageSize (after pageSize sample ws) (to 0 x) .number) 0 (takes ws (to 0 x) (lit< tt) f))
+    → cellAt pageSize (next pageSize (after pageSize sample ws) (to 0 x)) 0
+    ≡ record { slot = imageOf pageSize [] x; place = contentOf pageSize [] x }
+cell-of ws x f = cell-here pageSize (after pageSize sample ws) (to 0 x)
+    (eq-eqb (outcome pageSize (after pageSize sample ws) (to 0 x) .number) 0 (takes ws (to 0 x) (lit< tt) f))
 
 pub slot-of : (ws : List Lent) (x payload : List ℕ) → PagesFit pageSize [] x → streamOf pageSize [] x ≡ payload
     → slotOf (next pageSize (after pageSize sample ws) (to 0 x) .patch) 0 ≡ slotImage (kindFor (length payload)) payload
@@ -159,21 +171,25 @@ unfolding after contentOf
 place-ones = ap (λ (c : Cell). c .place) (cell-of [] (many 1) (many-fits 1)) ∙ rw large-ones
 
 -- the block then reads as the page, into `two` or any other
-pub reads : (ws : List Lent) (b : ℕ) → b < 2 → (x : List ℕ) → PagesFit pageSize [] x → readAt (next pageSize (after pageSize sample ws) (to b x)) b [] two .page ≡ x
+pub reads : (ws : List Lent) (b : ℕ) → b < 2 → (x : List ℕ) → PagesFit pageSize [] x
+    → readAt (next pageSize (after pageSize sample ws) (to b x)) b [] two .page ≡ x
 reads ws b h x f =
     ap (λ (o : ReadOutcome). o .page)
-    (reads-back pageSize (after pageSize sample ws .patch) (after pageSize sample ws .full) b [] x (lit≤ tt) (takes ws (to b x) h f) [] two refl (two-fits .page-length))
+    (reads-back pageSize (after pageSize sample ws .patch) (after pageSize sample ws .full) b [] x (lit≤ tt) (takes ws (to b x) h f) []
+    two refl (two-fits .page-length))
 
 -- where a fresh block reads as zeros
 pub reads-zeros : (b : ℕ) → b < 2 → readAt sample b [] two .page ≡ page []
 unfolding after accepted lastTo last page pageOf
-reads-zeros b h = ap (λ (o : ReadOutcome). o .page) (reads-none pageSize sample sample-fresh [] b (rw (two-blocks []) h) [] two two-fits refl)
+reads-zeros b h = ap (λ (o : ReadOutcome). o .page) (reads-none pageSize sample sample-fresh [] b (rw (two-blocks []) h) [] two two-fits
+    refl)
 
 -- so the areas are changed, and are others for each page
 pub changes : (b : ℕ) → b < 2 → next pageSize sample (to b one) ≡ sample → ⊥
 unfolding after
 changes b h e =
-    let z : _≡_ {A = ℕ} 7 0 = same-bytes (7 ∷ []) [] (sym (reads [] b h one one-fits) ∙ ap (λ (s : Areas). readAt s b [] two .page) e ∙ reads-zeros b h) 0 in
+    let z : _≡_ {A = ℕ} 7 0 = same-bytes (7 ∷ []) [] (sym (reads [] b h one one-fits) ∙ ap (λ (s : Areas). readAt s b [] two .page) e
+    ∙ reads-zeros b h) 0 in
     omega arith
 
 pub same-page : (ws vs : List Lent) (x y : List ℕ) → PagesFit pageSize [] x → PagesFit pageSize [] y

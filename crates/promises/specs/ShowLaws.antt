@@ -35,15 +35,18 @@ module _ (P : ℕ) (patch : List ℕ) (b : ℕ) where
   is-patch : (payload : List ℕ) → PatchOf (slotOf patch b) payload → isPatch (slotOf patch b) ≡ true
   is-patch payload p = ap isPatch (p .image) ∙ patch-is payload (p .room-for) (p .some)
 
-  pub shown-payload : (shown : List ℕ) → Show P patch b shown → PatchFits P patch b → (payload : List ℕ) → PatchOf (slotOf patch b) payload → shown ≡ payload
+  pub shown-payload : (shown : List ℕ) → Show P patch b shown → PatchFits P patch b → (payload : List ℕ)
+      → PatchOf (slotOf patch b) payload → shown ≡ payload
   unfolding slotOf payloadOf
   shown-payload shown s fits payload p =
       let n : ℕ = payloadLength (slotOf patch b) in
       let q : n ≡ length payload = ap payloadLength (p .image) ∙ payload-length-of payload (p .room-for) in
       let a : patchFits P (length patch) ≡ true = area-fits (fits .patch-length) (fits .not-above) in
       s .bytes
-      ∙ ap (λ (x : Place). part (x .at) (x .len) patch) (sym (show-done P patch b a (head-fits (fits .patch-header)) (fits .below) (is-patch payload p)))
-      ∙ sym (part-part payloadAt n (slotAt b) slotSize patch (omega (arith, p .room-for)) (slot-within P (length patch) b a (fits .below)))
+      ∙ ap (λ (x : Place). part (x .at) (x .len) patch)
+      (sym (show-done P patch b a (head-fits (fits .patch-header)) (fits .below) (is-patch payload p)))
+      ∙ sym (part-part payloadAt n (slotAt b) slotSize patch (omega (arith, p .room-for))
+      (slot-within P (length patch) b a (fits .below)))
       ∙ patch-of (slotOf patch b) payload p .1
 
   -- either nothing is shown, for one of the paper's reasons, or there is a payload to show
@@ -53,12 +56,14 @@ module _ (P : ℕ) (patch : List ℕ) (b : ℕ) where
 
   shown-or-not : Shown
   unfolding patchHeadRows
-  shown-or-not = go (patchFits P (length patch)) refl (firstOf (patchHeadRows P patch)) refl (decLt b (blocks patch)) (isPatch (slotOf patch b)) refl
+  shown-or-not = go (patchFits P (length patch)) refl (firstOf (patchHeadRows P patch)) refl (decLt b (blocks patch))
+      (isPatch (slotOf patch b)) refl
     where
       s : List ℕ
       s = slotOf patch b
 
-      go : (a : Bool) → patchFits P (length patch) ≡ a → (k : ℕ) → firstOf (patchHeadRows P patch) ≡ k → Dec (b < blocks patch) → (t : Bool) → isPatch s ≡ t → Shown
+      go : (a : Bool) → patchFits P (length patch) ≡ a → (k : ℕ) → firstOf (patchHeadRows P patch) ≡ k → Dec (b < blocks patch)
+          → (t : Bool) → isPatch s ≡ t → Shown
       go false e k f d t g = none (ShowsNothing.area (λ l m. true≢false (sym (area-fits l m) ∙ e))) (show-length P patch b e)
       go true e (suc k) f d t g =
           none
@@ -68,7 +73,8 @@ module _ (P : ℕ) (patch : List ℕ) (b : ℕ) where
           omega arith))
           (show-header P patch b (suc k) e f (λ z. omega arith))
       go true e zero f (no h) t g = none (ShowsNothing.block (omega arith)) (show-block P patch b e f (omega arith))
-      go true e zero f (yes h) false g = none (ShowsNothing.slot (λ payload p. true≢false (sym (is-patch payload p) ∙ g))) (show-slot P patch b e f h g)
+      go true e zero f (yes h) false g = none (ShowsNothing.slot (λ payload p. true≢false (sym (is-patch payload p) ∙ g)))
+          (show-slot P patch b e f h g)
       go true e zero f (yes h) true g =
           let w = patch-image s g in
           let l = patch-fits-is P (length patch) e in

@@ -33,15 +33,29 @@ module _ (P : ℕ) (patch full : List ℕ) (b : ℕ) (base page : List ℕ) wher
         let n : ℕ = length (streamOf P base page) in
         (λ q. sym (s .0 (kind-0 n .0 (sym kind-is ∙ q))), λ q. kind-is ∙ kind-0 n .1 (s .1 (sym q)))
 
-    pub kind-patch : (writeOutcome P patch full b base page .kind ≡ 1) ↔ ((1 ≤ length (streamOf P base page)) × (length (streamOf P base page) ≤ room))
-    kind-patch = (λ q. kind-1 (length (streamOf P base page)) .0 (sym kind-is ∙ q), λ q. kind-is ∙ kind-1 (length (streamOf P base page)) .1 q)
+    pub kind-patch : (writeOutcome P patch full b base page .kind ≡ 1)
+        ↔ ((1 ≤ length (streamOf P base page)) × (length (streamOf P base page) ≤ room))
+    kind-patch = (
+      λ q. kind-1 (length (streamOf P base page)) .0 (sym kind-is ∙ q),
+      λ q. kind-is
+          ∙ kind-1 (length (streamOf P base page)) .1 q,
+    )
 
     pub kind-full : (writeOutcome P patch full b base page .kind ≡ 2) ↔ Large P base page
-    kind-full = (λ q. kind-2 (length (streamOf P base page)) .0 (sym kind-is ∙ q), λ q. kind-is ∙ kind-2 (length (streamOf P base page)) .1 q)
+    kind-full = (
+      λ q. kind-2 (length (streamOf P base page)) .0 (sym kind-is ∙ q),
+      λ q. kind-is
+          ∙ kind-2 (length (streamOf P base page)) .1 q,
+    )
 
   -- 8, where nothing that comes before it is wrong
-  pub no-room : FrameFits P patch full base page → b < blocks patch → (writeOutcome P patch full b base page .number ≡ 8) ↔ (Large P base page × (places P full ≤ b))
-  no-room h n = (λ e. go (write-table P patch full b base page 8 .0 e), λ q. write-table P patch full b base page 8 .1 (WriteGives.no-room h n (q .0) (q .1)))
+  pub no-room : FrameFits P patch full base page → b < blocks patch → (writeOutcome P patch full b base page .number ≡ 8)
+      ↔ (Large P base page × (places P full ≤ b))
+  no-room h n = (
+    λ e. go (write-table P patch full b base page 8 .0 e),
+    λ q. write-table P patch full b base page 8 .1
+        (WriteGives.no-room h n (q .0) (q .1)),
+  )
     where
       go : WriteGives P patch full b base page 8 → Large P base page × (places P full ≤ b)
       go (WriteGives.frame r) = absurd (omega (arith, frame-gives P patch full base page r, frame-zero P patch full base page h))
@@ -55,7 +69,8 @@ module _ (P : ℕ) (patch full : List ℕ) (b : ℕ) (base page : List ℕ) wher
       let a : Accepted P patch full b base page = accepted P patch full b base page e in
       let s = write-stored P patch full b base page e in
       let f = s .frame in
-      stored-reads P small base page (a .fits .pages) (s .stored) (writeOutcome P patch full b base page .patch) (writeOutcome P patch full b base page .full) b base′ page′
+      stored-reads P small base page (a .fits .pages) (s .stored) (writeOutcome P patch full b base page .patch)
+      (writeOutcome P patch full b base page .full) b base′ page′
       (record {
         pages = base-fits P base base′ page page′ (a .fits .pages) l q;
         lengths = lengths-moved P patch full _ _ f (a .fits .lengths);
@@ -78,6 +93,8 @@ module _ (P : ℕ) (patch full : List ℕ) (b : ℕ) (base page : List ℕ) wher
       go zero e =
           let s = write-stored P patch full b base page e in
           let f = s .frame in
-          read-same P patch full _ _ c base′ page′ (frame-same P patch full _ _ f base′ page′) (f .patch-length) (f .full-length) (s .other-slots c d) (s .other-places c d)
+          read-same P patch full _ _ c base′ page′ (frame-same P patch full _ _ f base′ page′) (f .patch-length) (f .full-length)
+          (s .other-slots c d) (s .other-places c d)
       go (suc k) e =
-          ap (λ (o : WriteOutcome). readOutcome P (o .patch) (o .full) c base′ page′) (write-not P patch full b base page (λ z. omega arith))
+          ap (λ (o : WriteOutcome). readOutcome P (o .patch) (o .full) c base′ page′)
+          (write-not P patch full b base page (λ z. omega arith))

@@ -1,5 +1,7 @@
--- Wrong programs, each shut out by a proved input: the areas and pages of `Sample`, at the page size that the calls have. A wrong Write goes
--- from the areas and what it is lent to the numbers and bytes that it gives back; `Breaks` says that no answer with these numbers meets the
+-- Wrong programs, each shut out by a proved input: the areas and pages of `Sample`, at the page size that the calls have. A wrong Write
+-- goes
+-- from the areas and what it is lent to the numbers and bytes that it gives back; `Breaks` says that no answer with these numbers meets
+-- the
 -- predicate that Write's contract cites.
 use Prim.Native.Nat.{ℕ, suc, _+_, _<_, min}
 use native.Mathlib.Omega.{arith}
@@ -33,14 +35,17 @@ use Rattle.promises.specs.RunStore.{Cell, cellAt, cell-here}
 use Rattle.promises.specs.FreshLaws.{fresh-lengths, fresh-headers, fresh-cell}
 use Rattle.promises.specs.RunLaws.{kept, run-fits}
 use Rattle.promises.specs.DemandThree.{readAt}
-use Rattle.promises.specs.Sample.{sample, sample-fresh, two-blocks, two-places, takes, refuses, page, same-bytes, one, two, many, one-fits, two-fits, stream-one, stream-two, stream-next, to, both-taken, slot-of, place-ones, reads, reads-zeros, changes, same-page}
+use Rattle.promises.specs.Sample.{sample, sample-fresh, two-blocks, two-places, takes, refuses, page, same-bytes, one, two, many}
+use Rattle.promises.specs.Sample.{one-fits, two-fits, stream-one, stream-two, stream-next, to, both-taken, slot-of, place-ones}
+use Rattle.promises.specs.Sample.{reads, reads-zeros, changes, same-page}
 
 abbrev pub Program : Type 0
 Program = Areas → Lent → WriteOutcome
 
 abbrev pub Breaks : Program → Areas → Lent → Type 0
 Breaks wrong s w =
-    (a : Written) → writtenNumbers a ≡ writeNumbers (wrong s w) → Write pageSize (s .patch) (s .full) (w .block) (w .base) (w .page) a (wrong s w .patch) (wrong s w .full) → ⊥
+    (a : Written) → writtenNumbers a ≡ writeNumbers (wrong s w)
+    → Write pageSize (s .patch) (s .full) (w .block) (w .base) (w .page) a (wrong s w .patch) (wrong s w .full) → ⊥
 
 other : (wrong : Program) (s : Areas) (w : Lent) → (outcome pageSize s w ≡ wrong s w → ⊥) → Breaks wrong s w
 other wrong s w h a e x =
@@ -126,16 +131,21 @@ both-lasts = (lasts, λ w. (λ i. lasts w .0 (swap i), λ e. swap (lasts w .1 e)
   where
     lasts : JustLasts pageSize sample zeroThenOne zeroThenOne
     lasts w =
-        rw (both-taken 1 (lit< tt))
-        (λ i. elim (List·Memᴰ·cases-cons i) [ inl e ↦ rw e | inr j ↦ rw (List·Memᴰ·eq-of-singleton j) ], λ e. last-in (λ (v : Lent). eqb (v .block) (w .block)) zeroThenOne e .0)
+        rw (both-taken 1 (lit< tt)) (
+          λ i. elim (List·Memᴰ·cases-cons i) [ inl e ↦ rw e | inr j ↦ rw (List·Memᴰ·eq-of-singleton j) ],
+          λ e. last-in
+              (λ (v : Lent). eqb (v .block) (w .block)) zeroThenOne e .0,
+        )
 
     swap : {w u v : Lent} → List·Memᴰ w (u ∷ v ∷ []) → List·Memᴰ w (v ∷ u ∷ [])
-    swap i = elim (List·Memᴰ·cases-cons i) [ inl e ↦ List·Memᴰ·tail (List·Memᴰ·head e) | inr j ↦ List·Memᴰ·head (List·Memᴰ·eq-of-singleton j) ]
+    swap i = elim (List·Memᴰ·cases-cons i)
+        [ inl e ↦ List·Memᴰ·tail (List·Memᴰ·head e) | inr j ↦ List·Memᴰ·head (List·Memᴰ·eq-of-singleton j) ]
 
 pub not-to-block-0 : afterBy toBlock0 sample zeroThenOne ≡ afterBy toBlock0 sample oneThenZero → ⊥
 unfolding afterBy run after toBlock0
 not-to-block-0 e =
-    let z : _≡_ {A = ℕ} 9 0 = same-bytes (7 ∷ 9 ∷ []) (7 ∷ []) (same-page (to 0 one ∷ []) (to 0 two ∷ []) two one two-fits one-fits e) 1 in
+    let z : _≡_ {A = ℕ} 9 0 = same-bytes (7 ∷ 9 ∷ []) (7 ∷ []) (same-page (to 0 one ∷ []) (to 0 two ∷ []) two one two-fits one-fits e)
+    1 in
     omega arith
 
 -- One that answers another length
@@ -150,7 +160,8 @@ unfolding inventsLength
 not-invented =
     other inventsLength sample (to 0 one)
     (λ e.
-    let z : outcome pageSize sample (to 0 one) .length ≡ suc (outcome pageSize sample (to 0 one) .length) = ap (λ (o : WriteOutcome). o .length) e in
+    let z : outcome pageSize sample (to 0 one) .length ≡ suc (outcome pageSize sample (to 0 one) .length) =
+    ap (λ (o : WriteOutcome). o .length) e in
     omega arith)
 
 -- A refused write that stores all the same, in block 0
@@ -172,7 +183,8 @@ not-refused-stores =
     other refusedStores sample (to 2 one)
     (λ e.
     let five : outcome pageSize sample (to 2 one) .number ≡ 5 = refuses [] (to 2 one) (lit≤ tt) one-fits in
-    changes 0 (lit< tt) (sym (ap areas e ∙ refused-leaves) ∙ ap areas (write-not pageSize (sample .patch) (sample .full) 2 [] one (λ z. omega arith))))
+    changes 0 (lit< tt) (sym (ap areas e ∙ refused-leaves)
+    ∙ ap areas (write-not pageSize (sample .patch) (sample .full) 2 [] one (λ z. omega arith))))
 
 -- and of its run no write was accepted, yet the areas are not fresh
 pub not-refused-stores-run : (accepted pageSize sample (to 2 one ∷ []) ≡ []) × (afterBy refusedStores sample (to 2 one ∷ []) ≡ sample → ⊥)
@@ -199,7 +211,8 @@ not-always-base a e x =
 -- Comparing with the block's current page and not its base: the second small change drops the first
 
 unfoldable pub againstCurrent : Program
-againstCurrent s w = outcome pageSize s (record { block = w .block; base = readAt s (w .block) (w .base) (w .page) .page; page = w .page })
+againstCurrent s w = outcome pageSize s
+    (record { block = w .block; base = readAt s (w .block) (w .base) (w .page) .page; page = w .page })
 
 pub not-against-current : Breaks againstCurrent (T one) (to 0 two)
 unfolding againstCurrent after
@@ -208,13 +221,16 @@ not-against-current =
     (λ e.
     let wrong : List ℕ → Lent = λ l. record { block = 0; base = l; page = two } in
     let right-length : outcome pageSize (T one) (to 0 two) .length ≡ 4 =
-    write-length pageSize (T one .patch) (T one .full) 0 [] two (takes (to 0 one ∷ []) (to 0 two) (lit< tt) two-fits) ∙ ap (λ (l : List ℕ). length l) stream-two in
+    write-length pageSize (T one .patch) (T one .full) 0 [] two (takes (to 0 one ∷ []) (to 0 two) (lit< tt) two-fits)
+    ∙ ap (λ (l : List ℕ). length l) stream-two in
     let wrong-length : outcome pageSize (T one) (wrong one) .length ≡ 2 =
     write-length pageSize (T one .patch) (T one .full) 0 one two
-    (takes (to 0 one ∷ []) (wrong one) (lit< tt) (record { base-length = inr (one-fits .page-length); page-length = two-fits .page-length }))
+    (takes (to 0 one ∷ []) (wrong one) (lit< tt)
+    (record { base-length = inr (one-fits .page-length); page-length = two-fits .page-length }))
     ∙ ap (λ (l : List ℕ). length l) stream-next in
     let f : outcome pageSize (T one) (to 0 two) .length ≡ outcome pageSize (T one) (wrong one) .length =
-    ap (λ (o : WriteOutcome). o .length) e ∙ ap (λ (l : List ℕ). outcome pageSize (T one) (wrong l) .length) (reads [] 0 (lit< tt) one one-fits) in
+    ap (λ (o : WriteOutcome). o .length) e
+    ∙ ap (λ (l : List ℕ). outcome pageSize (T one) (wrong l) .length) (reads [] 0 (lit< tt) one one-fits) in
     omega arith)
 
 -- Clearing the place only if the old slot was FULL_REF: stray bytes survive
@@ -243,24 +259,30 @@ not-clears-if-full =
     let fits : FrameFits pageSize (strayed .patch) (strayed .full) [] one =
     record {
       pages = one-fits;
-      lengths = lengths-moved pageSize (sample .patch) (sample .full) (strayed .patch) (strayed .full) same-frame (fresh-lengths pageSize sample sample-fresh);
-      headers = headers-moved pageSize (sample .patch) (sample .full) (strayed .patch) (strayed .full) same-frame (fresh-headers pageSize sample sample-fresh);
+      lengths = lengths-moved pageSize (sample .patch) (sample .full) (strayed .patch) (strayed .full) same-frame
+          (fresh-lengths pageSize sample sample-fresh);
+      headers = headers-moved pageSize (sample .patch) (sample .full) (strayed .patch) (strayed .full) same-frame
+          (fresh-headers pageSize sample sample-fresh);
     } in
     let below : 0 < blocks (sample .patch) = rw (two-blocks []) (lit< tt) in
     let done : outcome pageSize strayed (to 0 one) .number ≡ 0 =
-    write-table pageSize (strayed .patch) (strayed .full) 0 [] one 0 .1 (WriteGives.done fits below (λ l. rw (two-places (to 0 (many 1) ∷ [])) (lit< tt))) in
+    write-table pageSize (strayed .patch) (strayed .full) 0 [] one 0 .1
+    (WriteGives.done fits below (λ l. rw (two-places (to 0 (many 1) ∷ [])) (lit< tt))) in
     let small : decidedKind pageSize [] one ≡ 1 = ap (λ (l : List ℕ). kindFor (length l)) stream-one in
     let kind : outcome pageSize strayed (to 0 one) .kind ≡ 1 =
     ap (λ (o : WriteOutcome). o .kind) (write-done pageSize (strayed .patch) (strayed .full) 0 [] one done) ∙ small in
     let slot : slotNumbers (slotOf (sample .patch) 0) .kind ≡ 0 =
-    ap (λ (c : Cell). slotNumbers (c .slot) .kind) (fresh-cell pageSize sample sample-fresh 0 below) ∙ ap (λ (x : SlotNumbers). x .kind) empty-numbers in
+    ap (λ (c : Cell). slotNumbers (c .slot) .kind) (fresh-cell pageSize sample sample-fresh 0 below)
+    ∙ ap (λ (x : SlotNumbers). x .kind) empty-numbers in
     let right : cellAt pageSize (next pageSize strayed (to 0 one)) 0 .place ≡ zeros pageSize =
-    ap (λ (c : Cell). c .place) (cell-here pageSize strayed (to 0 one) (eq-eqb (outcome pageSize strayed (to 0 one) .number) 0 done)) ∙ rw small in
+    ap (λ (c : Cell). c .place) (cell-here pageSize strayed (to 0 one) (eq-eqb (outcome pageSize strayed (to 0 one) .number) 0 done))
+    ∙ rw small in
     other clearsIfFull strayed (to 0 one)
     (λ e.
     let f : outcome pageSize strayed (to 0 one) .full ≡ T (many 1) .full = ap (λ (o : WriteOutcome). o .full) e ∙ rw (kind, slot) in
     let z : _≡_ {A = ℕ} 1 0 =
-    same-bytes (replicate 253 1) [] (sym place-ones ∙ ap (λ (l : List ℕ). cellAt pageSize (record { patch = []; full = l }) 0 .place) (sym f) ∙ right) 0 in
+    same-bytes (replicate 253 1) [] (sym place-ones
+    ∙ ap (λ (l : List ℕ). cellAt pageSize (record { patch = []; full = l }) 0 .place) (sym f) ∙ right) 0 in
     omega arith)
 
 -- No zeroed tail of a longer payload
@@ -272,7 +294,8 @@ noZeroedTail s w =
       number = o .number;
       kind = o .kind;
       length = o .length;
-      patch = splice (s .patch) (slotAt (w .block)) (part 0 (payloadAt + length (streamOf pageSize (w .base) (w .page))) (imageOf pageSize (w .base) (w .page)));
+      patch = splice (s .patch) (slotAt (w .block))
+          (part 0 (payloadAt + length (streamOf pageSize (w .base) (w .page))) (imageOf pageSize (w .base) (w .page)));
       full = o .full;
     }
 
@@ -281,7 +304,8 @@ byte-11 : (ws : List Lent) (x payload : List ℕ) → PagesFit pageSize [] x →
     → getD (next pageSize (after pageSize sample ws) (to 0 x) .patch) 523 0 ≡ getD (slotImage (kindFor (length payload)) payload) 11 0
 unfolding slotOf
 byte-11 ws x payload f e =
-    sym (part-at (slotAt 0) slotSize (next pageSize (after pageSize sample ws) (to 0 x) .patch) 11 (lit< tt)) ∙ ap (λ (l : List ℕ). getD l 11 0) (slot-of ws x payload f e)
+    sym (part-at (slotAt 0) slotSize (next pageSize (after pageSize sample ws) (to 0 x) .patch) 11 (lit< tt))
+    ∙ ap (λ (l : List ℕ). getD l 11 0) (slot-of ws x payload f e)
 
 pub not-no-tail : Breaks noZeroedTail (T two) (to 0 one)
 unfolding noZeroedTail after slotImage kindFor patchSlot zeros le
@@ -290,9 +314,11 @@ not-no-tail =
     (λ e.
     let ys : List ℕ = part 0 (payloadAt + length (streamOf pageSize [] one)) (imageOf pageSize [] one) in
     let len : length (streamOf pageSize [] one) ≡ 2 = ap (λ (l : List ℕ). length l) stream-one in
-    let short : length ys ≡ min (payloadAt + length (streamOf pageSize [] one)) _ = part-short 0 (payloadAt + length (streamOf pageSize [] one)) (imageOf pageSize [] one) in
+    let short : length ys ≡ min (payloadAt + length (streamOf pageSize [] one)) _ = part-short 0
+    (payloadAt + length (streamOf pageSize [] one)) (imageOf pageSize [] one) in
     let left : getD (splice (T two .patch) 512 ys) 523 0 ≡ getD (T two .patch) 523 0 =
-    splice-after (T two .patch) 512 ys (omega (arith, run-fits pageSize sample sample-fresh (to 0 two ∷ []) [] one one-fits .lengths .patch-length)) 523 (omega arith) in
+    splice-after (T two .patch) 512 ys
+    (omega (arith, run-fits pageSize sample sample-fresh (to 0 two ∷ []) [] one one-fits .lengths .patch-length)) 523 (omega arith) in
     let z : _≡_ {A = ℕ} 0 9 =
     sym (byte-11 (to 0 two ∷ []) one (0 ∷ 7 ∷ []) one-fits stream-one)
     ∙ ap (λ (o : WriteOutcome). getD (o .patch) 523 0) e

@@ -26,7 +26,8 @@ use Rattle.reading.specs.declared.Reading.the-variants.{Done, Refused}
 pub copied-page : (page src after : List ℕ) → length page ≡ pageSize → length src ≡ pageSize → after ≡ splice page 0 (take (length page) src) → after ≡ src
 copied-page page src after e f c = c ∙ copied-whole page src (f ∙ sym e)
 
-module _ (base payload page after : List ℕ) (r : Applied) (lb : length base ≡ pageSize) (lp : length page ≡ pageSize) (w : Applies (reach (length page)) base payload page r after) where
+module _ (base payload page after : List ℕ) (r : Applied) (lb : length base ≡ pageSize) (lp : length page ≡ pageSize)
+    (w : Applies (reach (length page)) base payload page r after) where
   w′ : Applies pageSize base payload page r after
   w′ = subst (λ (n : ℕ). Applies (reach n) base payload page r after) lp w
 

@@ -11,11 +11,14 @@ use Rattle.store.specs.Block.{slotRows, fullRows, payloadRows}
 use Rattle.reading.specs.Read.{ReadOutcome, readRows, readOutcome}
 
 module _ (P : ℕ) where
-  pub read-number : (patch full : List ℕ) (b : ℕ) (base page : List ℕ) → readOutcome P patch full b base page .number ≡ firstOf (readRows P patch full b base page)
+  pub read-number : (patch full : List ℕ) (b : ℕ) (base page : List ℕ) → readOutcome P patch full b base page .number
+      ≡ firstOf (readRows P patch full b base page)
   unfolding readOutcome
-  read-number patch full b base page = decided-number (λ (o : ReadOutcome). o .number) _ _ (firstOf (readRows P patch full b base page)) refl (λ k. refl)
+  read-number patch full b base page = decided-number (λ (o : ReadOutcome). o .number) _ _ (firstOf (readRows P patch full b base page))
+      refl (λ k. refl)
 
-  pub read-exactly : (patch full : List ℕ) (b : ℕ) (base page : List ℕ) → Exactly (readRows P patch full b base page) (readOutcome P patch full b base page .number)
+  pub read-exactly : (patch full : List ℕ) (b : ℕ) (base page : List ℕ)
+      → Exactly (readRows P patch full b base page) (readOutcome P patch full b base page .number)
   unfolding readRows ordered lengthRows slotRows fullRows payloadRows
   read-exactly patch full b base page =
       exactly (readRows P patch full b base page) _ (read-number patch full b base page)

@@ -21,7 +21,9 @@ use Rattle.reading.specs.declared.Reading.the-variants.{Done, Refused}
 unfoldable pub readRows : ℕ → List ℕ → List ℕ → ℕ → List ℕ → List ℕ → List Row
 readRows P patch full b base page =
     ordered
-    ((group.pages ▸ pageRows P base page) ∷ (group.lengths ▸ lengthRows P (length patch) (length full)) ∷ (group.headers ▸ headerRows P patch full) ∷ (group.block ▸ blockRows patch b) ∷ (group.slot ▸ slotRows (slotOf patch b)) ∷ (group.full ▸ fullRows P (slotOf patch b) full b) ∷ (group.payload ▸ payloadRows P (slotOf patch b)) ∷ [])
+    ((group.pages ▸ pageRows P base page) ∷ (group.lengths ▸ lengthRows P (length patch) (length full))
+    ∷ (group.headers ▸ headerRows P patch full) ∷ (group.block ▸ blockRows patch b) ∷ (group.slot ▸ slotRows (slotOf patch b))
+    ∷ (group.full ▸ fullRows P (slotOf patch b) full b) ∷ (group.payload ▸ payloadRows P (slotOf patch b)) ∷ [])
 
 -- what a block holds, by its slot's kind
 unfoldable pub contents : ℕ → List ℕ → List ℕ → ℕ → List ℕ → List ℕ
@@ -37,7 +39,8 @@ pub record ReadOutcome : Type 0 where
 
 unfoldable pub readOutcome : ℕ → List ℕ → List ℕ → ℕ → List ℕ → List ℕ → ReadOutcome
 readOutcome P patch full b base page =
-    decided (firstOf (readRows P patch full b base page)) (record { number = 0; kind = slotNumbers (slotOf patch b) .kind; page = contents P patch full b base })
+    decided (firstOf (readRows P patch full b base page))
+    (record { number = 0; kind = slotNumbers (slotOf patch b) .kind; page = contents P patch full b base })
     (λ n. record { number = n; kind = 0; page = page })
 
 -- the paper's numbers for each case of the answer

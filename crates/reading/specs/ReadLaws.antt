@@ -24,17 +24,22 @@ use Rattle.reading.specs.Parts.{slotOutcome, BlockRead, PatchRead}
 module _ (P : ℕ) (patch full : List ℕ) (b : ℕ) (base page : List ℕ) where
   read-rows : firstOf (readRows P patch full b base page)
       ≡ orElse (firstOf (frameRows P (pageRows P base page) [] patch full))
-      (firstOf (blockRows patch b ++ (slotRows (slotOf patch b) ++ (fullRows P (slotOf patch b) full b ++ (payloadRows P (slotOf patch b) ++ ([] ++ []))))))
+      (firstOf (blockRows patch b ++ (slotRows (slotOf patch b)
+      ++ (fullRows P (slotOf patch b) full b ++ (payloadRows P (slotOf patch b) ++ ([] ++ []))))))
   unfolding readRows frameRows
   read-rows = in-halves _
 
   -- the frame's refusal is the call's
-  pub read-frame : (k : ℕ) → firstOf (frameRows P (pageRows P base page) [] patch full) ≡ k → (k ≡ 0 → ⊥) → readOutcome P patch full b base page ≡ record { number = k; kind = 0; page = page }
+  pub read-frame : (k : ℕ) → firstOf (frameRows P (pageRows P base page) [] patch full) ≡ k → (k ≡ 0 → ⊥)
+      → readOutcome P patch full b base page ≡ record { number = k; kind = 0; page = page }
   unfolding readOutcome
   read-frame k e h =
       decided-refused _ _ (firstOf (readRows P patch full b base page)) k
-      (read-rows ∙ ap (λ (n : ℕ). orElse n (firstOf (blockRows patch b ++ (slotRows (slotOf patch b) ++ (fullRows P (slotOf patch b) full b ++ (payloadRows P (slotOf patch b) ++ ([] ++ []))))))) e
-      ∙ or-some k (firstOf (blockRows patch b ++ (slotRows (slotOf patch b) ++ (fullRows P (slotOf patch b) full b ++ (payloadRows P (slotOf patch b) ++ ([] ++ [])))))) h) h
+      (read-rows ∙ ap (λ (n : ℕ). orElse n
+      (firstOf (blockRows patch b ++ (slotRows (slotOf patch b)
+      ++ (fullRows P (slotOf patch b) full b ++ (payloadRows P (slotOf patch b) ++ ([] ++ []))))))) e
+      ∙ or-some k (firstOf (blockRows patch b
+      ++ (slotRows (slotOf patch b) ++ (fullRows P (slotOf patch b) full b ++ (payloadRows P (slotOf patch b) ++ ([] ++ [])))))) h) h
 
   module _ (e : firstOf (frameRows P (pageRows P base page) [] patch full) ≡ 0) where
     pub read-block : blocksIn (length patch) ≤ b → readOutcome P patch full b base page ≡ record { number = 5; kind = 0; page = page }
@@ -42,50 +47,73 @@ module _ (P : ℕ) (patch full : List ℕ) (b : ℕ) (base page : List ℕ) wher
     read-block h =
         decided-refused _ _ (firstOf (readRows P patch full b base page)) 5
         (read-rows
-        ∙ or-skip (firstOf (frameRows P (pageRows P base page) [] patch full)) (firstOf (blockRows patch b ++ (slotRows (slotOf patch b) ++ (fullRows P (slotOf patch b) full b ++ (payloadRows P (slotOf patch b) ++ ([] ++ [])))))) e
-        ∙ first-hit 4 (leb (blocksIn (length patch)) b) (slotRows (slotOf patch b) ++ (fullRows P (slotOf patch b) full b ++ (payloadRows P (slotOf patch b) ++ ([] ++ [])))) (le-leb (blocksIn (length patch)) b h))
+        ∙ or-skip (firstOf (frameRows P (pageRows P base page) [] patch full))
+        (firstOf (blockRows patch b ++ (slotRows (slotOf patch b)
+        ++ (fullRows P (slotOf patch b) full b ++ (payloadRows P (slotOf patch b) ++ ([] ++ [])))))) e
+        ∙ first-hit 4 (leb (blocksIn (length patch)) b)
+        (slotRows (slotOf patch b) ++ (fullRows P (slotOf patch b) full b ++ (payloadRows P (slotOf patch b) ++ ([] ++ []))))
+        (le-leb (blocksIn (length patch)) b h))
         (λ q. omega arith)
 
     pub read-slot : b < blocksIn (length patch) → readOutcome P patch full b base page ≡ slotOutcome P patch full b base page
     unfolding readOutcome slotOutcome
     read-slot h =
         let s : List ℕ = slotOf patch b in
-        ap (λ (n : ℕ). decided n (record { number = 0; kind = slotNumbers s .kind; page = contents P patch full b base }) (λ (n : ℕ). record { number = n; kind = 0; page = page }))
+        ap (λ (n : ℕ). decided n (record { number = 0; kind = slotNumbers s .kind; page = contents P patch full b base })
+        (λ (n : ℕ). record { number = n; kind = 0; page = page }))
         (read-rows
-        ∙ or-skip (firstOf (frameRows P (pageRows P base page) [] patch full)) (firstOf (blockRows patch b ++ (slotRows s ++ (fullRows P s full b ++ (payloadRows P s ++ ([] ++ [])))))) e
-        ∙ first-skip 5 (leb (blocksIn (length patch)) b) (slotRows s ++ (fullRows P s full b ++ (payloadRows P s ++ ([] ++ [])))) (lt-leb (blocksIn (length patch)) b h)
+        ∙ or-skip (firstOf (frameRows P (pageRows P base page) [] patch full))
+        (firstOf (blockRows patch b ++ (slotRows s ++ (fullRows P s full b ++ (payloadRows P s ++ ([] ++ [])))))) e
+        ∙ first-skip 5 (leb (blocksIn (length patch)) b) (slotRows s ++ (fullRows P s full b ++ (payloadRows P s ++ ([] ++ []))))
+        (lt-leb (blocksIn (length patch)) b h)
         ∙ ap (λ (l : List Row). firstOf (slotRows s ++ (fullRows P s full b ++ l))) (append-nil (payloadRows P s)))
 
 -- by the slot's numbers
 module _ (P : ℕ) (patch full : List ℕ) (b : ℕ) (base page : List ℕ) where
-  pub slot-unsound : slotNumbers (slotOf patch b) ≡ unsoundSlot → slotOutcome P patch full b base page ≡ record { number = 6; kind = 0; page = page }
+  pub slot-unsound : slotNumbers (slotOf patch b) ≡ unsoundSlot
+      → slotOutcome P patch full b base page ≡ record { number = 6; kind = 0; page = page }
   unfolding slotOutcome slotRows fullRows payloadRows firstOf orElse
-  slot-unsound e = decided-refused _ _ (firstOf (slotRows (slotOf patch b) ++ (fullRows P (slotOf patch b) full b ++ payloadRows P (slotOf patch b)))) 6 (rw e) (λ q. omega arith)
+  slot-unsound e = decided-refused _ _
+      (firstOf (slotRows (slotOf patch b) ++ (fullRows P (slotOf patch b) full b ++ payloadRows P (slotOf patch b)))) 6 (rw e)
+      (λ q. omega arith)
 
-  pub slot-empty : slotNumbers (slotOf patch b) ≡ soundSlot 0 0 → slotOutcome P patch full b base page ≡ record { number = 0; kind = 0; page = pageOf P base }
+  pub slot-empty : slotNumbers (slotOf patch b) ≡ soundSlot 0 0
+      → slotOutcome P patch full b base page ≡ record { number = 0; kind = 0; page = pageOf P base }
   unfolding slotOutcome slotRows fullRows payloadRows firstOf orElse contents
-  slot-empty e = decided-done _ _ (firstOf (slotRows (slotOf patch b) ++ (fullRows P (slotOf patch b) full b ++ payloadRows P (slotOf patch b)))) (rw e) ∙ rw e
+  slot-empty e = decided-done _ _
+      (firstOf (slotRows (slotOf patch b) ++ (fullRows P (slotOf patch b) full b ++ payloadRows P (slotOf patch b)))) (rw e) ∙ rw e
 
-  pub slot-missing : slotNumbers (slotOf patch b) ≡ soundSlot 2 0 → pagesIn P (length full) ≤ b → slotOutcome P patch full b base page ≡ record { number = 8; kind = 0; page = page }
+  pub slot-missing : slotNumbers (slotOf patch b) ≡ soundSlot 2 0 → pagesIn P (length full) ≤ b
+      → slotOutcome P patch full b base page ≡ record { number = 8; kind = 0; page = page }
   unfolding slotOutcome slotRows fullRows payloadRows firstOf orElse
   slot-missing e h =
-      decided-refused _ _ (firstOf (slotRows (slotOf patch b) ++ (fullRows P (slotOf patch b) full b ++ payloadRows P (slotOf patch b)))) 8 (rw (e, le-leb (pagesIn P (length full)) b h)) (λ q. omega arith)
+      decided-refused _ _ (firstOf (slotRows (slotOf patch b) ++ (fullRows P (slotOf patch b) full b ++ payloadRows P (slotOf patch b))))
+      8 (rw (e, le-leb (pagesIn P (length full)) b h)) (λ q. omega arith)
 
-  pub slot-full : slotNumbers (slotOf patch b) ≡ soundSlot 2 0 → b < pagesIn P (length full) → slotOutcome P patch full b base page ≡ record { number = 0; kind = 2; page = placeOf P full b }
+  pub slot-full : slotNumbers (slotOf patch b) ≡ soundSlot 2 0 → b < pagesIn P (length full)
+      → slotOutcome P patch full b base page ≡ record { number = 0; kind = 2; page = placeOf P full b }
   unfolding slotOutcome slotRows fullRows payloadRows firstOf orElse contents
-  slot-full e h = decided-done _ _ (firstOf (slotRows (slotOf patch b) ++ (fullRows P (slotOf patch b) full b ++ payloadRows P (slotOf patch b)))) (rw (e, lt-leb (pagesIn P (length full)) b h)) ∙ rw e
+  slot-full e h = decided-done _ _
+      (firstOf (slotRows (slotOf patch b) ++ (fullRows P (slotOf patch b) full b ++ payloadRows P (slotOf patch b))))
+      (rw (e, lt-leb (pagesIn P (length full)) b h)) ∙ rw e
 
-  pub slot-broken : (n : ℕ) → slotNumbers (slotOf patch b) ≡ soundSlot 1 n → sound P (payloadOf (slotOf patch b)) ≡ false → slotOutcome P patch full b base page ≡ record { number = 7; kind = 0; page = page }
+  pub slot-broken : (n : ℕ) → slotNumbers (slotOf patch b) ≡ soundSlot 1 n → sound P (payloadOf (slotOf patch b)) ≡ false
+      → slotOutcome P patch full b base page ≡ record { number = 7; kind = 0; page = page }
   unfolding slotOutcome slotRows fullRows payloadRows firstOf orElse
-  slot-broken n e h = decided-refused _ _ (firstOf (slotRows (slotOf patch b) ++ (fullRows P (slotOf patch b) full b ++ payloadRows P (slotOf patch b)))) 7 (rw (e, h)) (λ q. omega arith)
+  slot-broken n e h = decided-refused _ _
+      (firstOf (slotRows (slotOf patch b) ++ (fullRows P (slotOf patch b) full b ++ payloadRows P (slotOf patch b)))) 7 (rw (e, h))
+      (λ q. omega arith)
 
   pub slot-patched : (n : ℕ) → slotNumbers (slotOf patch b) ≡ soundSlot 1 n → sound P (payloadOf (slotOf patch b)) ≡ true
-      → slotOutcome P patch full b base page ≡ record { number = 0; kind = 1; page = applied (pageOf P base) (payloadStream P (payloadOf (slotOf patch b))) }
+      → slotOutcome P patch full b base page
+      ≡ record { number = 0; kind = 1; page = applied (pageOf P base) (payloadStream P (payloadOf (slotOf patch b))) }
   unfolding slotOutcome slotRows fullRows payloadRows firstOf orElse contents
-  slot-patched n e h = decided-done _ _ (firstOf (slotRows (slotOf patch b) ++ (fullRows P (slotOf patch b) full b ++ payloadRows P (slotOf patch b)))) (rw (e, h)) ∙ rw e
+  slot-patched n e h = decided-done _ _
+      (firstOf (slotRows (slotOf patch b) ++ (fullRows P (slotOf patch b) full b ++ payloadRows P (slotOf patch b)))) (rw (e, h)) ∙ rw e
 
 -- a read goes by the page that its base stands for
-pub same-base : (P : ℕ) (patch full : List ℕ) (b : ℕ) (base base′ page : List ℕ) → pageOf P base ≡ pageOf P base′ → slotOutcome P patch full b base page ≡ slotOutcome P patch full b base′ page
+pub same-base : (P : ℕ) (patch full : List ℕ) (b : ℕ) (base base′ page : List ℕ) → pageOf P base ≡ pageOf P base′
+    → slotOutcome P patch full b base page ≡ slotOutcome P patch full b base′ page
 unfolding slotOutcome contents
 same-base P patch full b base base′ page e = rw e
 
@@ -100,7 +128,8 @@ patch-read P patch full b base page n payload answer page′ told same-payload s
   where
     go : (t : Bool) → sound P payload ≡ t → BlockRead P patch full b base page answer page′
     go true h =
-        let e : slotOutcome P patch full b base page ≡ record { number = 0; kind = 1; page = applied (pageOf P base) (payloadStream P (payloadOf (slotOf patch b))) } =
+        let e : slotOutcome P patch full b base page
+        ≡ record { number = 0; kind = 1; page = applied (pageOf P base) (payloadStream P (payloadOf (slotOf patch b))) } =
         slot-patched P patch full b base page n told (ap (λ (l : List ℕ). sound P l) (sym same-payload) ∙ h) in
         record {
           numbers = rw e (r .numbers ∙ rw h);

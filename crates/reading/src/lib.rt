@@ -36,7 +36,8 @@ fn read_patch(base: &[u8], payload: &[u8], page: &mut [u8]) -> Reading
 fn read_block(patch: &[u8], full: &[u8], block: u32, base: &[u8], page: &mut [u8]) -> Reading
     requires { ⌜ (length (now base) ≡ pageSize) × (length (now page) ≡ pageSize) ⌝ }
     requires { ⌜ Places pageSize (now full) ⌝ }
-    ensures { λ r. ⌜ BlockRead pageSize (now (patch .entry)) (now (full .entry)) block (now (base .entry)) (now (page .entry)) r (now (page .exit)) ⌝ }
+    ensures { λ r. ⌜ BlockRead pageSize (now (patch .entry)) (now (full .entry)) block (now (base .entry)) (now (page .entry)) r
+        (now (page .exit)) ⌝ }
 {
     let slot = span::part(patch, Layout::slot_at(block), Layout::SLOT);
     match slots::slot_state(slot) {
@@ -58,7 +59,8 @@ fn read_block(patch: &[u8], full: &[u8], block: u32, base: &[u8], page: &mut [u8
 
 // A block's page: its base, its patched base or its full page.
 pub fn read(patch: &[u8], full: &[u8], block: usize, base: &[u8], page: &mut [u8]) -> Reading
-    ensures { λ r. ⌜ Read pageSize (now (patch .entry)) (now (full .entry)) block (now (base .entry)) (now (page .entry)) r (now (page .exit)) ⌝ }
+    ensures { λ r. ⌜ Read pageSize (now (patch .entry)) (now (full .entry)) block (now (base .entry)) (now (page .entry)) r
+        (now (page .exit)) ⌝ }
 {
     match store::frame::frame_fault(stream::pages_fit(base, page), true, patch, full) {
         Fault::Found(r) => Reading::Refused(r),

@@ -37,7 +37,8 @@ module _ {P b : ℕ} {patch full base page patch′ full′ : List ℕ} {a : Wri
 
   pub turned-refused : (r : Refusal) → a ≡ Refused r → Turned P patch full b base page 0 patch′ full′
   turned-refused r q =
-      let z : writeOutcome P patch full b base page .number ≡ refusalNumber r = sym number-is ∙ ap (λ (x : Written). writtenNumbers x .number) q in
+      let z : writeOutcome P patch full b base page .number ≡ refusalNumber r = sym number-is
+      ∙ ap (λ (x : Written). writtenNumbers x .number) q in
       record { areas = left; marked = rw (ne-eqb (writeOutcome P patch full b base page .number) 0 (λ e. refusal-some r (sym z ∙ e))) }
 
 -- Marks laid one by one, as far as the buffer goes
@@ -89,18 +90,22 @@ module _ (P : ℕ) (patch₀ full₀ blocks bases pages marks₀ : List ℕ) whe
   begin =
       let z : P * 0 ≡ 0 = mul-zero P in
       let e : rest 0 ≡ all = rw z in
-      let n : length (accepted P (both patch₀ full₀) (rest 0)) ≡ length (accepted P (both patch₀ full₀) all) = ap (λ (l : List Lent). length (accepted P (both patch₀ full₀) l)) e in
+      let n : length (accepted P (both patch₀ full₀) (rest 0)) ≡ length (accepted P (both patch₀ full₀) all) =
+      ap (λ (l : List Lent). length (accepted P (both patch₀ full₀) l)) e in
       record { within = omega arith; few = omega arith; areas = rw e; number = omega arith; marked = rw e }
 
   peel : (i : ℕ) → i < length blocks → rest i ≡ lent (getD blocks i 0) (part (P * i) P bases) (part (P * i) P pages) ∷ rest (i + 1)
   unfolding writes part
   peel i h =
-      let d : drop i blocks ≡ getD blocks i 0 ∷ drop (i + 1) blocks = drop-cons blocks i 0 h ∙ ap (λ (k : ℕ). getD blocks i 0 ∷ drop k blocks) (sym (add-one i)) in
+      let d : drop i blocks ≡ getD blocks i 0 ∷ drop (i + 1) blocks = drop-cons blocks i 0 h
+      ∙ ap (λ (k : ℕ). getD blocks i 0 ∷ drop k blocks) (sym (add-one i)) in
       let q : P * i + P ≡ P * (i + 1) = sym (ap (λ (k : ℕ). P * k) (add-one i) ∙ mul-suc P i) in
       rw (d, drop-drop P (P * i) bases, drop-drop P (P * i) pages, q)
 
-  pub go-on : (i count : ℕ) (patch full marks : List ℕ) → Going i count patch full marks → i < length blocks → (base page : List ℕ) (m : ℕ) (patch′ full′ marks′ : List ℕ)
-      → base ≡ part (P * i) P bases → page ≡ part (P * i) P pages → Turned P patch full (getD blocks i 0) base page m patch′ full′ → marks′ ≡ set marks i m
+  pub go-on : (i count : ℕ) (patch full marks : List ℕ) → Going i count patch full marks → i < length blocks
+      → (base page : List ℕ) (m : ℕ) (patch′ full′ marks′ : List ℕ)
+      → base ≡ part (P * i) P bases → page ≡ part (P * i) P pages → Turned P patch full (getD blocks i 0) base page m patch′ full′
+      → marks′ ≡ set marks i m
       → Going (i + 1) (count + m) patch′ full′ marks′
   unfolding after accepted marksOf
   go-on i count patch full marks g h base page m patch′ full′ marks′ eb ep t e =
@@ -131,21 +136,25 @@ module _ (P : ℕ) (patch₀ full₀ blocks bases pages marks₀ : List ℕ) whe
       rw d
 
   -- so many were accepted that the next one can be counted
-  pub countable : (i count : ℕ) (patch full marks : List ℕ) → Going i count patch full marks → i < length blocks → {b : ℕ} {base page : List ℕ} (m : ℕ) (patch′ full′ : List ℕ)
+  pub countable : (i count : ℕ) (patch full marks : List ℕ) → Going i count patch full marks → i < length blocks
+      → {b : ℕ} {base page : List ℕ} (m : ℕ) (patch′ full′ : List ℕ)
       → Turned P patch full b base page m patch′ full′ → count + m ≤ length blocks
   countable i count patch full marks g h {b} {base} {page} m patch′ full′ t =
       omega (arith, g .few, one-most (taken P (both patch full) (lent b base page)), t .marked)
 
-  pub ended : (i count : ℕ) (patch full marks : List ℕ) → Going i count patch full marks → length blocks ≤ i → Replayed P patch₀ full₀ blocks bases pages marks₀ count patch full marks
+  pub ended : (i count : ℕ) (patch full marks : List ℕ) → Going i count patch full marks → length blocks ≤ i
+      → Replayed P patch₀ full₀ blocks bases pages marks₀ count patch full marks
   unfolding after accepted marksOf
   ended i count patch full marks g h =
       let p : rest i ≡ [] = over i (omega (arith, g .within)) in
       record {
         areas = sym (g .areas ∙ ap (after P (both patch full)) p);
         number =
-            let z : length (accepted P (both patch full) (rest i)) ≡ 0 = ap (λ (l : List Lent). length (accepted P (both patch full) l)) p in
+            let z : length (accepted P (both patch full) (rest i)) ≡ 0 = ap (λ (l : List Lent). length (accepted P (both patch full) l))
+            p in
             omega (arith, g .number, z);
-        marked = sym (ap (λ (l : List Lent). sets marks i (marksOf P (both patch full) l)) p) ∙ sym (g .marked) ∙ sets-laid marks₀ (marksOf P (both patch₀ full₀) all);
+        marked = sym (ap (λ (l : List Lent). sets marks i (marksOf P (both patch full) l)) p) ∙ sym (g .marked)
+            ∙ sets-laid marks₀ (marksOf P (both patch₀ full₀) all);
       }
 
 -- The marks say which writes were accepted
@@ -178,10 +187,14 @@ joined f [] = []
 joined f (w ∷ ws) = f w ++ joined f ws
 
 first : (P : ℕ) (xs ys : List ℕ) → length xs ≡ P → (take P (xs ++ ys) ≡ xs) × (drop P (xs ++ ys) ≡ ys)
-first P xs ys e =
-    (ap (λ (k : ℕ). take k (xs ++ ys)) (sym e) ∙ take-append-seam xs ys, ap (λ (k : ℕ). drop k (xs ++ ys)) (sym e) ∙ drop-append-seam xs ys)
+first P xs ys e = (
+  ap (λ (k : ℕ). take k (xs ++ ys)) (sym e) ∙ take-append-seam xs ys,
+  ap (λ (k : ℕ). drop k (xs ++ ys)) (sym e)
+      ∙ drop-append-seam xs ys,
+)
 
-pub written-out : (P : ℕ) (ws : List Lent) → Whole P ws → writes P (map (λ w. w .block) ws) (joined (λ w. w .base) ws) (joined (λ w. w .page) ws) ≡ ws
+pub written-out : (P : ℕ) (ws : List Lent) → Whole P ws
+    → writes P (map (λ w. w .block) ws) (joined (λ w. w .base) ws) (joined (λ w. w .page) ws) ≡ ws
 unfolding writes
 written-out P [] h = refl
 written-out P (w ∷ ws) h =
@@ -203,7 +216,8 @@ written-bare P (w ∷ ws) h =
     ∙ ap (λ (l : List Lent). w ∷ l) (written-bare P ws (h .2))
 
 -- A replay of a run leaves what the run leaves, so every theorem over runs speaks of the loop
-pub replay-run : {P : ℕ} {patch full blocks bases pages marks patch′ full′ marks′ : List ℕ} {n : ℕ} (ws : List Lent) → writes P blocks bases pages ≡ ws
+pub replay-run : {P : ℕ} {patch full blocks bases pages marks patch′ full′ marks′ : List ℕ} {n : ℕ} (ws : List Lent)
+    → writes P blocks bases pages ≡ ws
     → Replayed P patch full blocks bases pages marks n patch′ full′ marks′
     → (both patch′ full′ ≡ after P (both patch full) ws) × (n ≡ length (accepted P (both patch full) ws))
 replay-run {P} {patch} {full} ws e r =

@@ -19,7 +19,8 @@ fn nth_page(pages: &[u8], i: usize) -> &[u8]
 
 // One write of a run: 1 if it is accepted, 0 if it is refused.
 fn turn(patch: &mut [u8], full: &mut [u8], block: u64, base: &[u8], page: &[u8]) -> u8
-    ensures { λ r. ⌜ Turned pageSize (now (patch .entry)) (now (full .entry)) block (now (base .entry)) (now (page .entry)) r (now (patch .exit)) (now (full .exit)) ⌝ }
+    ensures { λ r. ⌜ Turned pageSize (now (patch .entry)) (now (full .entry)) block (now (base .entry)) (now (page .entry)) r
+        (now (patch .exit)) (now (full .exit)) ⌝ }
 {
     match writing::write(patch, full, block as usize, base, page) {
         Written::Done { kind: _, length: _ } => 1,
@@ -37,7 +38,8 @@ pub fn replay(
     pages: &[u8],
     marks: &mut [u8],
 ) -> usize
-    ensures { λ r. ⌜ Replayed pageSize (now (patch .entry)) (now (full .entry)) (now (blocks .entry)) (now (bases .entry)) (now (pages .entry)) (now (marks .entry)) r (now (patch .exit)) (now (full .exit)) (now (marks .exit)) ⌝ }
+    ensures { λ r. ⌜ Replayed pageSize (now (patch .entry)) (now (full .entry)) (now (blocks .entry)) (now (bases .entry))
+        (now (pages .entry)) (now (marks .entry)) r (now (patch .exit)) (now (full .exit)) (now (marks .exit)) ⌝ }
 {
     let mut accepted: usize = 0;
     let mut i = 0;

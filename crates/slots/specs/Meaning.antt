@@ -10,10 +10,12 @@ use lib.ListN.{length, take, getD}
 use lib.Seq.{take-all, take-at}
 use borrow.Author.Tests.{eq-eqb, le-leb, leb-true, eqb-true}
 use Rattle.span.specs.Bytes.{zeros, part, same}
-use Rattle.span.specs.Laws.{zeros-length, zeros-at, ext, part-length, part-at, part-short, same-is, is-same, same-true, and-left, and-right}
+use Rattle.span.specs.Laws.{zeros-length, zeros-at, ext, part-length, part-at, part-short, same-is, is-same, same-true, and-left}
+use Rattle.span.specs.Laws.{and-right}
 use Rattle.layout.specs.Sizes.{slotSize, payloadAt, room}
 use Rattle.layout.specs.Numbers.{number, le}
-use Rattle.slots.specs.Slots.{SlotNumbers, slotNumbers, soundSlot, unsoundSlot, emptySlot, patchSlot, fullSlot, payloadLength, payloadOf, isPatch}
+use Rattle.slots.specs.Slots.{SlotNumbers, slotNumbers, soundSlot, unsoundSlot, emptySlot, patchSlot, fullSlot, payloadLength}
+use Rattle.slots.specs.Slots.{payloadOf, isPatch}
 use Rattle.slots.specs.SlotLaws.{plainNumbers, patch-slot-length, patch-fields, length-at, slot-patch, slot-other, told-patch}
 
 -- The numbers of the three images
@@ -57,7 +59,8 @@ module _ (p : List ℕ) (h : length p ≤ room) where
   patch-numbers g = slot-patch (patchSlot p) (patch-slot-length p h) kind-one ∙ rw (patch-is g, payload-length-of)
 
 -- and a slot by its numbers: one of the images, or unsound
-pub patch-image : (s : List ℕ) → isPatch s ≡ true → (1 ≤ length (payloadOf s)) × (length (payloadOf s) ≤ room) × (s ≡ patchSlot (payloadOf s))
+pub patch-image : (s : List ℕ) → isPatch s ≡ true → (1 ≤ length (payloadOf s)) × (length (payloadOf s) ≤ room)
+    × (s ≡ patchSlot (payloadOf s))
 unfolding isPatch payloadOf
 patch-image s e =
     let n : ℕ = payloadLength s in
@@ -70,7 +73,8 @@ patch-image s e =
     let long : length s ≡ slotSize = ap (λ (x : List ℕ). length x) is ∙ patch-slot-length p (omega arith) in
     (omega arith, omega arith, is)
 
-pub by-image : {A : Type 0} (s : List ℕ) → (s ≡ emptySlot → A) → (1 ≤ length (payloadOf s) → length (payloadOf s) ≤ room → s ≡ patchSlot (payloadOf s) → A) → (s ≡ fullSlot → A)
+pub by-image : {A : Type 0} (s : List ℕ) → (s ≡ emptySlot → A)
+    → (1 ≤ length (payloadOf s) → length (payloadOf s) ≤ room → s ≡ patchSlot (payloadOf s) → A) → (s ≡ fullSlot → A)
     → (slotNumbers s ≡ unsoundSlot → A) → A
 unfolding slotNumbers
 by-image {A} s empty patch full unsound = go (same s emptySlot) (isPatch s) (same s fullSlot) refl refl refl
@@ -86,7 +90,8 @@ by-image {A} s empty patch full unsound = go (same s emptySlot) (isPatch s) (sam
 -- A slot's numbers say which image it is
 pub record SlotMeans (s : List ℕ) : Type 0 where
   pub empty : (slotNumbers s ≡ soundSlot 0 0) ↔ (s ≡ emptySlot)
-  pub patch : (n : ℕ) → (slotNumbers s ≡ soundSlot 1 n) ↔ ((payload : List ℕ) × (length payload ≡ n) × (1 ≤ n) × (n ≤ room) × (s ≡ patchSlot payload))
+  pub patch : (n : ℕ) → (slotNumbers s ≡ soundSlot 1 n)
+      ↔ ((payload : List ℕ) × (length payload ≡ n) × (1 ≤ n) × (n ≤ room) × (s ≡ patchSlot payload))
   pub full : (slotNumbers s ≡ soundSlot 2 0) ↔ (s ≡ fullSlot)
 
 kind-apart : {x y : SlotNumbers} → x ≡ y → (x .kind ≡ y .kind → ⊥) → ⊥
@@ -98,19 +103,32 @@ number-apart e h = h (ap (λ (z : SlotNumbers). z .number) e)
 pub slot-means : (s : List ℕ) → SlotMeans s
 slot-means s =
     record {
-      empty = (λ e. by-image s (λ q. q) (λ a b q. absurd (kind-apart (sym e ∙ ap slotNumbers q ∙ patch-numbers (payloadOf s) b a) (λ k. omega arith))) (λ q. absurd (kind-apart (sym e ∙ ap slotNumbers q ∙ full-numbers) (λ k. omega arith))) (λ q. absurd (number-apart (sym e ∙ q) (λ k. omega arith))), λ q. ap slotNumbers q ∙ empty-numbers);
+      empty = (
+        λ e. by-image s (λ q. q)
+            (λ a b q. absurd (kind-apart (sym e ∙ ap slotNumbers q ∙ patch-numbers (payloadOf s) b a) (λ k. omega arith)))
+            (λ q. absurd (kind-apart (sym e ∙ ap slotNumbers q ∙ full-numbers) (λ k. omega arith)))
+            (λ q. absurd (number-apart (sym e ∙ q) (λ k. omega arith))),
+        λ q. ap slotNumbers q ∙ empty-numbers,
+      );
       patch =
           λ n. (
             λ e.
                 by-image s (λ q. absurd (kind-apart (sym e ∙ ap slotNumbers q ∙ empty-numbers) (λ k. omega arith)))
                 (λ a b q.
-                let l : length (payloadOf s) ≡ n = ap (λ (z : SlotNumbers). z .length) (sym (ap slotNumbers q ∙ patch-numbers (payloadOf s) b a) ∙ e) in
+                let l : length (payloadOf s) ≡ n = ap (λ (z : SlotNumbers). z .length)
+                (sym (ap slotNumbers q ∙ patch-numbers (payloadOf s) b a) ∙ e) in
                 (payloadOf s, l, omega arith, omega arith, q))
                 (λ q. absurd (kind-apart (sym e ∙ ap slotNumbers q ∙ full-numbers) (λ k. omega arith)))
                 (λ q. absurd (number-apart (sym e ∙ q) (λ k. omega arith))),
-            λ h. ap slotNumbers (h .4) ∙ patch-numbers (h .0) (omega (arith, h .1, h .3)) (omega (arith, h .1, h .2)) ∙ ap (λ (k : ℕ). soundSlot 1 k) (h .1),
+            λ h. ap slotNumbers (h .4) ∙ patch-numbers (h .0) (omega (arith, h .1, h .3)) (omega (arith, h .1, h .2))
+                ∙ ap (λ (k : ℕ). soundSlot 1 k) (h .1),
           );
-      full = (λ e. by-image s (λ q. absurd (kind-apart (sym e ∙ ap slotNumbers q ∙ empty-numbers) (λ k. omega arith))) (λ a b q. absurd (kind-apart (sym e ∙ ap slotNumbers q ∙ patch-numbers (payloadOf s) b a) (λ k. omega arith))) (λ q. q) (λ q. absurd (number-apart (sym e ∙ q) (λ k. omega arith))), λ q. ap slotNumbers q ∙ full-numbers);
+      full = (
+        λ e. by-image s (λ q. absurd (kind-apart (sym e ∙ ap slotNumbers q ∙ empty-numbers) (λ k. omega arith)))
+            (λ a b q. absurd (kind-apart (sym e ∙ ap slotNumbers q ∙ patch-numbers (payloadOf s) b a) (λ k. omega arith))) (λ q. q)
+            (λ q. absurd (number-apart (sym e ∙ q) (λ k. omega arith))),
+        λ q. ap slotNumbers q ∙ full-numbers,
+      );
     }
 
 -- Slots byte by byte, by no image: each field at its place, as the paper has it
@@ -136,10 +154,12 @@ zero-part : (at n : ℕ) (s : List ℕ) → at + n ≤ length s → (part at n s
 zero-part at n s h = (
   λ e i a b.
       let q : i ≡ at + (i - at) = omega arith in
-      ap (λ (k : ℕ). getD s k 0) q ∙ sym (part-at at n s (i - at) (omega arith)) ∙ ap (λ (x : List ℕ). getD x (i - at) 0) e ∙ zeros-at n (i - at),
+      ap (λ (k : ℕ). getD s k 0) q ∙ sym (part-at at n s (i - at) (omega arith)) ∙ ap (λ (x : List ℕ). getD x (i - at) 0) e
+      ∙ zeros-at n (i - at),
   λ z.
       let l : length (part at n s) ≡ n = part-length at n s h in
-      ext (part at n s) (zeros n) (l ∙ sym (zeros-length n)) (λ i k. part-at at n s i (omega arith) ∙ z (at + i) (omega arith) (omega arith) ∙ sym (zeros-at n i)),
+      ext (part at n s) (zeros n) (l ∙ sym (zeros-length n)) (λ i k. part-at at n s i (omega arith)
+      ∙ z (at + i) (omega arith) (omega arith) ∙ sym (zeros-at n i)),
 )
 
 module _ (s : List ℕ) (l : length s ≡ 512) where
@@ -161,7 +181,8 @@ module _ (s : List ℕ) (l : length s ≡ 512) where
       there e zero a b = absurd (omega arith)
       there e (suc i) a b = ap (λ (x : List ℕ). getD x (suc i) 0) e ∙ zeros-at (slotSize - 1) i
 
-      back : getD s 0 0 ≡ 2 → ((i : ℕ) → 1 ≤ i → i < 512 → getD s i 0 ≡ 0) → (i : ℕ) → i < length s → getD s i 0 ≡ getD (2 ∷ zeros (slotSize - 1)) i 0
+      back : getD s 0 0 ≡ 2 → ((i : ℕ) → 1 ≤ i → i < 512 → getD s i 0 ≡ 0) → (i : ℕ) → i < length s
+          → getD s i 0 ≡ getD (2 ∷ zeros (slotSize - 1)) i 0
       back k z zero h = k
       back k z (suc i) h = z (suc i) (omega arith) (omega arith) ∙ sym (zeros-at (slotSize - 1) i)
 
@@ -172,7 +193,8 @@ module _ (s : List ℕ) (l : length s ≡ 512) where
         let p : payloadLength s ≡ n = length-at s l ∙ b .size in
         let z : part 4 4 s ≡ zeros 4 = zero-part 4 4 s (omega arith) .1 (b .reserved) in
         let t : part (payloadAt + payloadLength s) (room - payloadLength s) s ≡ zeros (room - payloadLength s) =
-        zero-part (payloadAt + payloadLength s) (room - payloadLength s) s (omega (arith, b .most)) .1 (λ i a c. b .after i (omega arith) (omega (arith, b .most))) in
+        zero-part (payloadAt + payloadLength s) (room - payloadLength s) s (omega (arith, b .most)) .1
+        (λ i a c. b .after i (omega arith) (omega (arith, b .most))) in
         let f : same s (patchSlot (payloadOf s)) ≡ true =
         patch-fields s l (b .kind) (byte 2) (byte 3) (omega (arith, b .most))
         ∙ rw (
@@ -180,7 +202,11 @@ module _ (s : List ℕ) (l : length s ≡ 512) where
           same-true (part 4 4 s) (zeros 4) z,
           same-true (part (payloadAt + payloadLength s) (room - payloadLength s) s) (zeros (room - payloadLength s)) t,
         ) in
-        let i : isPatch s ≡ true = rw (le-leb 1 (payloadLength s) (omega (arith, b .some)), le-leb (payloadLength s) room (omega (arith, b .most))) f in
+        let i : isPatch s ≡ true = rw (
+          le-leb 1 (payloadLength s) (omega (arith, b .some)),
+          le-leb (payloadLength s) room
+              (omega (arith, b .most)),
+        ) f in
         slot-patch s l (b .kind) ∙ rw (i, p)
 
     patch-bytes : (n : ℕ) → slotNumbers s ≡ soundSlot 1 n → PatchBytes s n
@@ -193,7 +219,8 @@ module _ (s : List ℕ) (l : length s ≡ 512) where
         let a : Bool = same (part 4 4 s) (zeros 4) in
         let b : Bool = same (part (payloadAt + p) (room - p) s) (zeros (room - p)) in
         let f : (eqb (getD s 1 0) 1 && (a && b)) ≡ true =
-        sym (patch-fields s l k (byte 2) (byte 3) (omega (arith, t .1, m .3))) ∙ and-right (leb 1 p && leb p room) (same s (patchSlot (payloadOf s))) (t .0) in
+        sym (patch-fields s l k (byte 2) (byte 3) (omega (arith, t .1, m .3)))
+        ∙ and-right (leb 1 p && leb p room) (same s (patchSlot (payloadOf s))) (t .0) in
         let g : (a && b) ≡ true = and-right (eqb (getD s 1 0) 1) (a && b) f in
         record {
           kind = k;
@@ -204,15 +231,18 @@ module _ (s : List ℕ) (l : length s ≡ 512) where
           reserved = zero-part 4 4 s (omega arith) .0 (same-is (part 4 4 s) (zeros 4) (and-left a b g));
           after =
               λ i x y.
-              zero-part (payloadAt + p) (room - p) s (omega (arith, t .1, m .3)) .0 (same-is (part (payloadAt + p) (room - p) s) (zeros (room - p)) (and-right a b g)) i
+              zero-part (payloadAt + p) (room - p) s (omega (arith, t .1, m .3)) .0
+              (same-is (part (payloadAt + p) (room - p) s) (zeros (room - p)) (and-right a b g)) i
               (omega (arith, t .1)) (omega (arith, t .1, m .3));
         }
 
-    payload-at : (payload : List ℕ) → length payload ≤ 504 → s ≡ patchSlot payload → (i : ℕ) → i < length payload → getD s (8 + i) 0 ≡ getD payload i 0
+    payload-at : (payload : List ℕ) → length payload ≤ 504 → s ≡ patchSlot payload → (i : ℕ) → i < length payload
+        → getD s (8 + i) 0 ≡ getD payload i 0
     unfolding payloadOf
     payload-at payload h e i k =
         let p : payloadLength s ≡ length payload = ap payloadLength e ∙ payload-length-of payload h in
-        sym (part-at payloadAt (payloadLength s) s i (omega arith)) ∙ ap (λ (x : List ℕ). getD x i 0) (ap payloadOf e ∙ payload-of payload h)
+        sym (part-at payloadAt (payloadLength s) s i (omega arith))
+        ∙ ap (λ (x : List ℕ). getD x i 0) (ap payloadOf e ∙ payload-of payload h)
 
     -- a 512-byte slot of bytes
     pub slot-bytes : SlotBytes s

@@ -105,7 +105,8 @@ fn write_patch(slot: &mut [u8], payload: &[u8])
 
 // The sound slot of a kind, over whatever stood there. Only what is a slot, and a payload that fits, is touched.
 pub fn put_slot(slot: &mut [u8], kind: Kind, payload: &[u8])
-    ensures { λ _. ⌜ now (slot .exit) ≡ cond (eqb (length (now (slot .entry))) slotSize && leb (length (now (payload .entry))) room) (slotImage (kindNumber kind) (now (payload .entry))) (now (slot .entry)) ⌝ }
+    ensures { λ _. ⌜ now (slot .exit) ≡ cond (eqb (length (now (slot .entry))) slotSize && leb (length (now (payload .entry))) room)
+        (slotImage (kindNumber kind) (now (payload .entry))) (now (slot .entry)) ⌝ }
 {
     if slot.len() != Layout::SLOT {
         return;

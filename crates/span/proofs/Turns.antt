@@ -22,7 +22,8 @@ stored dst₀ dst ys i v e h d =
 pub filled : (dst₀ dst : List ℕ) (i : ℕ) → i < length dst₀ → dst ≡ splice dst₀ 0 (zeros i) → set dst i 0 ≡ splice dst₀ 0 (zeros (i + 1))
 filled dst₀ dst i h d = stored dst₀ dst (zeros i) i 0 (zeros-length i) h d ∙ ap (λ (l : List ℕ). splice dst₀ 0 l) (sym (zeros-more i))
 
-pub copied : (dst₀ dst src : List ℕ) (i : ℕ) → i < length dst₀ → i < length src → dst ≡ splice dst₀ 0 (take i src) → set dst i (getD src i 0) ≡ splice dst₀ 0 (take (i + 1) src)
+pub copied : (dst₀ dst src : List ℕ) (i : ℕ) → i < length dst₀ → i < length src → dst ≡ splice dst₀ 0 (take i src)
+    → set dst i (getD src i 0) ≡ splice dst₀ 0 (take (i + 1) src)
 copied dst₀ dst src i h k d =
     stored dst₀ dst (take i src) i (getD src i 0) (length-take-le i src (omega arith)) h d
     ∙ ap (λ (l : List ℕ). splice dst₀ 0 l) (sym (ap (λ (n : ℕ). take n src) (add-one i) ∙ take-suc src i 0 k))
@@ -54,7 +55,8 @@ or-both a b = go (eqb a 0) (eqb b 0) refl refl
     go true false p q = ne-eqb (bitOr a b) 0 (λ e. eqb-false b 0 q (omega (arith, right)))
     go false y p q = ne-eqb (bitOr a b) 0 (λ e. eqb-false a 0 p (omega (arith, left)))
 
-pub seen-zero : (s : List ℕ) (i seen : ℕ) → i < length s → eqb seen 0 ≡ same (take i s) (zeros i) → eqb (bitOr seen (getD s i 0)) 0 ≡ same (take (i + 1) s) (zeros (i + 1))
+pub seen-zero : (s : List ℕ) (i seen : ℕ) → i < length s → eqb seen 0 ≡ same (take i s) (zeros i)
+    → eqb (bitOr seen (getD s i 0)) 0 ≡ same (take (i + 1) s) (zeros (i + 1))
 seen-zero s i seen h e =
     let l : length (take i s) ≡ i = length-take-le i s (omega arith) in
     or-both seen (getD s i 0)

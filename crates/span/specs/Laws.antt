@@ -8,8 +8,10 @@ use mathlib.Core.Path.{_≡_, refl, sym, ap, _∙_}
 use mathlib.Core.Bool.{Bool, true, false, _&&_, false≢true, and-true, and-assoc}
 use mathlib.Core.List.{List, [], _∷_, _++_}
 use lib.Dec.{eqb}
-use lib.ListN.{length, take, drop, getD, set, replicate, length-set, replicate-append-replicate, length-replicate, getD-replicate, length-append, length-take, length-drop, List·getD-append, List·getD-eq-default, drop-of-length-le}
-use lib.Seq.{getD-take, getD-drop, getD-append-add, ext-getD, length-take-le, drop-drop, take-add, take-all, take-nil, getD-set-same, getD-set-other, getD-append-seam, drop-at, drop-cons, take-length}
+use lib.ListN.{length, take, drop, getD, set, replicate, length-set, replicate-append-replicate, length-replicate, getD-replicate}
+use lib.ListN.{length-append, length-take, length-drop, List·getD-append, List·getD-eq-default, drop-of-length-le}
+use lib.Seq.{getD-take, getD-drop, getD-append-add, ext-getD, length-take-le, drop-drop, take-add, take-all, take-nil, getD-set-same}
+use lib.Seq.{getD-set-other, getD-append-seam, drop-at, drop-cons, take-length}
 use borrow.Author.Tests.{eq-eqb, eqb-true}
 use borrow.Rule.Slice.PartMut.{midOf, putMid}
 use Rattle.span.specs.Bytes.{zeros, part, splice, same}
@@ -143,7 +145,8 @@ part-splice xs at ys n e h =
     (λ i l. part-at at n (splice xs at ys) i (omega arith) ∙ splice-in xs at ys (omega arith) i (omega arith))
 
 -- a part before it, or after it, is as it was
-pub part-splice-before : (xs : List ℕ) (at : ℕ) (ys : List ℕ) (i n : ℕ) → at + length ys ≤ length xs → i + n ≤ at → part i n (splice xs at ys) ≡ part i n xs
+pub part-splice-before : (xs : List ℕ) (at : ℕ) (ys : List ℕ) (i n : ℕ) → at + length ys ≤ length xs → i + n ≤ at
+    → part i n (splice xs at ys) ≡ part i n xs
 part-splice-before xs at ys i n h k =
     let f : length (splice xs at ys) ≡ length xs = splice-length xs at ys h in
     let g : length (part i n (splice xs at ys)) ≡ n = part-length i n (splice xs at ys) (omega arith) in
@@ -152,7 +155,8 @@ part-splice-before xs at ys i n h k =
     let l′ : j < n = omega arith in
     part-at i n (splice xs at ys) j l′ ∙ splice-before xs at ys (omega arith) (i + j) (omega arith) ∙ sym (part-at i n xs j l′))
 
-pub part-splice-after : (xs : List ℕ) (at : ℕ) (ys : List ℕ) (i n : ℕ) → at + length ys ≤ length xs → at + length ys ≤ i → i + n ≤ length xs → part i n (splice xs at ys) ≡ part i n xs
+pub part-splice-after : (xs : List ℕ) (at : ℕ) (ys : List ℕ) (i n : ℕ) → at + length ys ≤ length xs → at + length ys ≤ i
+    → i + n ≤ length xs → part i n (splice xs at ys) ≡ part i n xs
 part-splice-after xs at ys i n h k m =
     let f : length (splice xs at ys) ≡ length xs = splice-length xs at ys h in
     let g : length (part i n (splice xs at ys)) ≡ n = part-length i n (splice xs at ys) (omega arith) in
@@ -227,7 +231,8 @@ pub zeros-more : (n : ℕ) → zeros (n + 1) ≡ zeros n ++ (0 ∷ [])
 unfolding zeros
 zeros-more n = sym (replicate-append-replicate n 1 0)
 
-pub splice-more : (xs : List ℕ) (at : ℕ) (ys : List ℕ) (v : ℕ) → at + length ys < length xs → set (splice xs at ys) (at + length ys) v ≡ splice xs at (ys ++ (v ∷ []))
+pub splice-more : (xs : List ℕ) (at : ℕ) (ys : List ℕ) (v : ℕ) → at + length ys < length xs
+    → set (splice xs at ys) (at + length ys) v ≡ splice xs at (ys ++ (v ∷ []))
 splice-more xs at ys v h =
     let s : List ℕ = splice xs at ys in
     let l : length s ≡ length xs = splice-length xs at ys (omega arith) in
@@ -273,7 +278,8 @@ unfolding same
 same-append [] [] us vs e = refl
 same-append [] (b ∷ ys) us vs e = absurd (omega arith)
 same-append (a ∷ xs) [] us vs e = absurd (omega arith)
-same-append (a ∷ xs) (b ∷ ys) us vs e = ap (λ (t : Bool). eqb a b && t) (same-append xs ys us vs (omega arith)) ∙ sym (and-assoc (eqb a b) (same xs ys) (same us vs))
+same-append (a ∷ xs) (b ∷ ys) us vs e = ap (λ (t : Bool). eqb a b && t) (same-append xs ys us vs (omega arith))
+    ∙ sym (and-assoc (eqb a b) (same xs ys) (same us vs))
 
 -- laid over zeros, the zeros after it stay
 pub drop-zeros : (k n : ℕ) → drop k (zeros n) ≡ zeros (n - k)
@@ -330,7 +336,8 @@ unfolding part
 part-short at n xs = simp (length-take, length-drop)
 
 -- two parts, one after the other, against two lists of their lengths
-pub same-parts : (at n m : ℕ) (xs ys zs : List ℕ) → length ys ≡ n → length zs ≡ m → same (part at (n + m) xs) (ys ++ zs) ≡ (same (part at n xs) ys && same (part (at + n) m xs) zs)
+pub same-parts : (at n m : ℕ) (xs ys zs : List ℕ) → length ys ≡ n → length zs ≡ m
+    → same (part at (n + m) xs) (ys ++ zs) ≡ (same (part at n xs) ys && same (part (at + n) m xs) zs)
 same-parts at n m xs ys zs e f =
     elim (decLt (length (part at n xs)) n) [
       | yes h ↦
@@ -349,7 +356,8 @@ same-parts at n m xs ys zs e f =
           omega arith)))
       | no h ↦
           let l′ : length (part at n xs) ≡ min n (length xs - at) = part-short at n xs in
-          ap (λ (x : List ℕ). same x (ys ++ zs)) (part-join at n m xs) ∙ same-append (part at n xs) ys (part (at + n) m xs) zs (omega arith)
+          ap (λ (x : List ℕ). same x (ys ++ zs)) (part-join at n m xs)
+          ∙ same-append (part at n xs) ys (part (at + n) m xs) zs (omega arith)
     ]
 
 -- What a call leaves in a part that was lent to it, said of the whole
@@ -361,14 +369,16 @@ pub mid-length : (a k : ℕ) (xs : List ℕ) → a + k ≤ length xs → length 
 mid-length a k xs h = simp (length-take, length-drop) (omega arith)
 
 -- copied into
-pub put-copied : (a k : ℕ) (xs ys s : List ℕ) → length s ≡ k → a + k ≤ length xs → ys ≡ splice (midOf a k xs) 0 (take (length (midOf a k xs)) s) → putMid a k xs ys ≡ splice xs a s
+pub put-copied : (a k : ℕ) (xs ys s : List ℕ) → length s ≡ k → a + k ≤ length xs
+    → ys ≡ splice (midOf a k xs) 0 (take (length (midOf a k xs)) s) → putMid a k xs ys ≡ splice xs a s
 put-copied a k xs ys s e h c =
     let m : length (midOf a k xs) ≡ k = mid-length a k xs h in
     let y : ys ≡ s = c ∙ copied-whole (midOf a k xs) s (omega arith) in
     ap (λ (l : List ℕ). putMid a k xs l) y ∙ put-splice a k xs s e
 
 -- cleared
-pub put-filled : (a k : ℕ) (xs ys : List ℕ) → a + k ≤ length xs → ys ≡ zeros (length (midOf a k xs)) → putMid a k xs ys ≡ splice xs a (zeros k)
+pub put-filled : (a k : ℕ) (xs ys : List ℕ) → a + k ≤ length xs → ys ≡ zeros (length (midOf a k xs))
+    → putMid a k xs ys ≡ splice xs a (zeros k)
 put-filled a k xs ys h c =
     let y : ys ≡ zeros k = c ∙ ap (λ (n : ℕ). zeros n) (mid-length a k xs h) in
     ap (λ (l : List ℕ). putMid a k xs l) y ∙ put-splice a k xs (zeros k) (zeros-length k)
@@ -384,7 +394,8 @@ and-right true b h = h
 and-right false b h = absurd (false≢true h)
 
 -- laid one after the other is laid together
-pub splice-join : (xs ys zs : List ℕ) → length ys + length zs ≤ length xs → splice (splice xs 0 ys) (length ys) zs ≡ splice xs 0 (ys ++ zs)
+pub splice-join : (xs ys zs : List ℕ) → length ys + length zs ≤ length xs
+    → splice (splice xs 0 ys) (length ys) zs ≡ splice xs 0 (ys ++ zs)
 splice-join xs ys zs h =
     let s : List ℕ = splice xs 0 ys in
     let f : length s ≡ length xs = splice-length xs 0 ys (omega arith) in
@@ -395,7 +406,8 @@ splice-join xs ys zs h =
     let z : 0 + j ≡ j = omega arith in
     elim (decLt j (length ys)) [
       | yes o ↦
-          splice-before s (length ys) zs (omega arith) (0 + j) (omega arith) ∙ splice-in xs 0 ys (omega arith) j o ∙ sym (List·getD-append ys zs 0 j o)
+          splice-before s (length ys) zs (omega arith) (0 + j) (omega arith) ∙ splice-in xs 0 ys (omega arith) j o
+          ∙ sym (List·getD-append ys zs 0 j o)
       | no o ↦
           let i : ℕ = j - length ys in
           let q : 0 + j ≡ length ys + i = omega arith in

@@ -11,4 +11,5 @@ use Rattle.payload.specs.Spelling.{Bytes, bytes-part}
 
 pub payload-bytes : (s payload : List ℕ) → Bytes s → s ≡ patchSlot payload → length payload ≤ room → Bytes payload
 unfolding payloadOf
-payload-bytes s payload h e l = subst (λ (x : List ℕ). Bytes x) (ap payloadOf e ∙ payload-of payload l) (bytes-part payloadAt (payloadLength s) s h)
+payload-bytes s payload h e l = subst (λ (x : List ℕ). Bytes x) (ap payloadOf e ∙ payload-of payload l)
+    (bytes-part payloadAt (payloadLength s) s h)

@@ -25,7 +25,8 @@ formatRows P patch full =
 
 unfoldable pub formatOutcome : ℕ → List ℕ → List ℕ → FormatOutcome
 formatOutcome P patch full =
-    decided (firstOf (formatRows P patch full)) (record { number = 0; patch = freshPatch P (length patch); full = freshFull P (length full) })
+    decided (firstOf (formatRows P patch full))
+    (record { number = 0; patch = freshPatch P (length patch); full = freshFull P (length full) })
     (λ n. record { number = n; patch = patch; full = full })
 
 abbrev pub formattedNumber : Formatted → ℕ

@@ -26,15 +26,18 @@ lengthsFit P patch full = patchFits P (length patch) && fullFits P (blocksIn (le
 
 -- the number of a frame, by its tests and the headers' number
 unfoldable pub frameBy : Bool → Bool → Bool → ℕ → ℕ
-frameBy pages lengths buffers headers = orElse (cond (not pages) 1 0) (orElse (cond (not lengths) 2 0) (orElse (cond (not buffers) 9 0) headers))
+frameBy pages lengths buffers headers = orElse (cond (not pages) 1 0)
+    (orElse (cond (not lengths) 2 0) (orElse (cond (not buffers) 9 0) headers))
 
 module _ (P : ℕ) (patch full : List ℕ) where
-  pub frame-is : (a b : Bool) → firstOf (frameRows P ((1 ⇐ not a) ∷ []) ((9 ⇐ not b) ∷ []) patch full) ≡ frameBy a (lengthsFit P patch full) b (firstOf (headerRows P patch full))
+  pub frame-is : (a b : Bool) → firstOf (frameRows P ((1 ⇐ not a) ∷ []) ((9 ⇐ not b) ∷ []) patch full)
+      ≡ frameBy a (lengthsFit P patch full) b (firstOf (headerRows P patch full))
   unfolding frameRows frameBy firstOf lengthRows
   frame-is a b = refl
 
   -- a call without a buffer has no short one
-  pub frame-pages : (a : Bool) → firstOf (frameRows P ((1 ⇐ not a) ∷ []) [] patch full) ≡ firstOf (frameRows P ((1 ⇐ not a) ∷ []) ((9 ⇐ not true) ∷ []) patch full)
+  pub frame-pages : (a : Bool) → firstOf (frameRows P ((1 ⇐ not a) ∷ []) [] patch full)
+      ≡ firstOf (frameRows P ((1 ⇐ not a) ∷ []) ((9 ⇐ not true) ∷ []) patch full)
   unfolding frameRows firstOf orElse lengthRows
   frame-pages a = refl
 
@@ -44,7 +47,8 @@ module _ (P : ℕ) (patch full : List ℕ) where
   unfolding frameBy orElse
   frame-sound a b e = go a (lengthsFit P patch full) b e
     where
-      go : (a l b : Bool) → orElse (cond (not a) 1 0) (orElse (cond (not l) 2 0) (orElse (cond (not b) 9 0) (firstOf (headerRows P patch full)))) ≡ 0
+      go : (a l b : Bool) → orElse (cond (not a) 1 0)
+          (orElse (cond (not l) 2 0) (orElse (cond (not b) 9 0) (firstOf (headerRows P patch full)))) ≡ 0
           → (a ≡ true) × (l ≡ true) × (b ≡ true) × (firstOf (headerRows P patch full) ≡ 0)
       go true true true e = (refl, refl, refl, e)
       go true true false e = absurd (omega arith)
@@ -75,7 +79,8 @@ places P n full h e b k = ⊎-elim absent present (full-fits-is P n (length full
 pub frame-told : (P : ℕ) (patch full base page : List ℕ) (a : Bool) (k : ℕ) → a ≡ pagesFit P base page
     → k ≡ firstOf (frameRows P ((1 ⇐ not a) ∷ []) ((9 ⇐ not true) ∷ []) patch full)
     → firstOf (frameRows P (pageRows P base page) [] patch full) ≡ k
-frame-told P patch full base page a k e f = frame-pages P patch full (pagesFit P base page) ∙ sym (f ∙ ap (λ (t : Bool). firstOf (frameRows P ((1 ⇐ not t) ∷ []) ((9 ⇐ not true) ∷ []) patch full)) e)
+frame-told P patch full base page a k e f = frame-pages P patch full (pagesFit P base page)
+    ∙ sym (f ∙ ap (λ (t : Bool). firstOf (frameRows P ((1 ⇐ not t) ∷ []) ((9 ⇐ not true) ∷ []) patch full)) e)
 
 -- and what a sound one gives: pages of their sizes, n not above the most, places that lie in the full area
 pub record Sound (P : ℕ) (patch full base page : List ℕ) : Type 0 where
@@ -84,9 +89,11 @@ pub record Sound (P : ℕ) (patch full base page : List ℕ) : Type 0 where
   pub patch-fit : patchFits P (length patch) ≡ true
   pub full-fit : fullFits P (blocksIn (length patch)) (length full) ≡ true
 
-pub sound-frame : (P : ℕ) (patch full base page : List ℕ) → firstOf (frameRows P (pageRows P base page) [] patch full) ≡ 0 → Sound P patch full base page
+pub sound-frame : (P : ℕ) (patch full base page : List ℕ) → firstOf (frameRows P (pageRows P base page) [] patch full) ≡ 0
+    → Sound P patch full base page
 sound-frame P patch full base page e =
-    let f = frame-sound P patch full (pagesFit P base page) true (sym (frame-is P patch full (pagesFit P base page) true) ∙ sym (frame-pages P patch full (pagesFit P base page)) ∙ e) in
+    let f = frame-sound P patch full (pagesFit P base page) true (sym (frame-is P patch full (pagesFit P base page) true)
+    ∙ sym (frame-pages P patch full (pagesFit P base page)) ∙ e) in
     record {
       page-size = page-length P base page (f .0);
       base-size = base-length P base page (f .0);

@@ -26,13 +26,15 @@ use Rattle.store.specs.declared.Place.{Place}
 pub judge-exactly : (slot : List ℕ) → Exactly (judgeRows slot) (judgeNumbers slot .number)
 unfolding judgeNumbers judgeRows ordered
 judge-exactly slot =
-    exactly (judgeRows slot) _ (decided-number (λ (n : JudgedNumbers). n .number) _ _ (firstOf (judgeRows slot)) refl (λ k. refl)) (row (row no-row))
+    exactly (judgeRows slot) _ (decided-number (λ (n : JudgedNumbers). n .number) _ _ (firstOf (judgeRows slot)) refl (λ k. refl))
+    (row (row no-row))
 
 module _ (P : ℕ) where
   pub format-exactly : (patch full : List ℕ) → Exactly (formatRows P patch full) (formatOutcome P patch full .number)
   unfolding formatOutcome formatRows ordered lengthRows
   format-exactly patch full =
-      exactly (formatRows P patch full) _ (decided-number (λ (o : FormatOutcome). o .number) _ _ (firstOf (formatRows P patch full)) refl (λ k. refl)) (row no-row)
+      exactly (formatRows P patch full) _ (decided-number (λ (o : FormatOutcome). o .number) _ _ (firstOf (formatRows P patch full)) refl
+      (λ k. refl)) (row no-row)
 
   -- Show hands out an empty part where one of these is given
   pub show-exactly : (patch : List ℕ) (b : ℕ) → Exactly (showRows P patch b) (firstOf (showRows P patch b))
@@ -40,7 +42,8 @@ module _ (P : ℕ) where
   show-exactly patch b = exactly (showRows P patch b) _ refl (row (row (row (row (row (row no-row))))))
 
   -- and bytes where none is
-  pub show-some : (patch : List ℕ) (b : ℕ) → NoneHolds (showRows P patch b) → part (showPlace P patch b .at) (showPlace P patch b .len) patch ≡ [] → ⊥
+  pub show-some : (patch : List ℕ) (b : ℕ) → NoneHolds (showRows P patch b)
+      → part (showPlace P patch b .at) (showPlace P patch b .len) patch ≡ [] → ⊥
   unfolding showPlace showRows ordered patchHeadRows headRows isPatch
   show-some patch b none e =
       let s : List ℕ = slotOf patch b in
@@ -49,8 +52,11 @@ module _ (P : ℕ) where
       let some : 1 ≤ n = leb-true 1 n (and-left (leb 1 n) (leb n room) sizes) in
       let most : n ≤ room = leb-true n room (and-right (leb 1 n) (leb n room) sizes) in
       let within : slotAt b + slotSize ≤ length patch =
-      slot-within P (length patch) b (not-false (patchFits P (length patch)) (none .0)) (leb-false (blocksIn (length patch)) b (none .1 .1 .1 .1 .0)) in
-      let place : showPlace P patch b ≡ record { at = slotAt b + payloadAt; len = n } = decided-done _ _ (firstOf (showRows P patch b)) (first-done (showRows P patch b) none) in
+      slot-within P (length patch) b (not-false (patchFits P (length patch)) (none .0))
+      (leb-false (blocksIn (length patch)) b (none .1 .1 .1 .1 .0)) in
+      let place : showPlace P patch b ≡ record { at = slotAt b + payloadAt; len = n } = decided-done _ _ (firstOf (showRows P patch b))
+      (first-done (showRows P patch b) none) in
       let long : length (part (slotAt b + payloadAt) n patch) ≡ n = part-length (slotAt b + payloadAt) n patch (omega arith) in
-      let short : length (part (slotAt b + payloadAt) n patch) ≡ 0 = ap (λ (l : List ℕ). length l) (sym (ap (λ (x : Place). part (x .at) (x .len) patch) place) ∙ e) in
+      let short : length (part (slotAt b + payloadAt) n patch)
+      ≡ 0 = ap (λ (l : List ℕ). length l) (sym (ap (λ (x : Place). part (x .at) (x .len) patch) place) ∙ e) in
       omega arith

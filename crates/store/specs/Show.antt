@@ -20,7 +20,8 @@ use Rattle.store.specs.declared.Place.{Place}
 unfoldable pub showRows : ℕ → List ℕ → ℕ → List Row
 showRows P patch b =
     ordered
-    ((group.lengths ▸ (2 ⇐ not (patchFits P (length patch))) ∷ []) ∷ (group.headers ▸ patchHeadRows P patch) ∷ (group.block ▸ (5 ⇐ leb (blocksIn (length patch)) b) ∷ []) ∷ (group.slot ▸ (6 ⇐ not (isPatch (slotOf patch b))) ∷ []) ∷ [])
+    ((group.lengths ▸ (2 ⇐ not (patchFits P (length patch))) ∷ []) ∷ (group.headers ▸ patchHeadRows P patch)
+    ∷ (group.block ▸ (5 ⇐ leb (blocksIn (length patch)) b) ∷ []) ∷ (group.slot ▸ (6 ⇐ not (isPatch (slotOf patch b))) ∷ []) ∷ [])
 
 -- where the part begins and how long it is; an empty one where anything would be refused
 unfoldable pub showPlace : ℕ → List ℕ → ℕ → Place

@@ -21,7 +21,8 @@ use Rattle.store.specs.Show.{showRows, showPlace}
 show-rows : (P : ℕ) (patch : List ℕ) (b : ℕ)
     → firstOf (showRows P patch b)
     ≡ orElse (cond (not (patchFits P (length patch))) 2 0)
-    (orElse (firstOf (patchHeadRows P patch)) (orElse (cond (leb (blocksIn (length patch)) b) 5 0) (orElse (cond (not (isPatch (slotOf patch b))) 6 0) 0)))
+    (orElse (firstOf (patchHeadRows P patch))
+    (orElse (cond (leb (blocksIn (length patch)) b) 5 0) (orElse (cond (not (isPatch (slotOf patch b))) 6 0) 0)))
 unfolding showRows ordered firstOf
 show-rows P patch b =
     ap (λ (k : ℕ). orElse (cond (not (patchFits P (length patch))) 2 0) k)
@@ -36,9 +37,12 @@ module _ (P : ℕ) (patch : List ℕ) (b : ℕ) where
   unfolding orElse
   show-length e = refused 2 (show-rows P patch b ∙ rw e) (λ q. omega arith)
 
-  pub show-header : (k : ℕ) → patchFits P (length patch) ≡ true → firstOf (patchHeadRows P patch) ≡ k → (k ≡ 0 → ⊥) → record { at = 0; len = 0 } ≡ showPlace P patch b
+  pub show-header : (k : ℕ) → patchFits P (length patch) ≡ true → firstOf (patchHeadRows P patch) ≡ k → (k ≡ 0 → ⊥)
+      → record { at = 0; len = 0 } ≡ showPlace P patch b
   unfolding orElse
-  show-header k e f h = refused k (show-rows P patch b ∙ rw (e, f) (or-some k (orElse (cond (leb (blocksIn (length patch)) b) 5 0) (orElse (cond (not (isPatch (slotOf patch b))) 6 0) 0)) h)) h
+  show-header k e f h = refused k (show-rows P patch b
+      ∙ rw (e, f) (or-some k (orElse (cond (leb (blocksIn (length patch)) b) 5 0) (orElse (cond (not (isPatch (slotOf patch b))) 6 0) 0))
+      h)) h
 
   module _ (e : patchFits P (length patch) ≡ true) (f : firstOf (patchHeadRows P patch) ≡ 0) where
     pub show-block : blocksIn (length patch) ≤ b → record { at = 0; len = 0 } ≡ showPlace P patch b
@@ -49,6 +53,8 @@ module _ (P : ℕ) (patch : List ℕ) (b : ℕ) where
     unfolding orElse
     show-slot h g = refused 6 (show-rows P patch b ∙ rw (e, f, lt-leb (blocksIn (length patch)) b h, g)) (λ q. omega arith)
 
-    pub show-done : b < blocksIn (length patch) → isPatch (slotOf patch b) ≡ true → record { at = slotAt b + payloadAt; len = payloadLength (slotOf patch b) } ≡ showPlace P patch b
+    pub show-done : b < blocksIn (length patch) → isPatch (slotOf patch b) ≡ true
+        → record { at = slotAt b + payloadAt; len = payloadLength (slotOf patch b) } ≡ showPlace P patch b
     unfolding orElse showPlace
-    show-done h g = sym (decided-done _ _ (firstOf (showRows P patch b)) (show-rows P patch b ∙ rw (e, f, lt-leb (blocksIn (length patch)) b h, g)))
+    show-done h g = sym (decided-done _ _ (firstOf (showRows P patch b)) (show-rows P patch b
+        ∙ rw (e, f, lt-leb (blocksIn (length patch)) b h, g)))

@@ -11,7 +11,8 @@ ghost use Rattle.store.specs.Frame.{frameRows};
 
 // The first of these that is wrong, told whether the call's pages and its buffer have the lengths that they must have.
 pub fn frame_fault(pages_fit: bool, buffer_fits: bool, patch: &[u8], full: &[u8]) -> Fault
-    ensures { λ r. ⌜ faultNumber r ≡ firstOf (frameRows pageSize ((1 ⇐ not «pages_fit») ∷ []) ((9 ⇐ not «buffer_fits») ∷ []) (now (patch .entry)) (now (full .entry))) ⌝ }
+    ensures { λ r. ⌜ faultNumber r ≡ firstOf
+        (frameRows pageSize ((1 ⇐ not «pages_fit») ∷ []) ((9 ⇐ not «buffer_fits») ∷ []) (now (patch .entry)) (now (full .entry))) ⌝ }
 {
     if !pages_fit {
         return Fault::Found(Refusal::Page);

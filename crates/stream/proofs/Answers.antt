@@ -22,7 +22,8 @@ use Rattle.writer.specs.Differences.{diffs, coded, written}
 use Rattle.payload.specs.Steps.{farthest, reach, SoundAs}
 use Rattle.writer.specs.Steps.{near, Differs}
 use Rattle.stream.specs.Steps.{Applies, application, Compares}
-use Rattle.stream.specs.Calls.{pageOf, pagesFit, applyRows, Apply, appliedNumbers, kindFor, compareRows, comparison, compareNumbers, compareBuffer, ComparedNumbers, comparedNumbers, Compare}
+use Rattle.stream.specs.Calls.{pageOf, pagesFit, applyRows, Apply, appliedNumbers, kindFor, compareRows, comparison, compareNumbers, compareBuffer}
+use Rattle.stream.specs.Calls.{ComparedNumbers, comparedNumbers, Compare}
 use Rattle.stream.specs.Laws.{patch-fits, page-length, apply-number, apply-done, apply-not, compare-number, compare-done, compare-not}
 use Rattle.writer.specs.StepLaws.{differs-near}
 use Rattle.writer.specs.declared.Difference.{Difference}
@@ -57,7 +58,8 @@ apply-refused P base payload page h =
     record { numbers = sym (d .0); bytes = sym (d .1) }
 
 -- over the page that the base stands for
-pub apply-over : (P : ℕ) (base present payload page after : List ℕ) (answer : Applied) → pagesFit P base page ≡ true → P ≤ 65536 → length present ≡ length page → pageOf P base ≡ present
+pub apply-over : (P : ℕ) (base present payload page after : List ℕ) (answer : Applied) → pagesFit P base page ≡ true → P ≤ 65536
+    → length present ≡ length page → pageOf P base ≡ present
     → Applies (reach (length page)) present payload page answer after → Apply P base payload page answer after
 apply-over P base present payload page after answer h k there e a =
     let n : reach (length page) ≡ P = omega (arith, page-length P base page h) in
@@ -87,11 +89,13 @@ apply-over P base present payload page after answer h k there e a =
 
 -- Compare
 
-module _ (base page room₀ room₁ buffer : List ℕ) (d : Difference) (l : ℤ) (h : length page ≤ farthest) (e : l ≡ d .last) (w : Differs base (near page) room₀ d room₁) where
+module _ (base page room₀ room₁ buffer : List ℕ) (d : Difference) (l : ℤ) (h : length page ≤ farthest) (e : l ≡ d .last)
+    (w : Differs base (near page) room₀ d room₁) where
   w′ : Differs base page room₀ d room₁
   w′ = differs-near base page room₀ room₁ d h w
 
-  done-numbers : (k : Kind) → kindNumber k ≡ kindFor (d .length) → comparedNumbers (ComparedDone k (d .length) (d .entries) l) ≡ comparison (diffs 0 base page)
+  done-numbers : (k : Kind) → kindNumber k ≡ kindFor (d .length) → comparedNumbers (ComparedDone k (d .length) (d .entries) l)
+      ≡ comparison (diffs 0 base page)
   unfolding comparison written
   done-numbers k q = λ i. record {
     number = 0;
@@ -105,7 +109,8 @@ module _ (base page room₀ room₁ buffer : List ℕ) (d : Difference) (l : ℤ
   done-kind k q = sym (q ∙ ap kindFor (w′ .numbers .length))
 
   -- same or large: the buffer stays
-  pub compares-kept : (k : Kind) → kindNumber k ≡ kindFor (d .length) → (kindNumber k ≡ 1 → ⊥) → Compares base page buffer (ComparedDone k (d .length) (d .entries) l) buffer
+  pub compares-kept : (k : Kind) → kindNumber k ≡ kindFor (d .length) → (kindNumber k ≡ 1 → ⊥)
+      → Compares base page buffer (ComparedDone k (d .length) (d .entries) l) buffer
   compares-kept k q n = record {
     numbers = done-numbers k q;
     bytes =
@@ -142,14 +147,16 @@ compare-refused-page P base page buffer h =
     let d = compare-not P base page buffer 0 e in
     record { numbers = sym (d .0); bytes = sym (d .1) }
 
-pub compare-refused-buffer : (P : ℕ) (base page buffer : List ℕ) → pagesFit P base page ≡ true → length buffer < room → Compare P base page buffer (ComparedRefused Buffer) buffer
+pub compare-refused-buffer : (P : ℕ) (base page buffer : List ℕ) → pagesFit P base page ≡ true → length buffer < room
+    → Compare P base page buffer (ComparedRefused Buffer) buffer
 compare-refused-buffer P base page buffer h k =
     let e : firstOf (compareRows P base page buffer) ≡ 9 = compare-number P base page buffer ∙ rw (h, lt-ltb (length buffer) room k) in
     let d = compare-not P base page buffer 8 e in
     record { numbers = sym (d .0); bytes = sym (d .1) }
 
 -- with the page that the base stands for
-pub compare-with : (P : ℕ) (base present page buffer after : List ℕ) (answer : Compared) → pagesFit P base page ≡ true → room ≤ length buffer → pageOf P base ≡ present
+pub compare-with : (P : ℕ) (base present page buffer after : List ℕ) (answer : Compared) → pagesFit P base page ≡ true → room ≤ length buffer
+    → pageOf P base ≡ present
     → Compares present page buffer answer after → Compare P base page buffer answer after
 unfolding compareBuffer comparison written
 compare-with P base present page buffer after answer h k e a =

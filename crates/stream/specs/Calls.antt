@@ -59,7 +59,8 @@ abbrev refusedComparison : ℕ → ComparedNumbers
 refusedComparison n = record { number = n; kind = 0; length = 0; entries = 0; last = pos 0 }
 
 unfoldable pub compareNumbers : ℕ → List ℕ → List ℕ → List ℕ → ComparedNumbers
-compareNumbers P base page buffer = decided (firstOf (compareRows P base page buffer)) (comparison (diffs 0 (pageOf P base) page)) refusedComparison
+compareNumbers P base page buffer = decided (firstOf (compareRows P base page buffer)) (comparison (diffs 0 (pageOf P base) page))
+    refusedComparison
 
 -- "Only for patch is the payload written; later bytes of the buffer stay."
 unfoldable pub compareBuffer : ℕ → List ℕ → List ℕ → List ℕ → List ℕ
@@ -97,7 +98,8 @@ applyNumbers P base payload page =
     refusedApplication
 
 unfoldable pub applyPage : ℕ → List ℕ → List ℕ → List ℕ → List ℕ
-applyPage P base payload page = decided (firstOf (applyRows P base payload page)) (applied (pageOf P base) (payloadStream P payload)) (λ _. page)
+applyPage P base payload page = decided (firstOf (applyRows P base payload page)) (applied (pageOf P base) (payloadStream P payload))
+    (λ _. page)
 
 abbrev pub appliedNumbers : Applied → AppliedNumbers
 appliedNumbers (AppliedDone e l) = record { number = 0; entries = e; last = l }

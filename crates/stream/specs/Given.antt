@@ -8,15 +8,19 @@ use Rattle.layout.specs.Groups.{ordered}
 use Rattle.stream.specs.Calls.{compareRows, compareNumbers, AppliedNumbers, applyRows, applyNumbers}
 use Rattle.stream.specs.Kinds.{compare-gives}
 
-pub compare-exactly : (P : ℕ) (base page buffer : List ℕ) → Exactly (compareRows P base page buffer) (compareNumbers P base page buffer .number)
+pub compare-exactly : (P : ℕ) (base page buffer : List ℕ)
+    → Exactly (compareRows P base page buffer) (compareNumbers P base page buffer .number)
 unfolding compareRows ordered
 compare-exactly P base page buffer = exactly (compareRows P base page buffer) _ (compare-gives P base page buffer) (row (row no-row))
 
 -- the number that Apply gives is that of the first refusal
-pub apply-gives : (P : ℕ) (base payload page : List ℕ) → applyNumbers P base payload page .number ≡ firstOf (applyRows P base payload page)
+pub apply-gives : (P : ℕ) (base payload page : List ℕ)
+    → applyNumbers P base payload page .number ≡ firstOf (applyRows P base payload page)
 unfolding applyNumbers
-apply-gives P base payload page = decided-number (λ (x : AppliedNumbers). x .number) _ _ (firstOf (applyRows P base payload page)) refl (λ k. refl)
+apply-gives P base payload page = decided-number (λ (x : AppliedNumbers). x .number) _ _ (firstOf (applyRows P base payload page)) refl
+    (λ k. refl)
 
-pub apply-exactly : (P : ℕ) (base payload page : List ℕ) → Exactly (applyRows P base payload page) (applyNumbers P base payload page .number)
+pub apply-exactly : (P : ℕ) (base payload page : List ℕ)
+    → Exactly (applyRows P base payload page) (applyNumbers P base payload page .number)
 unfolding applyRows ordered
 apply-exactly P base payload page = exactly (applyRows P base payload page) _ (apply-gives P base payload page) (row (row no-row))

@@ -18,8 +18,10 @@ use Rattle.layout.specs.Refusals.{firstOf}
 use Rattle.layout.specs.RefusalLaws.{decided-number}
 use Rattle.payload.specs.Entries.{sound, entries, last}
 use Rattle.writer.specs.Differences.{Change, diffs, spelled, coded, written}
-use Rattle.stream.specs.Calls.{pageOf, pagesFit, kindFor, comparison, compareRows, compareNumbers, compareBuffer, ComparedNumbers, applyRows, applyNumbers, applyPage}
-use Rattle.stream.specs.Laws.{page-length, present-length, kind-none, kind-large, kind-patch, patch-fits, compare-number, compare-done, compare-written, apply-number, apply-done}
+use Rattle.stream.specs.Calls.{pageOf, pagesFit, kindFor, comparison, compareRows, compareNumbers, compareBuffer, ComparedNumbers}
+use Rattle.stream.specs.Calls.{applyRows, applyNumbers, applyPage}
+use Rattle.stream.specs.Laws.{page-length, present-length, kind-none, kind-large, kind-patch, patch-fits, compare-number}
+use Rattle.stream.specs.Laws.{compare-done, compare-written, apply-number, apply-done}
 use Rattle.writer.specs.ReadBack.{Back, read-back}
 
 -- By the stream
@@ -28,7 +30,11 @@ diffs-none : (q : ℕ) (xs : List ℕ) → diffs q xs xs ≡ []
 unfolding diffs
 diffs-none q [] = refl
 diffs-none q (x ∷ xs) =
-    ap (λ (t : Bool). elim t as (λ _. List Change) [ true ↦ diffs (q + 1) xs xs | false ↦ record { place = q; value = x } ∷ diffs (q + 1) xs xs ]) (eq-eqb x x refl)
+    ap (λ (t : Bool). elim t as (λ _. List Change) [
+      | true ↦ diffs (q + 1) xs xs
+      | false ↦ record { place = q; value = x }
+          ∷ diffs (q + 1) xs xs
+    ]) (eq-eqb x x refl)
     ∙ diffs-none (q + 1) xs
 
 none-same : (q : ℕ) (xs ys : List ℕ) → length xs ≡ length ys → length (diffs q xs ys) ≡ 0 → xs ≡ ys
@@ -39,7 +45,11 @@ none-same q (x ∷ xs) [] e h = absurd (omega arith)
 none-same q (x ∷ xs) (y ∷ ys) e h = go (eqb x y) refl (none-same (q + 1) xs ys (omega arith)) h
   where
     go : (t : Bool) → eqb x y ≡ t → (length (diffs (q + 1) xs ys) ≡ 0 → xs ≡ ys)
-        → length {A = Change} (elim t as (λ _. List Change) [ true ↦ diffs (q + 1) xs ys | false ↦ record { place = q; value = y } ∷ diffs (q + 1) xs ys ]) ≡ 0
+        → length {A = Change} (elim t as (λ _. List Change) [
+          | true ↦ diffs (q + 1) xs ys
+          | false ↦ record { place = q; value = y }
+              ∷ diffs (q + 1) xs ys
+        ]) ≡ 0
         → x ∷ xs ≡ y ∷ ys
     go true k rest m = λ i. eqb-true x y k i ∷ rest m i
     go false k rest m = absurd (omega arith)
@@ -50,7 +60,8 @@ unfolding coded spelled le
 coded-none [] next h = refl
 coded-none (c ∷ cs) next h = go (ltb (c .place - next) 255) h
   where
-    go : (t : Bool) → length (cond t ((c .place - next) ∷ c .value ∷ []) (255 ∷ (le 2 (c .place - next) ++ (c .value ∷ []))) ++ coded (c .place + 1) cs) ≡ 0
+    go : (t : Bool) → length (cond t ((c .place - next) ∷ c .value ∷ []) (255 ∷ (le 2 (c .place - next) ++ (c .value ∷ [])))
+        ++ coded (c .place + 1) cs) ≡ 0
         → suc (length cs) ≡ 0
     go true k = absurd (omega arith)
     go false k = absurd (omega arith)
@@ -122,7 +133,11 @@ module _ (P : ℕ) (base page buffer : List ℕ) where
       where
         go : (t : Bool) → pagesFit P base page ≡ t → t ≡ true
         go true e = refl
-        go false e = absurd (omega (arith, sym accepted ∙ compare-number P base page buffer ∙ ap (λ (t : Bool). cond t (cond (ltb (length buffer) room) 9 0) 1) e))
+        go false e = absurd (omega (
+          arith,
+          sym accepted ∙ compare-number P base page buffer
+              ∙ ap (λ (t : Bool). cond t (cond (ltb (length buffer) room) 9 0) 1) e,
+        ))
 
     pub accepted-room : room ≤ length buffer
     accepted-room = go (ltb (length buffer) room) refl
@@ -157,10 +172,12 @@ module _ (P : ℕ) (base page buffer : List ℕ) where
     pub compare-same : (compareNumbers P base page buffer .kind ≡ 0) ↔ (pageOf P base ≡ page)
     compare-same =
         let s : (length (written (pageOf P base) page) ≡ 0) ↔ (pageOf P base ≡ page) = same-iff (pageOf P base) page base-is in
-        let k : (kindFor (length (written (pageOf P base) page)) ≡ 0) ↔ (length (written (pageOf P base) page) ≡ 0) = kind-0 (length (written (pageOf P base) page)) in
+        let k : (kindFor (length (written (pageOf P base) page)) ≡ 0) ↔ (length (written (pageOf P base) page) ≡ 0) = kind-0
+        (length (written (pageOf P base) page)) in
         (λ e. s .0 (k .0 (sym compare-kind ∙ e)), λ e. compare-kind ∙ k .1 (s .1 e))
 
-    pub compare-patch : (compareNumbers P base page buffer .kind ≡ 1) ↔ ((1 ≤ length (written (pageOf P base) page)) × (length (written (pageOf P base) page) ≤ room))
+    pub compare-patch : (compareNumbers P base page buffer .kind ≡ 1)
+        ↔ ((1 ≤ length (written (pageOf P base) page)) × (length (written (pageOf P base) page) ≤ room))
     compare-patch =
         let k = kind-1 (length (written (pageOf P base) page)) in
         (λ e. k .0 (sym compare-kind ∙ e), λ e. compare-kind ∙ k .1 e)
@@ -191,7 +208,12 @@ module _ (P : ℕ) (base page buffer : List ℕ) where
         let d = apply-done P base w lent a in (
           ap (λ (x : List ℕ). applyNumbers P base x lent) t
               ∙ d .0
-              ∙ (λ i. record { number = 0; entries = (b .entries ∙ sym (ap (λ (x : ComparedNumbers). x .entries) numbers)) i; last = (b .last ∙ sym (ap (λ (x : ComparedNumbers). x .last) numbers)) i }),
+              ∙ (λ i. record {
+                number = 0;
+                entries = (b .entries ∙ sym (ap (λ (x : ComparedNumbers). x .entries) numbers)) i;
+                last =
+                    (b .last ∙ sym (ap (λ (x : ComparedNumbers). x .last) numbers)) i;
+              }),
           ap (λ (x : List ℕ). applyPage P base x lent) t ∙ d .1 ∙ b .page,
         )
       where

@@ -1,5 +1,6 @@
 -- What a payload does, the writer's or not: where entries spell it and stay in the page, Apply counts those entries, the last of them
--- gives the last position, and each value lands at its entry's place. What is said of the entries shares nothing with the reader's definition.
+-- gives the last position, and each value lands at its entry's place. What is said of the entries shares nothing with the reader's
+-- definition.
 use Prim.Native.Nat.{ℕ, suc, _+_, _/_, _%_, _≤_}
 use native.Mathlib.Omega.{arith}
 use mathlib.Core.Path.{_≡_, refl, sym, ap, _∙_, subst}
@@ -17,7 +18,8 @@ use Rattle.stream.specs.Calls.{pageOf, pagesFit, appliedNumbers, Apply}
 use Rattle.writer.specs.Steps.{before}
 use Rattle.stream.specs.Laws.{pages-fit, present-length, apply-number, apply-done, apply-not}
 use Rattle.payload.specs.EntryLaws.{short-in, long-in}
-use Rattle.payload.specs.Spelling.{Form, short, long, Spelt, takes, bytes, joined, Coded, Inside, Stays, Spelled, Bytes, inside-page, two-bytes, spelled-sound, sound-spelled}
+use Rattle.payload.specs.Spelling.{Form, short, long, Spelt, takes, bytes, joined, Coded, Inside, Stays, Spelled, Bytes, inside-page}
+use Rattle.payload.specs.Spelling.{two-bytes, spelled-sound, sound-spelled}
 use Rattle.writer.specs.Writer.{In, Rising, Below, placed}
 use Rattle.writer.specs.ReadBack.{before-next, moved, pokes}
 use Rattle.stream.specs.Only.{applied-one}
@@ -49,7 +51,8 @@ pub record Lands (next : ℕ) (es : List Spelt) (s : Stream) : Type 0 where
   pub last : (p : ℤ) → last p s ≡ lastPlace p (placed next es)
   pub page : (base : List ℕ) → applied base s ≡ pokes base (placed next es)
 
-one-more : (next w : ℕ) (e : Spelt) (es : List Spelt) (s : Stream) → Lands (next + e .jump + 1) es s → Lands next (e ∷ es) (entry w (pos (next + e .jump)) (e .value) s)
+one-more : (next w : ℕ) (e : Spelt) (es : List Spelt) (s : Stream) → Lands (next + e .jump + 1) es s
+    → Lands next (e ∷ es) (entry w (pos (next + e .jump)) (e .value) s)
 unfolding entries last lastPlace applied put
 one-more next w e es s l = record {
   count = ap suc (l .count);
@@ -57,7 +60,8 @@ one-more next w e es s l = record {
   page = λ base. l .page (set base (next + e .jump) (e .value));
 }
 
-pub lands : (n : ℕ) (es : List Spelt) (next : ℕ) → Coded es → Stays n (before next) es → Lands next es (stream n (before next) code (joined es))
+pub lands : (n : ℕ) (es : List Spelt) (next : ℕ) → Coded es → Stays n (before next) es
+    → Lands next es (stream n (before next) code (joined es))
 unfolding entries last lastPlace applied stream le
 lands n [] next c s = record { count = refl; last = λ p. refl; page = λ base. refl }
 lands n (e ∷ es) next c s =
@@ -73,13 +77,15 @@ lands n (e ∷ es) next c s =
         → Lands next (e ∷ es) (entry w (before next +ℤ pos (j + 1)) (e .value) (stream n (before next +ℤ pos (j + 1)) code (joined es)))
     at w l =
         let rest : Stream = stream n (before next +ℤ pos (j + 1)) code (joined es) in
-        let l′ : Lands (next + j + 1) es rest = subst (λ (z : ℤ). Lands (next + j + 1) es (stream n z code (joined es))) (sym (lands-at next j)) l in
+        let l′ : Lands (next + j + 1) es rest = subst (λ (z : ℤ). Lands (next + j + 1) es (stream n z code (joined es)))
+        (sym (lands-at next j)) l in
         subst (λ (z : ℤ). Lands next (e ∷ es) (entry w z (e .value) rest)) (sym (moved next j)) (one-more next w e es rest l′)
 
     go : (f : Form) → takes f j → Lands (next + j + 1) es (stream n (before (next + j + 1)) code (joined es))
         → Lands next (e ∷ es) (stream n (before next) code (bytes f j (e .value) ++ joined es))
     go short t l =
-        subst (λ (x : Stream). Lands next (e ∷ es) x) (sym (short-in n (before next) j (e .value) (joined es) (λ q. omega arith) inp)) (at 2 l)
+        subst (λ (x : Stream). Lands next (e ∷ es) x) (sym (short-in n (before next) j (e .value) (joined es) (λ q. omega arith) inp))
+        (at 2 l)
     go long t l =
         subst (λ (x : Stream). Lands next (e ∷ es) x)
         (sym (long-in n (before next) (j % 256) (j / 256 % 256) (e .value) j (joined es) (two-bytes j t) inp)) (at 4 l)
@@ -96,7 +102,8 @@ pokes-length [] base = refl
 pokes-length (c ∷ cs) base = pokes-length cs (set base (c .place) (c .value)) ∙ length-set base (c .place) (c .value)
 
 -- a place that no change names keeps its byte
-pokes-others : (cs : List Change) (base : List ℕ) (i : ℕ) → ((c : Change) → In c cs → c .place ≡ i → ⊥) → getD (pokes base cs) i 0 ≡ getD base i 0
+pokes-others : (cs : List Change) (base : List ℕ) (i : ℕ) → ((c : Change) → In c cs → c .place ≡ i → ⊥)
+    → getD (pokes base cs) i 0 ≡ getD base i 0
 pokes-others [] base i h = refl
 pokes-others (c ∷ cs) base i h =
     pokes-others cs (set base (c .place) (c .value)) i (λ d m. h d (inr m))
@@ -161,22 +168,27 @@ module _ (P : ℕ) (base payload page : List ℕ) (answer : Applied) (after : Li
         named =
             λ c m.
             ap (λ (x : List ℕ). getD x (c .place) 0) q
-            ∙ pokes-named (placed 0 es) (pageOf P base) 0 c (placed-rising es 0) (subst (λ (n : ℕ). Below n (placed 0 es)) (sym k) (placed-below P es 0 (w .stays))) m;
+            ∙ pokes-named (placed 0 es) (pageOf P base) 0 c (placed-rising es 0)
+            (subst (λ (n : ℕ). Below n (placed 0 es)) (sym k) (placed-below P es 0 (w .stays))) m;
         others = λ i h. ap (λ (x : List ℕ). getD x i 0) q ∙ pokes-others (placed 0 es) (pageOf P base) i h;
         size = ap (λ (x : List ℕ). length x) q ∙ pokes-length (placed 0 es) (pageOf P base) ∙ k;
       }
 
   -- and 7 where no entries spell it
-  pub apply-seven : Bytes payload → (answer ≡ Refused Payload) ↔ ((1 ≤ length payload) × (length payload ≤ room) × Spelled P start payload → ⊥)
+  pub apply-seven : Bytes payload → (answer ≡ Refused Payload) ↔ ((1 ≤ length payload) × (length payload ≤ room) × Spelled P start payload
+      → ⊥)
   apply-seven h = (
     λ e s.
-        let z : Done (length (s .2 .entries)) (lastPlace start (placed 0 (s .2 .entries))) ≡ Refused Payload = sym (apply-lands (s .0) (s .1) (s .2) .numbers) ∙ e in
+        let z : Done (length (s .2 .entries)) (lastPlace start (placed 0 (s .2 .entries)))
+        ≡ Refused Payload = sym (apply-lands (s .0) (s .1) (s .2) .numbers) ∙ e in
         let k : _≡_ {A = ℕ} 0 7 = ap (λ (a : Applied). appliedNumbers a .number) z in
         omega arith,
     λ n. go (sound P payload) refl n,
   )
     where
-      go : (t : Bool) → sound P payload ≡ t → ((1 ≤ length payload) × (length payload ≤ room) × Spelled P start payload → ⊥) → answer ≡ Refused Payload
+      go : (t : Bool) → sound P payload ≡ t → ((1 ≤ length payload) × (length payload ≤ room) × Spelled P start payload → ⊥)
+          → answer ≡ Refused Payload
       go true e n = absurd (n (sound-spelled P payload h .0 e))
       go false e n =
-          applied-one answer (Refused Payload) (call .numbers ∙ apply-not P base payload page 6 (apply-number P base payload page ∙ rw (fit, e)) .0)
+          applied-one answer (Refused Payload) (call .numbers
+          ∙ apply-not P base payload page 6 (apply-number P base payload page ∙ rw (fit, e)) .0)

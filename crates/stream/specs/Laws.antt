@@ -18,14 +18,16 @@ use Rattle.layout.specs.RefusalLaws.{decided-done, decided-refused}
 use Rattle.layout.specs.Groups.{ordered}
 use Rattle.payload.specs.Entries.{payloadStream, sound, entries, last, start, applied}
 use Rattle.writer.specs.Differences.{diffs, coded}
-use Rattle.stream.specs.Calls.{pageOf, pagesFit, kindFor, compareRows, comparison, compareNumbers, compareBuffer, ComparedNumbers, applyRows, applyNumbers, applyPage}
+use Rattle.stream.specs.Calls.{pageOf, pagesFit, kindFor, compareRows, comparison, compareNumbers, compareBuffer, ComparedNumbers}
+use Rattle.stream.specs.Calls.{applyRows, applyNumbers, applyPage}
 
 -- Pages
 
 pub fits-other : (P : ℕ) (base page : List ℕ) → (length page ≡ P → ⊥) → pagesFit P base page ≡ false
 unfolding pagesFit
 fits-other P base page h =
-    ap (λ (t : Bool). (eqb (length base) 0 || eqb (length base) P) && t) (ne-eqb (length page) P h) ∙ and-false (eqb (length base) 0 || eqb (length base) P)
+    ap (λ (t : Bool). (eqb (length base) 0 || eqb (length base) P) && t) (ne-eqb (length page) P h)
+    ∙ and-false (eqb (length base) 0 || eqb (length base) P)
 
 pub fits-none : (P : ℕ) (base page : List ℕ) → length page ≡ P → length base ≡ 0 → pagesFit P base page ≡ true
 unfolding pagesFit
@@ -33,7 +35,8 @@ fits-none P base page h k = rw (eq-eqb (length base) 0 k, eq-eqb (length page) P
 
 pub fits-some : (P : ℕ) (base page : List ℕ) → length page ≡ P → (length base ≡ 0 → ⊥) → pagesFit P base page ≡ eqb (length base) P
 unfolding pagesFit
-fits-some P base page h k = rw (ne-eqb (length base) 0 k) (ap (λ (t : Bool). eqb (length base) P && t) (eq-eqb (length page) P h) ∙ and-true (eqb (length base) P))
+fits-some P base page h k = rw (ne-eqb (length base) 0 k) (ap (λ (t : Bool). eqb (length base) P && t) (eq-eqb (length page) P h)
+    ∙ and-true (eqb (length base) P))
 
 pub pages-fit : (P : ℕ) (base page : List ℕ) → (length base ≡ 0) ⊎ (length base ≡ P) → length page ≡ P → pagesFit P base page ≡ true
 unfolding pagesFit
@@ -92,10 +95,15 @@ module _ (P : ℕ) (base payload page : List ℕ) where
       go false s = refl
 
   pub apply-done : firstOf (applyRows P base payload page) ≡ 0
-      → (applyNumbers P base payload page ≡ record { number = 0; entries = entries (payloadStream P payload); last = last start (payloadStream P payload) })
+      → (applyNumbers P base payload page
+      ≡ record { number = 0; entries = entries (payloadStream P payload); last = last start (payloadStream P payload) })
       × (applyPage P base payload page ≡ applied (pageOf P base) (payloadStream P payload))
   unfolding applyNumbers applyPage
-  apply-done e = (decided-done _ _ (firstOf (applyRows P base payload page)) e, decided-done _ _ (firstOf (applyRows P base payload page)) e)
+  apply-done e = (
+    decided-done _ _ (firstOf (applyRows P base payload page)) e,
+    decided-done _ _ (firstOf (applyRows P base payload page))
+        e,
+  )
 
   pub apply-not : (m : ℕ) → firstOf (applyRows P base payload page) ≡ suc m
       → (applyNumbers P base payload page ≡ record { number = suc m; entries = 0; last = pos 0 }) × (applyPage P base payload page ≡ page)
@@ -141,12 +149,14 @@ module _ (P : ℕ) (base page buffer : List ℕ) where
       go true false = refl
       go false s = refl
 
-  pub compare-done : firstOf (compareRows P base page buffer) ≡ 0 → compareNumbers P base page buffer ≡ comparison (diffs 0 (pageOf P base) page)
+  pub compare-done : firstOf (compareRows P base page buffer) ≡ 0
+      → compareNumbers P base page buffer ≡ comparison (diffs 0 (pageOf P base) page)
   unfolding compareNumbers
   compare-done e = decided-done _ _ (firstOf (compareRows P base page buffer)) e
 
   pub compare-not : (m : ℕ) → firstOf (compareRows P base page buffer) ≡ suc m
-      → (compareNumbers P base page buffer ≡ record { number = suc m; kind = 0; length = 0; entries = 0; last = pos 0 }) × (compareBuffer P base page buffer ≡ buffer)
+      → (compareNumbers P base page buffer ≡ record { number = suc m; kind = 0; length = 0; entries = 0; last = pos 0 })
+      × (compareBuffer P base page buffer ≡ buffer)
   unfolding compareNumbers compareBuffer
   compare-not m e =
       let f : compareNumbers P base page buffer ≡ record { number = suc m; kind = 0; length = 0; entries = 0; last = pos 0 } =
@@ -156,8 +166,10 @@ module _ (P : ℕ) (base page buffer : List ℕ) where
   -- by the kind, where nothing is refused
   pub compare-kept : (k : ℕ) → compareNumbers P base page buffer .kind ≡ k → (k ≡ 1 → ⊥) → compareBuffer P base page buffer ≡ buffer
   unfolding compareBuffer
-  compare-kept k e h = ap (λ (t : ℕ). cond (eqb t 1) (splice buffer 0 (coded 0 (diffs 0 (pageOf P base) page))) buffer) e ∙ rw (ne-eqb k 1 h)
+  compare-kept k e h = ap (λ (t : ℕ). cond (eqb t 1) (splice buffer 0 (coded 0 (diffs 0 (pageOf P base) page))) buffer) e
+      ∙ rw (ne-eqb k 1 h)
 
-  pub compare-written : compareNumbers P base page buffer .kind ≡ 1 → compareBuffer P base page buffer ≡ splice buffer 0 (coded 0 (diffs 0 (pageOf P base) page))
+  pub compare-written : compareNumbers P base page buffer .kind ≡ 1
+      → compareBuffer P base page buffer ≡ splice buffer 0 (coded 0 (diffs 0 (pageOf P base) page))
   unfolding compareBuffer
   compare-written e = ap (λ (t : ℕ). cond (eqb t 1) (splice buffer 0 (coded 0 (diffs 0 (pageOf P base) page))) buffer) e

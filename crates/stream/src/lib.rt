@@ -106,7 +106,8 @@ pub fn compare(base: &[u8], page: &[u8], payload: &mut [u8]) -> Compared
 // Apply to a base that is there, copied as far as it and the page go. The whole payload is checked before the page's first byte is
 // written.
 pub fn apply_to(base: &[u8], payload: &[u8], page: &mut [u8]) -> Applied
-    ensures { λ r. ⌜ Applies (reach (lengthOf (now (page .entry)))) (now (base .entry)) (now (payload .entry)) (now (page .entry)) r (now (page .exit)) ⌝ }
+    ensures { λ r. ⌜ Applies (reach (lengthOf (now (page .entry)))) (now (base .entry)) (now (payload .entry)) (now (page .entry)) r
+        (now (page .exit)) ⌝ }
 {
     match payload::check(payload, page.len()) {
         Checked::Unsound => Applied::Refused(Refusal::Payload),

@@ -65,7 +65,8 @@ module _ (base page : List ℕ) (at : ℕ) (l : at < length base) (m : at < leng
   rest-other d = rest-at ∙ ap listed (ne-eqb (getD base at 0) (getD page at 0) d)
 
 -- equal bytes list none
-rest-skip : (base page : List ℕ) (k from : ℕ) → from + k ≤ length base → from + k ≤ length page → Same base page from (from + k) → rest base page from ≡ rest base page (from + k)
+rest-skip : (base page : List ℕ) (k from : ℕ) → from + k ≤ length base → from + k ≤ length page → Same base page from (from + k)
+    → rest base page from ≡ rest base page (from + k)
 unfolding Same
 rest-skip base page zero from l m s =
     let q : from + 0 ≡ from = omega arith in
@@ -168,7 +169,8 @@ passed-near base page (suc k) last from r q o n e w =
         (λ f.
         let j : r - 1 ≡ from = omega arith in
         absurd (i .2 (ap (λ (x : ℕ). getD base x 0) j ∙ alike ∙ ap (λ (x : ℕ). getD page x 0) (sym j)))) in
-        let x : length (coded last (rest base page from)) ≡ length (coded last (rest base page (from + 1))) = ap (λ (ds : List Change). length (coded last ds)) s in
+        let x : length (coded last (rest base page from)) ≡ length (coded last (rest base page (from + 1))) =
+        ap (λ (ds : List Change). length (coded last ds)) s in
         let y : length (rest base page from) ≡ length (rest base page (from + 1)) = ap (λ (ds : List Change). length ds) s in
         record {
           size = omega (arith, p .size);
@@ -179,7 +181,8 @@ passed-near base page (suc k) last from r q o n e w =
         let unlike : getD base from 0 ≡ getD page from 0 → ⊥ = eqb-false (getD base from 0) (getD page from 0) t in
         let one : differsAt base page from ≡ 1 = unlike-at base page from unlike in
         let two : widthOf (from - last) ≡ 2 = width-short (from - last) 0 (omega arith) in
-        let d : Passed base page last from (widthOf (from - last)) 1 (from + 1) = passed-one base page last from from (rest-other base page from (omega arith) (omega arith) unlike) in
+        let d : Passed base page last from (widthOf (from - last)) 1 (from + 1) = passed-one base page last from from
+        (rest-other base page from (omega arith) (omega arith) unlike) in
         record {
           size = omega (arith, d .size, here .size);
           many = omega (arith, d .many, here .many);
@@ -200,7 +203,8 @@ counted-none base page = record {
 }
 
 module _ (base page : List ℕ) (next used count : ℕ) (w : Counted base page next used count) where
-  counted-on : (r b c used′ count′ : ℕ) → Passed base page next next b c r → r ≤ length page → next + c ≤ r → b + 2 * next ≤ 2 * r → used′ ≡ used + b → count′ ≡ count + c
+  counted-on : (r b c used′ count′ : ℕ) → Passed base page next next b c r → r ≤ length page → next + c ≤ r → b + 2 * next ≤ 2 * r → used′ ≡ used + b
+      → count′ ≡ count + c
       → Counted base page r used′ count′
   counted-on r b c used′ count′ p o f g u n = record {
     on = o;
@@ -215,10 +219,12 @@ module _ (base page : List ℕ) (next used count : ℕ) (w : Counted base page n
     pub counted-more : (used′ : ℕ) → at < length base → at < length page → used′ ≡ used + widthOf (at - next) → Counted base page (at + 1) used′ (count + 1)
     counted-more used′ l m u =
         let o : next ≤ at = at-on base page next at e in
-        counted-on (at + 1) (widthOf (at - next)) 1 used′ (count + 1) (passed-one base page next next at (rest-more base page next at e l m)) (omega arith) (omega arith)
+        counted-on (at + 1) (widthOf (at - next)) 1 used′ (count + 1) (passed-one base page next next at (rest-more base page next at e l m)) (omega arith)
+        (omega arith)
         (omega (arith, width-most (at - next))) u refl
 
-    pub counted-all : (d : Difference) → (length base ≤ at) ⊎ (length page ≤ at) → (d .length ≡ used) × (d .entries ≡ count) × (d .last ≡ before next) → Numbers base page d
+    pub counted-all : (d : Difference) → (length base ≤ at) ⊎ (length page ≤ at) → (d .length ≡ used) × (d .entries ≡ count) × (d .last ≡ before next)
+        → Numbers base page d
     unfolding coded lastPlace
     counted-all d k f =
         let r : rest base page next ≡ [] = rest-ends base page next at e k in
@@ -248,8 +254,10 @@ counted-near base page next used count w c m used′ count′ u n =
     counted-on base page next used count w (c .next) (2 * some) some used′ count′ p on (omega arith) (omega arith) (omega arith) (omega arith)
 
 -- a difference, and those that stand close after it
-pub counted-cluster : (base page : List ℕ) (next used count : ℕ) → Counted base page next used count → (at : ℕ) → at ≡ nextDiff base page next → at < length base → at < length page
-    → (c : Cluster) → Clusters base page (at + 1) c → (width : ℕ) → width ≡ widthOf (at - next) → Counted base page (c .next) (used + (width + 2 * c .count)) (count + (1 + c .count))
+pub counted-cluster : (base page : List ℕ) (next used count : ℕ) → Counted base page next used count → (at : ℕ) → at ≡ nextDiff base page next
+    → at < length base → at < length page
+    → (c : Cluster) → Clusters base page (at + 1) c → (width : ℕ) → width ≡ widthOf (at - next)
+    → Counted base page (c .next) (used + (width + 2 * c .count)) (count + (1 + c .count))
 counted-cluster base page next used count w at e l m c p width f =
     counted-near base page (at + 1) (used + width) (count + 1) (counted-more base page next used count w at e (used + width) l m (omega arith)) c p
     (used + (width + 2 * c .count)) (count + (1 + c .count)) (omega arith) (omega arith)

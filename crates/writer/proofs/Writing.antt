@@ -34,14 +34,16 @@ before-read n h = ap (λ (z : ℤ). z -ℤ pos 1) (toZ-pos w32 n (omega arith))
 
 -- One entry
 
-pub put-short : (room a b : List ℕ) (used jump v : ℕ) → jump < 255 → a ≡ set room used jump → b ≡ set a (used + 1) v → Put room used (spelled jump v) (used + 2) b
+pub put-short : (room a b : List ℕ) (used jump v : ℕ) → jump < 255 → a ≡ set room used jump → b ≡ set a (used + 1) v
+    → Put room used (spelled jump v) (used + 2) b
 unfolding spelled
 put-short room a b used jump v h e f =
     let s : spelled jump v ≡ jump ∷ v ∷ [] = ap (λ (t : Bool). cond t (jump ∷ v ∷ []) (255 ∷ (le 2 jump ++ (v ∷ [])))) (lt-ltb jump 255 h) in
     subst (λ (ys : List ℕ). Put room used ys (used + 2) b) (sym s)
     (record { next = refl; bytes = f ∙ ap (λ (l : List ℕ). set l (used + 1) v) e ∙ ap (λ (k : ℕ). set (set room used jump) k v) (add-one used) })
 
-pub put-long : (room a b d g : List ℕ) (used jump v : ℕ) → 255 ≤ jump → a ≡ set room used 255 → b ≡ set a (used + 1) (jump % 256) → d ≡ set b (used + 2) (jump / 256 % 256)
+pub put-long : (room a b d g : List ℕ) (used jump v : ℕ) → 255 ≤ jump → a ≡ set room used 255 → b ≡ set a (used + 1) (jump % 256)
+    → d ≡ set b (used + 2) (jump / 256 % 256)
     → g ≡ set d (used + 3) v → Put room used (spelled jump v) (used + 4) g
 unfolding spelled le
 put-long room a b d g used jump v h e₁ e₂ e₃ e₄ =
@@ -148,7 +150,8 @@ module _ (base page room₀ room : List ℕ) (next used count : ℕ) (w : Writte
           bytes = b;
         }
 
-    pub written-all : (d : Difference) → (length base ≤ at) ⊎ (length page ≤ at) → (d .length ≡ used) × (d .entries ≡ count) × (d .last ≡ before next) → Differs base page room₀ d room
+    pub written-all : (d : Difference) → (length base ≤ at) ⊎ (length page ≤ at) → (d .length ≡ used) × (d .entries ≡ count) × (d .last ≡ before next)
+        → Differs base page room₀ d room
     unfolding coded
     written-all d k f =
         let r : rest base page next ≡ [] = rest-ends base page next at e k in

@@ -11,7 +11,8 @@ use lib.IntN.{ℤ, pos, _+ℤ_}
 use borrow.Author.Tests.{eqb-true, ltb-true, le-ltb, lt-ltb}
 use Rattle.layout.specs.Sizes.{room}
 use Rattle.layout.specs.Numbers.{le}
-use Rattle.payload.specs.Entries.{Stream, done, entry, code, inPage, stream, start, payloadStream, whole, sound, entries, last, put, applied}
+use Rattle.payload.specs.Entries.{Stream, done, entry, code, inPage, stream, start, payloadStream, whole, sound, entries, last, put}
+use Rattle.payload.specs.Entries.{applied}
 use Rattle.writer.specs.Differences.{Change, diffs, spelled, coded, written, lastPlace}
 use Rattle.writer.specs.Steps.{before}
 use Rattle.payload.specs.EntryLaws.{short-in, long-in, parts-sound}
@@ -38,7 +39,8 @@ abbrev pub entered : ℕ → List Change → Stream
 entered next [] = done
 entered next (c ∷ cs) = entry (length (spelled (c .place - next) (c .value))) (pos (c .place)) (c .value) (entered (c .place + 1) cs)
 
-pub read-coded : (n : ℕ) (ds : List Change) (next : ℕ) → n ≤ 65536 → Rising next ds → Below n ds → stream n (before next) code (coded next ds) ≡ entered next ds
+pub read-coded : (n : ℕ) (ds : List Change) (next : ℕ) → n ≤ 65536 → Rising next ds → Below n ds
+    → stream n (before next) code (coded next ds) ≡ entered next ds
 unfolding coded spelled stream inPage le
 read-coded n [] next h r b = refl
 read-coded n (c ∷ cs) next h r b = go (ltb j 255) refl (read-coded n cs (c .place + 1) h (r .1) (b .1))
@@ -55,7 +57,8 @@ read-coded n (c ∷ cs) next h r b = go (ltb j 255) refl (read-coded n cs (c .pl
     inside = ap (λ (z : ℤ). inPage n z) at ∙ lt-ltb (c .place) n (b .0)
 
     on : stream n (before (c .place + 1)) code (coded (c .place + 1) cs) ≡ entered (c .place + 1) cs
-        → (w : ℕ) → entry w (before next +ℤ pos (j + 1)) (c .value) (stream n (before next +ℤ pos (j + 1)) code (coded (c .place + 1) cs)) ≡ entry w (pos (c .place)) (c .value) (entered (c .place + 1) cs)
+        → (w : ℕ) → entry w (before next +ℤ pos (j + 1)) (c .value) (stream n (before next +ℤ pos (j + 1)) code (coded (c .place + 1) cs))
+        ≡ entry w (pos (c .place)) (c .value) (entered (c .place + 1) cs)
     on rest w =
         ap (λ (z : ℤ). entry w z (c .value) (stream n z code (coded (c .place + 1) cs))) at
         ∙ ap (λ (z : ℤ). entry w (pos (c .place)) (c .value) (stream n z code (coded (c .place + 1) cs))) (sym (before-next (c .place)))
@@ -63,7 +66,8 @@ read-coded n (c ∷ cs) next h r b = go (ltb j 255) refl (read-coded n cs (c .pl
 
     go : (t : Bool) → ltb j 255 ≡ t → stream n (before (c .place + 1)) code (coded (c .place + 1) cs) ≡ entered (c .place + 1) cs
         → stream n (before next) code (cond t (j ∷ c .value ∷ []) (255 ∷ (le 2 j ++ (c .value ∷ []))) ++ coded (c .place + 1) cs)
-        ≡ entry (length (cond t (j ∷ c .value ∷ []) (255 ∷ (le 2 j ++ (c .value ∷ []))))) (pos (c .place)) (c .value) (entered (c .place + 1) cs)
+        ≡ entry (length (cond t (j ∷ c .value ∷ []) (255 ∷ (le 2 j ++ (c .value ∷ []))))) (pos (c .place)) (c .value)
+        (entered (c .place + 1) cs)
     go true e rest =
         let k : j < 255 = ltb-true j 255 e in
         short-in n (before next) j (c .value) (coded (c .place + 1) cs) (λ q. omega arith) inside ∙ on rest 2
@@ -106,11 +110,16 @@ pokes-diffs q pre (x ∷ xs) (y ∷ ys) e f =
     go (eqb x y) refl
     (λ z. pokes-diffs (q + 1) (pre ++ (z ∷ [])) xs ys (length-append pre (z ∷ []) ∙ ap (λ (k : ℕ). k + 1) e) (omega arith))
   where
-    one : (z : ℕ) → pokes ((pre ++ (z ∷ [])) ++ xs) (diffs (q + 1) xs ys) ≡ (pre ++ (z ∷ [])) ++ ys → pokes (pre ++ (z ∷ xs)) (diffs (q + 1) xs ys) ≡ pre ++ (z ∷ ys)
+    one : (z : ℕ) → pokes ((pre ++ (z ∷ [])) ++ xs) (diffs (q + 1) xs ys) ≡ (pre ++ (z ∷ [])) ++ ys
+        → pokes (pre ++ (z ∷ xs)) (diffs (q + 1) xs ys) ≡ pre ++ (z ∷ ys)
     one z r = ap (λ (l : List ℕ). pokes l (diffs (q + 1) xs ys)) (sym (append-assoc pre (z ∷ []) xs)) ∙ r ∙ append-assoc pre (z ∷ []) ys
 
     go : (t : Bool) → eqb x y ≡ t → ((z : ℕ) → pokes ((pre ++ (z ∷ [])) ++ xs) (diffs (q + 1) xs ys) ≡ (pre ++ (z ∷ [])) ++ ys)
-        → pokes (pre ++ (x ∷ xs)) (elim t as (λ _. List Change) [ true ↦ diffs (q + 1) xs ys | false ↦ record { place = q; value = y } ∷ diffs (q + 1) xs ys ]) ≡ pre ++ (y ∷ ys)
+        → pokes (pre ++ (x ∷ xs)) (elim t as (λ _. List Change) [
+          | true ↦ diffs (q + 1) xs ys
+          | false ↦ record { place = q; value = y }
+              ∷ diffs (q + 1) xs ys
+        ]) ≡ pre ++ (y ∷ ys)
     go true k r = one x (r x) ∙ ap (λ (z : ℕ). pre ++ (z ∷ ys)) (eqb-true x y k)
     go false k r = ap (λ (l : List ℕ). pokes l (diffs (q + 1) xs ys)) (set-at pre x xs y q e) ∙ one y (r y)
 

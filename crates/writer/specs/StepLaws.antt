@@ -17,11 +17,13 @@ pub near-is : (page : List ℕ) → length page ≤ farthest → near page ≡ p
 unfolding part
 near-is page h = take-all farthest page h
 
-pub differs-near : (base page room₀ after : List ℕ) (d : Difference) → length page ≤ farthest → Differs base (near page) room₀ d after → Differs base page room₀ d after
+pub differs-near : (base page room₀ after : List ℕ) (d : Difference) → length page ≤ farthest → Differs base (near page) room₀ d after
+    → Differs base page room₀ d after
 differs-near base page room₀ after d h w = subst (λ (l : List ℕ). Differs base l room₀ d after) (near-is page h) w
 
 -- where there is room for the whole stream, it is there
-pub differs-fits : (base page room₀ after : List ℕ) (d : Difference) → Differs base page room₀ d after → d .length ≤ length room₀ → after ≡ splice room₀ 0 (written base page)
+pub differs-fits : (base page room₀ after : List ℕ) (d : Difference) → Differs base page room₀ d after → d .length ≤ length room₀
+    → after ≡ splice room₀ 0 (written base page)
 differs-fits base page room₀ after d w h =
     let e : d .length ≡ length (written base page) = w .numbers .length in
     w .bytes ∙ ap (λ (l : List ℕ). splice room₀ 0 l) (take-all (length room₀) (written base page) (omega arith))

@@ -47,7 +47,11 @@ diffs-rising q (x ∷ xs) (y ∷ ys) = go (eqb x y) (diffs-rising (q + 1) xs ys)
     lower (c ∷ cs) r = (omega (arith, r .0), r .1)
 
     go : (t : Bool) → Rising (q + 1) (diffs (q + 1) xs ys)
-        → Rising q (elim t as (λ _. List Change) [ true ↦ diffs (q + 1) xs ys | false ↦ record { place = q; value = y } ∷ diffs (q + 1) xs ys ])
+        → Rising q (elim t as (λ _. List Change) [
+          | true ↦ diffs (q + 1) xs ys
+          | false ↦ record { place = q; value = y }
+              ∷ diffs (q + 1) xs ys
+        ])
     go true r = lower (diffs (q + 1) xs ys) r
     go false r = (omega arith, r)
 
@@ -58,7 +62,11 @@ diffs-below n q (x ∷ xs) [] h = tt {0}
 diffs-below n q (x ∷ xs) (y ∷ ys) h = go (eqb x y) (diffs-below n (q + 1) xs ys (omega arith))
   where
     go : (t : Bool) → Below n (diffs (q + 1) xs ys)
-        → Below n (elim t as (λ _. List Change) [ true ↦ diffs (q + 1) xs ys | false ↦ record { place = q; value = y } ∷ diffs (q + 1) xs ys ])
+        → Below n (elim t as (λ _. List Change) [
+          | true ↦ diffs (q + 1) xs ys
+          | false ↦ record { place = q; value = y }
+              ∷ diffs (q + 1) xs ys
+        ])
     go true r = r
     go false r = (omega arith, r)
 
@@ -88,7 +96,11 @@ found q (x ∷ xs) (y ∷ ys) c m = go (eqb x y) refl (found (q + 1) xs ys c) m
     }
 
     go : (t : Bool) → eqb x y ≡ t → (In c (diffs (q + 1) xs ys) → Found (q + 1) xs ys c)
-        → In c (elim t as (λ _. List Change) [ true ↦ diffs (q + 1) xs ys | false ↦ record { place = q; value = y } ∷ diffs (q + 1) xs ys ])
+        → In c (elim t as (λ _. List Change) [
+          | true ↦ diffs (q + 1) xs ys
+          | false ↦ record { place = q; value = y }
+              ∷ diffs (q + 1) xs ys
+        ])
         → Found q (x ∷ xs) (y ∷ ys) c
     go true e rest k = later (rest k)
     go false e rest (inl k) =
@@ -103,7 +115,8 @@ found q (x ∷ xs) (y ∷ ys) c m = go (eqb x y) refl (found (q + 1) xs ys c) m
         }
     go false e rest (inr k) = later (rest k)
 
-listed : (q : ℕ) (xs ys : List ℕ) (i : ℕ) → i < length xs → i < length ys → (getD xs i 0 ≡ getD ys i 0 → ⊥) → In (record { place = q + i; value = getD ys i 0 }) (diffs q xs ys)
+listed : (q : ℕ) (xs ys : List ℕ) (i : ℕ) → i < length xs → i < length ys → (getD xs i 0 ≡ getD ys i 0 → ⊥)
+    → In (record { place = q + i; value = getD ys i 0 }) (diffs q xs ys)
 unfolding diffs
 listed q [] ys i h k d = absurd (omega arith)
 listed q (x ∷ xs) [] i h k d = absurd (omega arith)
@@ -113,7 +126,8 @@ listed q (x ∷ xs) (y ∷ ys) zero h k d = go (eqb x y) refl
     z = omega arith
 
     go : (t : Bool) → eqb x y ≡ t
-        → In (record { place = q + 0; value = y }) (elim t as (λ _. List Change) [ true ↦ diffs (q + 1) xs ys | false ↦ record { place = q; value = y } ∷ diffs (q + 1) xs ys ])
+        → In (record { place = q + 0; value = y })
+        (elim t as (λ _. List Change) [ true ↦ diffs (q + 1) xs ys | false ↦ record { place = q; value = y } ∷ diffs (q + 1) xs ys ])
     go true e = absurd (d (eqb-true x y e))
     go false e = inl (λ i. record { place = z i; value = y })
 listed q (x ∷ xs) (y ∷ ys) (suc i) h k d = go (eqb x y) (listed (q + 1) xs ys i (omega arith) (omega arith) d)
@@ -128,7 +142,8 @@ listed q (x ∷ xs) (y ∷ ys) (suc i) h k d = go (eqb x y) (listed (q + 1) xs y
     move ds m = subst (λ (p : ℕ). In (record { place = p; value = v }) ds) z m
 
     go : (t : Bool) → In (record { place = q + 1 + i; value = v }) (diffs (q + 1) xs ys)
-        → In (record { place = q + suc i; value = v }) (elim t as (λ _. List Change) [ true ↦ diffs (q + 1) xs ys | false ↦ record { place = q; value = y } ∷ diffs (q + 1) xs ys ])
+        → In (record { place = q + suc i; value = v })
+        (elim t as (λ _. List Change) [ true ↦ diffs (q + 1) xs ys | false ↦ record { place = q; value = y } ∷ diffs (q + 1) xs ys ])
     go true m = move (diffs (q + 1) xs ys) m
     go false m = inr (move (diffs (q + 1) xs ys) m)
 
@@ -146,7 +161,8 @@ diffs-exact base page c = (
       },
   λ d.
       let z : 0 + c .place ≡ c .place = omega arith in
-      let w : _≡_ {A = Change} (record { place = 0 + c .place; value = getD page (c .place) 0 }) c = λ i. record { place = z i; value = sym (d .value) i } in
+      let w : _≡_ {A = Change} (record { place = 0 + c .place; value = getD page (c .place) 0 }) c = λ i.
+      record { place = z i; value = sym (d .value) i } in
       subst (λ (x : Change). In x (diffs 0 base page)) w (listed 0 base page (c .place) (d .in-base) (d .in-page) (d .differ)),
 )
 
@@ -180,7 +196,8 @@ formFor false = long
 
 spelt : ℕ → List Change → List Spelt
 spelt next [] = []
-spelt next (c ∷ cs) = record { jump = c .place - next; value = c .value; form = formFor (ltb (c .place - next) 255) } ∷ spelt (c .place + 1) cs
+spelt next (c ∷ cs) = record { jump = c .place - next; value = c .value; form = formFor (ltb (c .place - next) 255) }
+    ∷ spelt (c .place + 1) cs
 
 spelt-joined : (ds : List Change) (next : ℕ) → coded next ds ≡ joined (spelt next ds)
 unfolding coded spelled spelt formFor

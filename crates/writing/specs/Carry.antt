@@ -1,4 +1,5 @@
--- Carrying out (kind, payload, page) on a block. At most two whole stores: the slot, and the block's place in the full area if there is one.
+-- Carrying out (kind, payload, page) on a block. At most two whole stores: the slot, and the block's place in the full area if there is
+-- one.
 use Prim.Native.Nat.{ℕ}
 use mathlib.Core.Bool.{cond}
 use mathlib.Core.List.{List}
@@ -9,7 +10,8 @@ use Rattle.layout.specs.Sizes.{slotAt, pageAt}
 use Rattle.layout.specs.Areas.{pagesIn}
 use Rattle.slots.specs.Slots.{slotImage}
 
--- Carrying out (kind, payload, page) on a block. At most two whole stores: the slot, and the block's place in the full area if there is one.
+-- Carrying out (kind, payload, page) on a block. At most two whole stores: the slot, and the block's place in the full area if there is
+-- one.
 unfoldable pub carriedPatch : List ℕ → ℕ → ℕ → List ℕ → List ℕ
 carriedPatch patch b kind payload = splice patch (slotAt b) (slotImage kind payload)
 

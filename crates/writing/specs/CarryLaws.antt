@@ -17,19 +17,24 @@ use Rattle.slots.specs.SlotLaws.{slot-image-length}
 use Rattle.writing.specs.Carry.{carriedPatch, carriedFull}
 
 -- what the two stores leave, from what their parts hold
-pub slot-stored : (patch : List ℕ) (b at k : ℕ) (payload after : List ℕ) → at ≡ slotAt b → slotAt b + slotSize ≤ length patch → length payload ≤ room
-    → after ≡ cond (eqb (length (midOf at (at + slotSize - at) patch)) slotSize && leb (length payload) room) (slotImage k payload) (midOf at (at + slotSize - at) patch)
+pub slot-stored : (patch : List ℕ) (b at k : ℕ) (payload after : List ℕ) → at ≡ slotAt b → slotAt b + slotSize ≤ length patch
+    → length payload ≤ room
+    → after ≡ cond (eqb (length (midOf at (at + slotSize - at) patch)) slotSize && leb (length payload) room) (slotImage k payload)
+    (midOf at (at + slotSize - at) patch)
     → putMid at (at + slotSize - at) patch after ≡ carriedPatch patch b k payload
 unfolding carriedPatch
 slot-stored patch b at k payload after e h f c =
     let q : at + slotSize - at ≡ slotSize = omega arith in
-    let l : length (midOf at (at + slotSize - at) patch) ≡ slotSize = ap (λ (n : ℕ). length (midOf at n patch)) q ∙ mid-length at slotSize patch (omega arith) in
-    let d : after ≡ slotImage k payload = c ∙ rw (eq-eqb (length (midOf at (at + slotSize - at) patch)) slotSize l, le-leb (length payload) room f) in
+    let l : length (midOf at (at + slotSize - at) patch) ≡ slotSize = ap (λ (n : ℕ). length (midOf at n patch)) q
+    ∙ mid-length at slotSize patch (omega arith) in
+    let d : after ≡ slotImage k payload = c
+    ∙ rw (eq-eqb (length (midOf at (at + slotSize - at) patch)) slotSize l, le-leb (length payload) room f) in
     put-splice at (at + slotSize - at) patch after (ap (λ (x : List ℕ). length x) d ∙ slot-image-length k payload f ∙ sym q)
     ∙ ap (λ (x : List ℕ). splice patch at x) d
     ∙ ap (λ (n : ℕ). splice patch n (slotImage k payload)) e
 
-module _ (P : ℕ) (full : List ℕ) (b at : ℕ) (page after : List ℕ) (e : at ≡ pageAt P b) (below : b < pagesIn P (length full)) (fits : pageAt P b + P ≤ length full) where
+module _ (P : ℕ) (full : List ℕ) (b at : ℕ) (page after : List ℕ) (e : at ≡ pageAt P b) (below : b < pagesIn P (length full))
+    (fits : pageAt P b + P ≤ length full) where
   pub q : at + P - at ≡ P
   q = omega arith
 
@@ -41,11 +46,13 @@ module _ (P : ℕ) (full : List ℕ) (b at : ℕ) (page after : List ℕ) (e : a
       rw (lt-ltb b (pagesIn P (length full)) below, eq-eqb k 2 h)
       (put-copied at (at + P - at) full after page (l ∙ sym q) (omega (arith, q, e, fits)) c ∙ ap (λ (n : ℕ). splice full n page) e)
 
-  pub zeros-stored : (k : ℕ) → (k ≡ 2 → ⊥) → after ≡ zeros (length (midOf at (at + P - at) full)) → putMid at (at + P - at) full after ≡ carriedFull P full b k page
+  pub zeros-stored : (k : ℕ) → (k ≡ 2 → ⊥) → after ≡ zeros (length (midOf at (at + P - at) full))
+      → putMid at (at + P - at) full after ≡ carriedFull P full b k page
   unfolding carriedFull
   zeros-stored k h c =
       rw (lt-ltb b (pagesIn P (length full)) below, ne-eqb k 2 h)
-      (put-filled at (at + P - at) full after (omega (arith, q, e, fits)) c ∙ ap (λ (n : ℕ). splice full at (zeros n)) q ∙ ap (λ (n : ℕ). splice full n (zeros P)) e)
+      (put-filled at (at + P - at) full after (omega (arith, q, e, fits)) c ∙ ap (λ (n : ℕ). splice full at (zeros n)) q
+      ∙ ap (λ (n : ℕ). splice full n (zeros P)) e)
 
 pub nothing-stored : (P : ℕ) (full : List ℕ) (b k : ℕ) (page : List ℕ) → pagesIn P (length full) ≤ b → full ≡ carriedFull P full b k page
 unfolding carriedFull

@@ -10,11 +10,14 @@ use Rattle.layout.specs.Areas.{lengthRows}
 use Rattle.writing.specs.Write.{WriteOutcome, writeRows, writeOutcome}
 
 module _ (P : ℕ) where
-  pub write-number : (patch full : List ℕ) (b : ℕ) (base page : List ℕ) → writeOutcome P patch full b base page .number ≡ firstOf (writeRows P patch full b base page)
+  pub write-number : (patch full : List ℕ) (b : ℕ) (base page : List ℕ) → writeOutcome P patch full b base page .number
+      ≡ firstOf (writeRows P patch full b base page)
   unfolding writeOutcome
-  write-number patch full b base page = decided-number (λ (o : WriteOutcome). o .number) _ _ (firstOf (writeRows P patch full b base page)) refl (λ k. refl)
+  write-number patch full b base page = decided-number (λ (o : WriteOutcome). o .number) _ _
+      (firstOf (writeRows P patch full b base page)) refl (λ k. refl)
 
-  pub write-exactly : (patch full : List ℕ) (b : ℕ) (base page : List ℕ) → Exactly (writeRows P patch full b base page) (writeOutcome P patch full b base page .number)
+  pub write-exactly : (patch full : List ℕ) (b : ℕ) (base page : List ℕ)
+      → Exactly (writeRows P patch full b base page) (writeOutcome P patch full b base page .number)
   unfolding writeRows ordered lengthRows
   write-exactly patch full b base page =
       exactly (writeRows P patch full b base page) _ (write-number patch full b base page)

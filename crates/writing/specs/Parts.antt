@@ -17,7 +17,14 @@ blockOutcome P patch full b base page =
     let stream = decidedStream P base page in
     let kind = decidedKind P base page in
     decided (firstOf ((8 ⇐ eqb kind 2 && leb (pagesIn P (length full)) b) ∷ []))
-    (record { number = 0; kind = kind; length = length stream; patch = carriedPatch patch b kind stream; full = carriedFull P full b kind page })
+    (record {
+      number = 0;
+      kind = kind;
+      length = length stream;
+      patch = carriedPatch patch b kind stream;
+      full = carriedFull P full b kind
+          page;
+    })
     (λ n. record { number = n; kind = 0; length = 0; patch = patch; full = full })
 
 -- the same of the code's part: a block below n over a base that is there

@@ -29,7 +29,9 @@ decidedKind P base page = kindFor (length (decidedStream P base page))
 unfoldable pub writeRows : ℕ → List ℕ → List ℕ → ℕ → List ℕ → List ℕ → List Row
 writeRows P patch full b base page =
     ordered
-    ((group.pages ▸ pageRows P base page) ∷ (group.lengths ▸ lengthRows P (length patch) (length full)) ∷ (group.headers ▸ headerRows P patch full) ∷ (group.block ▸ blockRows patch b) ∷ (group.full ▸ (8 ⇐ eqb (decidedKind P base page) 2 && leb (pagesIn P (length full)) b) ∷ []) ∷ [])
+    ((group.pages ▸ pageRows P base page) ∷ (group.lengths ▸ lengthRows P (length patch) (length full))
+    ∷ (group.headers ▸ headerRows P patch full) ∷ (group.block ▸ blockRows patch b)
+    ∷ (group.full ▸ (8 ⇐ eqb (decidedKind P base page) 2 && leb (pagesIn P (length full)) b) ∷ []) ∷ [])
 
 pub record WriteOutcome : Type 0 where
   pub number : ℕ
@@ -43,7 +45,14 @@ writeOutcome P patch full b base page =
     let stream = decidedStream P base page in
     let kind = decidedKind P base page in
     decided (firstOf (writeRows P patch full b base page))
-    (record { number = 0; kind = kind; length = length stream; patch = carriedPatch patch b kind stream; full = carriedFull P full b kind page })
+    (record {
+      number = 0;
+      kind = kind;
+      length = length stream;
+      patch = carriedPatch patch b kind stream;
+      full = carriedFull P full b kind
+          page;
+    })
     (λ n. record { number = n; kind = 0; length = 0; patch = patch; full = full })
 
 -- the paper's numbers for each case of the answer

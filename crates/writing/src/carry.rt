@@ -49,7 +49,8 @@ pub(crate) fn carry_out(
     requires { ⌜ (slotAt block + slotSize ≤ length (now patch)) × (length (now payload) ≤ room) ⌝ }
     requires { ⌜ Places pageSize (now full) ⌝ }
     requires { ⌜ length (now page) ≡ pageSize ⌝ }
-    ensures { λ _. ⌜ (now (patch .exit) ≡ carriedPatch (now (patch .entry)) block (kindNumber kind) (now (payload .entry))) × (now (full .exit) ≡ carriedFull pageSize (now (full .entry)) block (kindNumber kind) (now (page .entry))) ⌝ }
+    ensures { λ _. ⌜ (now (patch .exit) ≡ carriedPatch (now (patch .entry)) block (kindNumber kind) (now (payload .entry)))
+        × (now (full .exit) ≡ carriedFull pageSize (now (full .entry)) block (kindNumber kind) (now (page .entry))) ⌝ }
 {
     match kind {
         Kind::Full => {

@@ -50,7 +50,8 @@ fn write_block(patch: &mut [u8], full: &mut [u8], block: u32, base: &[u8], page:
     requires { ⌜ (length (now base) ≡ pageSize) × (length (now page) ≡ pageSize) ⌝ }
     requires { ⌜ slotAt block + slotSize ≤ length (now patch) ⌝ }
     requires { ⌜ Places pageSize (now full) ⌝ }
-    ensures { λ r. ⌜ BlockWrite pageSize (now (patch .entry)) (now (full .entry)) block (now (base .entry)) (now (page .entry)) r (now (patch .exit)) (now (full .exit)) ⌝ }
+    ensures { λ r. ⌜ BlockWrite pageSize (now (patch .entry)) (now (full .entry)) block (now (base .entry)) (now (page .entry)) r
+        (now (patch .exit)) (now (full .exit)) ⌝ }
 {
     let mut room = [0u8; Layout::ROOM];
     let d = writer::stream_of(base, page, &mut room);
@@ -66,7 +67,8 @@ fn write_block(patch: &mut [u8], full: &mut [u8], block: u32, base: &[u8], page:
 
 // Stores a block's page against its base. The old slot is not consulted.
 pub fn write(patch: &mut [u8], full: &mut [u8], block: usize, base: &[u8], page: &[u8]) -> Written
-    ensures { λ r. ⌜ Write pageSize (now (patch .entry)) (now (full .entry)) block (now (base .entry)) (now (page .entry)) r (now (patch .exit)) (now (full .exit)) ⌝ }
+    ensures { λ r. ⌜ Write pageSize (now (patch .entry)) (now (full .entry)) block (now (base .entry)) (now (page .entry)) r
+        (now (patch .exit)) (now (full .exit)) ⌝ }
 {
     match store::frame::frame_fault(stream::pages_fit(base, page), true, patch, full) {
         Fault::Found(r) => Written::Refused(r),

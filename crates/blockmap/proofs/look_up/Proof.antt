@@ -38,13 +38,15 @@ returns-4 : tie.Need-returns-4
 unfolding pairAt
 returns-4 c =
     let a = c .before .before .before .before .before .before .before .before .args in
-    look-pair pageSize (a .map .now) (a .n) (omega arith) (omega arith) (a .block) (omega arith) (sym (ap (λ (x : ℕ). x % 4) (c .before .pairs-from .ensures)) ∙ c .if4 .taken)
+    look-pair pageSize (a .map .now) (a .n) (omega arith) (omega arith) (a .block) (omega arith) (sym (ap (λ (x : ℕ). x % 4) (c .before .pairs-from .ensures))
+    ∙ c .if4 .taken)
 
 returns-5 : tie.Need-returns-5
 unfolding pairAt
 returns-5 c =
     let a = c .before .before .before .before .before .before .before .before .args in
-    look-done pageSize (a .map .now) (a .n) (omega arith) (omega arith) (a .block) (c .before .pairs-from .result % 4) (omega arith) (ap (λ (x : ℕ). x % 4) (c .before .pairs-from .ensures)) (c .if4 .left)
+    look-done pageSize (a .map .now) (a .n) (omega arith) (omega arith) (a .block) (c .before .pairs-from .result % 4) (omega arith)
+    (ap (λ (x : ℕ). x % 4) (c .before .pairs-from .ensures)) (c .if4 .left)
 
 pub look-up-spec : {M : Type 1} → statement M
 look-up-spec =

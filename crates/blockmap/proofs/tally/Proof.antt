@@ -37,7 +37,8 @@ unused-met-requires c κs = search needs
 returns-3 : tie.Need-returns-3 Inv-loop μ-loop
 returns-3 c =
     let a = c .before .before .before .before .before .before .args in
-    tally-pair pageSize (a .map .now) (a .n) (omega arith) (omega arith) (unused-bad (a .map .now) (a .n) (sym (c .before .unused-met .ensures) ∙ c .if3 .taken))
+    tally-pair pageSize (a .map .now) (a .n) (omega arith) (omega arith) (unused-bad (a .map .now) (a .n) (sym (c .before .unused-met .ensures)
+    ∙ c .if3 .taken))
 
 whole-requires : tie.Need-whole-requires Inv-loop μ-loop
 whole-requires c κs = search needs
@@ -63,9 +64,11 @@ returns-4 c =
     let a = c .before .before .before .before .before .before .before .before .before .before .before .before .before .args in
     let l = c .before .before .before .before .before .loop in
     let u = c .before .before .before .before .before .before .before .before .unused-met in
-    let clean : someUsed (a .map .now) (a .n) (4 * mapBytes (a .n) - a .n) ≡ false = sym (u .ensures) ∙ c .before .before .before .before .before .before .before .if3 .left in
+    let clean : someUsed (a .map .now) (a .n) (4 * mapBytes (a .n) - a .n) ≡ false = sym (u .ensures)
+    ∙ c .before .before .before .before .before .before .before .if3 .left in
     tally-pair pageSize (a .map .now) (a .n) (omega arith) (omega arith)
-    (bad-byte (a .map .now) (a .n) clean (l .at) (omega arith) (entry-reserved (getD (a .map .now) (l .at) 0) (sym (c .before .entry-of .ensures) ∙ c .if4 .taken)))
+    (bad-byte (a .map .now) (a .n) clean (l .at) (omega arith) (entry-reserved (getD (a .map .now) (l .at) 0) (sym (c .before .entry-of .ensures)
+    ∙ c .if4 .taken)))
 
 cast-patch : tie.Need-cast-patch Inv-loop μ-loop
 cast-patch c = search needs

@@ -41,7 +41,8 @@ returns-4 : tie.Need-returns-4
 returns-4 c =
     let a = c .before .before .before .before .before .before .before .before .args in
     let chunk = c .before .before .count-chunk in
-    cluster-chunk (a .a .now) (a .b .now) (a .from) (chunk .result) (c .after-last .result) (omega arith) (omega arith) (chunk .ensures) (c .after-last .ensures)
+    cluster-chunk (a .a .now) (a .b .now) (a .from) (chunk .result) (c .after-last .result) (omega arith) (omega arith) (chunk .ensures)
+    (c .after-last .ensures)
 
 pub cluster-at-spec : {M : Type 1} → statement M
 cluster-at-spec =

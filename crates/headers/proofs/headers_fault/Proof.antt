@@ -40,7 +40,8 @@ returns-2 c =
     let a = c .before .before .before .before .before .before .args in
     let f = c .before .before .before .patch-fault in
     let r = c .before .r .given .0 .0 in
-    sym (headers-patch pageSize (refusalNumber r) (a .patch .now) (a .full .now) (sym (f .ensures) ∙ ap faultNumber (c .before .r .given .1)) (refusal-some r))
+    sym (headers-patch pageSize (refusalNumber r) (a .patch .now) (a .full .now) (sym (f .ensures) ∙ ap faultNumber (c .before .r .given .1))
+    (refusal-some r))
 
 returns-3 : tie.Need-returns-3
 unfolding fullHeader
@@ -49,7 +50,8 @@ returns-3 c =
     let f = c .before .before .before .before .before .before .patch-fault in
     c .head-fault .ensures
     ∙ ap (λ (l : List ℕ). firstOf (headRows (header l fullHead) fullHead (a .full .now))) (c .before .before .full-fields .ensures)
-    ∙ sym (headers-full pageSize (a .patch .now) (a .full .now) (sym (f .ensures) ∙ ap faultNumber (c .before .before .before .before .enum-told .given .1)) (c .before .before .before .if1 .left))
+    ∙ sym (headers-full pageSize (a .patch .now) (a .full .now) (sym (f .ensures) ∙ ap faultNumber (c .before .before .before .before .enum-told .given .1))
+    (c .before .before .before .if1 .left))
 
 pub headers-fault-spec : {M : Type 1} → statement M
 headers-fault-spec =

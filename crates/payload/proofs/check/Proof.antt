@@ -43,8 +43,10 @@ returns-3 : tie.Need-returns-3 Inv-loop μ-loop
 returns-3 c =
     let a = c .before .before .before .before .before .before .before .args in
     let l = c .before .before .before .loop in
-    let f : Follows (reach (a .size)) (a .payload .now) (l .place) (stream (reach (a .size)) (toZ w32 (l .last)) code (drop (l .place) (a .payload .now))) End =
-    told (reach (a .size)) (a .payload .now) (l .place) (stream (reach (a .size)) (toZ w32 (l .last)) code (drop (l .place) (a .payload .now))) (c .before .before .step .result) End (c .enum-told .given .1) (c .before .before .step .ensures) in
+    let f : Follows (reach (a .size)) (a .payload .now) (l .place) (stream (reach (a .size)) (toZ w32 (l .last)) code (drop (l .place) (a .payload .now)))
+    End =
+    told (reach (a .size)) (a .payload .now) (l .place) (stream (reach (a .size)) (toZ w32 (l .last)) code (drop (l .place) (a .payload .now)))
+    (c .before .before .step .result) End (c .enum-told .given .1) (c .before .before .step .ensures) in
     passed-all (reach (a .size)) (a .payload .now) (l .place) (toZ w32 (l .last)) (l .entries) (l .inv) (omega arith) (omega arith) f
 
 enum-told-2 : tie.Need-enum-told-2 Inv-loop μ-loop
@@ -54,8 +56,10 @@ returns-4 : tie.Need-returns-4 Inv-loop μ-loop
 returns-4 c =
     let a = c .before .before .before .before .before .before .before .args in
     let l = c .before .before .before .loop in
-    let f : Follows (reach (a .size)) (a .payload .now) (l .place) (stream (reach (a .size)) (toZ w32 (l .last)) code (drop (l .place) (a .payload .now))) Broken =
-    told (reach (a .size)) (a .payload .now) (l .place) (stream (reach (a .size)) (toZ w32 (l .last)) code (drop (l .place) (a .payload .now))) (c .before .before .step .result) Broken (c .enum-told2 .given .1) (c .before .before .step .ensures) in
+    let f : Follows (reach (a .size)) (a .payload .now) (l .place) (stream (reach (a .size)) (toZ w32 (l .last)) code (drop (l .place) (a .payload .now)))
+    Broken =
+    told (reach (a .size)) (a .payload .now) (l .place) (stream (reach (a .size)) (toZ w32 (l .last)) code (drop (l .place) (a .payload .now)))
+    (c .before .before .step .result) Broken (c .enum-told2 .given .1) (c .before .before .step .ensures) in
     passed-broken (reach (a .size)) (a .payload .now) (l .place) (toZ w32 (l .last)) (l .entries) (l .inv) f
 
 enum-known-at : tie.Need-enum-known-at Inv-loop μ-loop
@@ -68,18 +72,25 @@ loop-less : tie.Need-loop-less Inv-loop μ-loop
 loop-less c =
     let a = c .before .before .before .before .before .before .before .before .args in
     let l = c .before .before .before .before .loop in
-    let f : Follows (reach (a .size)) (a .payload .now) (l .place) (stream (reach (a .size)) (toZ w32 (l .last)) code (drop (l .place) (a .payload .now))) (Entry (c .before .at .given .0 .0) (c .before .at .given .0 .1 .0) (c .before .at .given .0 .1 .1 .0)) =
-    told (reach (a .size)) (a .payload .now) (l .place) (stream (reach (a .size)) (toZ w32 (l .last)) code (drop (l .place) (a .payload .now))) (c .before .before .before .step .result) (Entry (c .before .at .given .0 .0) (c .before .at .given .0 .1 .0) (c .before .at .given .0 .1 .1 .0)) (c .before .at .given .1) (c .before .before .before .step .ensures) in
+    let f : Follows (reach (a .size)) (a .payload .now) (l .place) (stream (reach (a .size)) (toZ w32 (l .last)) code (drop (l .place) (a .payload .now)))
+    (Entry (c .before .at .given .0 .0) (c .before .at .given .0 .1 .0) (c .before .at .given .0 .1 .1 .0)) =
+    told (reach (a .size)) (a .payload .now) (l .place) (stream (reach (a .size)) (toZ w32 (l .last)) code (drop (l .place) (a .payload .now)))
+    (c .before .before .before .step .result) (Entry (c .before .at .given .0 .0) (c .before .at .given .0 .1 .0) (c .before .at .given .0 .1 .1 .0))
+    (c .before .at .given .1) (c .before .before .before .step .ensures) in
     omega (arith, f .on, f .within)
 
 loop-again : tie.Need-loop-again Inv-loop μ-loop
 loop-again c =
     let a = c .before .before .before .before .before .before .before .before .args in
     let l = c .before .before .before .before .loop in
-    let f : Follows (reach (a .size)) (a .payload .now) (l .place) (stream (reach (a .size)) (toZ w32 (l .last)) code (drop (l .place) (a .payload .now))) (Entry (c .before .at .given .0 .0) (c .before .at .given .0 .1 .0) (c .before .at .given .0 .1 .1 .0)) =
-    told (reach (a .size)) (a .payload .now) (l .place) (stream (reach (a .size)) (toZ w32 (l .last)) code (drop (l .place) (a .payload .now))) (c .before .before .before .step .result) (Entry (c .before .at .given .0 .0) (c .before .at .given .0 .1 .0) (c .before .at .given .0 .1 .1 .0)) (c .before .at .given .1) (c .before .before .before .step .ensures) in
+    let f : Follows (reach (a .size)) (a .payload .now) (l .place) (stream (reach (a .size)) (toZ w32 (l .last)) code (drop (l .place) (a .payload .now)))
+    (Entry (c .before .at .given .0 .0) (c .before .at .given .0 .1 .0) (c .before .at .given .0 .1 .1 .0)) =
+    told (reach (a .size)) (a .payload .now) (l .place) (stream (reach (a .size)) (toZ w32 (l .last)) code (drop (l .place) (a .payload .now)))
+    (c .before .before .before .step .result) (Entry (c .before .at .given .0 .0) (c .before .at .given .0 .1 .0) (c .before .at .given .0 .1 .1 .0))
+    (c .before .at .given .1) (c .before .before .before .step .ensures) in
     let q : ℤ = c .before .at .given .0 .0 in
-    passed-more (reach (a .size)) (a .payload .now) (l .place) (toZ w32 (l .last)) (l .entries) (l .inv) q (toZ w32 (ofZ w32 q)) (c .before .at .given .0 .1 .0) (c .before .at .given .0 .1 .1 .0) (place-back (reach (a .size)) q (omega arith) (f .lands)) f
+    passed-more (reach (a .size)) (a .payload .now) (l .place) (toZ w32 (l .last)) (l .entries) (l .inv) q (toZ w32 (ofZ w32 q))
+    (c .before .at .given .0 .1 .0) (c .before .at .given .0 .1 .1 .0) (place-back (reach (a .size)) q (omega arith) (f .lands)) f
 
 pub check-spec : {M : Type 1} → statement M
 check-spec =

@@ -14,7 +14,8 @@ use Rattle.payload.proofs.overlay.Statement.{statement}
 use Rattle.payload.proofs.overlay.Tie as tie
 
 abbrev Inv-loop : tie.InvT-loop
-Inv-loop page₀ payload size place₀ position₀ page place position = (size ≡ length page₀) × Laid (reach (length page₀)) page₀ payload page place (toZ w32 position)
+Inv-loop page₀ payload size place₀ position₀ page place position = (size ≡ length page₀) × Laid (reach (length page₀)) page₀ payload page place
+    (toZ w32 position)
 
 abbrev μ-loop : tie.MeasureT-loop
 μ-loop page₀ payload size place₀ position₀ page place position = length payload - place
@@ -37,8 +38,11 @@ returns : tie.Need-returns Inv-loop μ-loop
 returns c =
     let a = c .before .before .before .before .before .before .args in
     let l = c .before .before .before .loop in
-    let f : Follows (reach (length (a .page .now))) (a .payload .now) (l .place) (stream (reach (length (a .page .now))) (toZ w32 (l .position)) code (drop (l .place) (a .payload .now))) (End) =
-    told (reach (length (a .page .now))) (a .payload .now) (l .place) (stream (reach (length (a .page .now))) (toZ w32 (l .position)) code (drop (l .place) (a .payload .now))) (c .before .before .step .result) (End) (c .enum-told .given .1) (c .before .before .step .ensures) in
+    let f : Follows (reach (length (a .page .now))) (a .payload .now) (l .place)
+    (stream (reach (length (a .page .now))) (toZ w32 (l .position)) code (drop (l .place) (a .payload .now))) (End) =
+    told (reach (length (a .page .now))) (a .payload .now) (l .place)
+    (stream (reach (length (a .page .now))) (toZ w32 (l .position)) code (drop (l .place) (a .payload .now))) (c .before .before .step .result) (End)
+    (c .enum-told .given .1) (c .before .before .step .ensures) in
     laid-all (reach (length (a .page .now))) (a .page .now) (a .payload .now) (l .page) (l .place) (toZ w32 (l .position)) (l .inv .1) f
 
 enum-told-2 : tie.Need-enum-told-2 Inv-loop μ-loop
@@ -51,8 +55,11 @@ returns-2 : tie.Need-returns-2 Inv-loop μ-loop
 returns-2 c =
     let a = c .before .before .before .before .before .before .args in
     let l = c .before .before .before .loop in
-    let f : Follows (reach (length (a .page .now))) (a .payload .now) (l .place) (stream (reach (length (a .page .now))) (toZ w32 (l .position)) code (drop (l .place) (a .payload .now))) (Broken) =
-    told (reach (length (a .page .now))) (a .payload .now) (l .place) (stream (reach (length (a .page .now))) (toZ w32 (l .position)) code (drop (l .place) (a .payload .now))) (c .before .before .step .result) (Broken) (c .enum-told2 .given .1) (c .before .before .step .ensures) in
+    let f : Follows (reach (length (a .page .now))) (a .payload .now) (l .place)
+    (stream (reach (length (a .page .now))) (toZ w32 (l .position)) code (drop (l .place) (a .payload .now))) (Broken) =
+    told (reach (length (a .page .now))) (a .payload .now) (l .place)
+    (stream (reach (length (a .page .now))) (toZ w32 (l .position)) code (drop (l .place) (a .payload .now))) (c .before .before .step .result) (Broken)
+    (c .enum-told2 .given .1) (c .before .before .step .ensures) in
     laid-broken (reach (length (a .page .now))) (a .page .now) (a .payload .now) (l .page) (l .place) (toZ w32 (l .position)) (l .inv .1) f
 
 enum-known-at : tie.Need-enum-known-at Inv-loop μ-loop
@@ -62,34 +69,58 @@ cast-page : tie.Need-cast-page Inv-loop μ-loop
 cast-page c =
     let a = c .before .before .before .before .before .before .before .args in
     let l = c .before .before .before .before .loop in
-    let f : Follows (reach (length (a .page .now))) (a .payload .now) (l .place) (stream (reach (length (a .page .now))) (toZ w32 (l .position)) code (drop (l .place) (a .payload .now))) (Entry (c .before .at .given .0 .0) (c .before .at .given .0 .1 .0) (c .before .at .given .0 .1 .1 .0)) =
-    told (reach (length (a .page .now))) (a .payload .now) (l .place) (stream (reach (length (a .page .now))) (toZ w32 (l .position)) code (drop (l .place) (a .payload .now))) (c .before .before .before .step .result) (Entry (c .before .at .given .0 .0) (c .before .at .given .0 .1 .0) (c .before .at .given .0 .1 .1 .0)) (c .before .at .given .1) (c .before .before .before .step .ensures) in
+    let f : Follows (reach (length (a .page .now))) (a .payload .now) (l .place)
+    (stream (reach (length (a .page .now))) (toZ w32 (l .position)) code (drop (l .place) (a .payload .now)))
+    (Entry (c .before .at .given .0 .0) (c .before .at .given .0 .1 .0) (c .before .at .given .0 .1 .1 .0)) =
+    told (reach (length (a .page .now))) (a .payload .now) (l .place)
+    (stream (reach (length (a .page .now))) (toZ w32 (l .position)) code (drop (l .place) (a .payload .now))) (c .before .before .before .step .result)
+    (Entry (c .before .at .given .0 .0) (c .before .at .given .0 .1 .0) (c .before .at .given .0 .1 .1 .0)) (c .before .at .given .1)
+    (c .before .before .before .step .ensures) in
     index-fits (reach (length (a .page .now))) (c .before .at .given .0 .0) (omega arith) (f .lands)
 
 slice-write-page : tie.Need-slice-write-page Inv-loop μ-loop
 slice-write-page c =
     let a = c .before .before .before .before .before .before .before .args in
     let l = c .before .before .before .before .loop in
-    let f : Follows (reach (length (a .page .now))) (a .payload .now) (l .place) (stream (reach (length (a .page .now))) (toZ w32 (l .position)) code (drop (l .place) (a .payload .now))) (Entry (c .before .at .given .0 .0) (c .before .at .given .0 .1 .0) (c .before .at .given .0 .1 .1 .0)) =
-    told (reach (length (a .page .now))) (a .payload .now) (l .place) (stream (reach (length (a .page .now))) (toZ w32 (l .position)) code (drop (l .place) (a .payload .now))) (c .before .before .before .step .result) (Entry (c .before .at .given .0 .0) (c .before .at .given .0 .1 .0) (c .before .at .given .0 .1 .1 .0)) (c .before .at .given .1) (c .before .before .before .step .ensures) in
+    let f : Follows (reach (length (a .page .now))) (a .payload .now) (l .place)
+    (stream (reach (length (a .page .now))) (toZ w32 (l .position)) code (drop (l .place) (a .payload .now)))
+    (Entry (c .before .at .given .0 .0) (c .before .at .given .0 .1 .0) (c .before .at .given .0 .1 .1 .0)) =
+    told (reach (length (a .page .now))) (a .payload .now) (l .place)
+    (stream (reach (length (a .page .now))) (toZ w32 (l .position)) code (drop (l .place) (a .payload .now))) (c .before .before .before .step .result)
+    (Entry (c .before .at .given .0 .0) (c .before .at .given .0 .1 .0) (c .before .at .given .0 .1 .1 .0)) (c .before .at .given .1)
+    (c .before .before .before .step .ensures) in
     omega (arith, index-in (reach (length (a .page .now))) (c .before .at .given .0 .0) (omega arith) (f .lands), l .inv .1 .same)
 
 loop-less : tie.Need-loop-less Inv-loop μ-loop
 loop-less c =
     let a = c .before .before .before .before .before .before .before .args in
     let l = c .before .before .before .before .loop in
-    let f : Follows (reach (length (a .page .now))) (a .payload .now) (l .place) (stream (reach (length (a .page .now))) (toZ w32 (l .position)) code (drop (l .place) (a .payload .now))) (Entry (c .before .at .given .0 .0) (c .before .at .given .0 .1 .0) (c .before .at .given .0 .1 .1 .0)) =
-    told (reach (length (a .page .now))) (a .payload .now) (l .place) (stream (reach (length (a .page .now))) (toZ w32 (l .position)) code (drop (l .place) (a .payload .now))) (c .before .before .before .step .result) (Entry (c .before .at .given .0 .0) (c .before .at .given .0 .1 .0) (c .before .at .given .0 .1 .1 .0)) (c .before .at .given .1) (c .before .before .before .step .ensures) in
+    let f : Follows (reach (length (a .page .now))) (a .payload .now) (l .place)
+    (stream (reach (length (a .page .now))) (toZ w32 (l .position)) code (drop (l .place) (a .payload .now)))
+    (Entry (c .before .at .given .0 .0) (c .before .at .given .0 .1 .0) (c .before .at .given .0 .1 .1 .0)) =
+    told (reach (length (a .page .now))) (a .payload .now) (l .place)
+    (stream (reach (length (a .page .now))) (toZ w32 (l .position)) code (drop (l .place) (a .payload .now))) (c .before .before .before .step .result)
+    (Entry (c .before .at .given .0 .0) (c .before .at .given .0 .1 .0) (c .before .at .given .0 .1 .1 .0)) (c .before .at .given .1)
+    (c .before .before .before .step .ensures) in
     omega (arith, f .on, f .within)
 
 loop-again : tie.Need-loop-again Inv-loop μ-loop
 loop-again c =
     let a = c .before .before .before .before .before .before .before .args in
     let l = c .before .before .before .before .loop in
-    let f : Follows (reach (length (a .page .now))) (a .payload .now) (l .place) (stream (reach (length (a .page .now))) (toZ w32 (l .position)) code (drop (l .place) (a .payload .now))) (Entry (c .before .at .given .0 .0) (c .before .at .given .0 .1 .0) (c .before .at .given .0 .1 .1 .0)) =
-    told (reach (length (a .page .now))) (a .payload .now) (l .place) (stream (reach (length (a .page .now))) (toZ w32 (l .position)) code (drop (l .place) (a .payload .now))) (c .before .before .before .step .result) (Entry (c .before .at .given .0 .0) (c .before .at .given .0 .1 .0) (c .before .at .given .0 .1 .1 .0)) (c .before .at .given .1) (c .before .before .before .step .ensures) in
-    let q : ℤ = c .before .at .given .0 .0 in
-    (l .inv .0, laid-more (reach (length (a .page .now))) (a .page .now) (a .payload .now) (l .page) (l .place) (toZ w32 (l .position)) (l .inv .1) q (toZ w32 (ofZ w32 q)) (c .before .at .given .0 .1 .0) (c .before .at .given .0 .1 .1 .0) (place-back (reach (length (a .page .now))) q (omega arith) (f .lands)) f)
+    let f : Follows (reach (length (a .page .now))) (a .payload .now) (l .place)
+    (stream (reach (length (a .page .now))) (toZ w32 (l .position)) code (drop (l .place) (a .payload .now)))
+    (Entry (c .before .at .given .0 .0) (c .before .at .given .0 .1 .0) (c .before .at .given .0 .1 .1 .0)) =
+    told (reach (length (a .page .now))) (a .payload .now) (l .place)
+    (stream (reach (length (a .page .now))) (toZ w32 (l .position)) code (drop (l .place) (a .payload .now))) (c .before .before .before .step .result)
+    (Entry (c .before .at .given .0 .0) (c .before .at .given .0 .1 .0) (c .before .at .given .0 .1 .1 .0)) (c .before .at .given .1)
+    (c .before .before .before .step .ensures) in
+    let q : ℤ = c .before .at .given .0 .0 in (
+      l .inv .0,
+      laid-more (reach (length (a .page .now))) (a .page .now) (a .payload .now) (l .page) (l .place) (toZ w32 (l .position)) (l .inv .1) q
+          (toZ w32 (ofZ w32 q)) (c .before .at .given .0 .1 .0) (c .before .at .given .0 .1 .1 .0)
+          (place-back (reach (length (a .page .now))) q (omega arith) (f .lands)) f,
+    )
 
 pub overlay-spec : {M : Type 1} → statement M
 overlay-spec =

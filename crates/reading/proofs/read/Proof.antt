@@ -24,13 +24,20 @@ use Rattle.reading.proofs.read.Tie as tie
 
 -- where the shared check found nothing wrong, the frame is sound
 framed : (c : tie.After-enum-told)
-    → (firstOf (frameRows pageSize (pageRows pageSize (c .before .before .before .before .before .before .before .before .before .args .base .now) (c .before .before .before .before .before .before .before .before .before .args .page .now)) [] (c .before .before .before .before .before .before .before .before .before .args .patch .now) (c .before .before .before .before .before .before .before .before .before .args .full .now)) ≡ 0)
-    × Sound pageSize (c .before .before .before .before .before .before .before .before .before .args .patch .now) (c .before .before .before .before .before .before .before .before .before .args .full .now) (c .before .before .before .before .before .before .before .before .before .args .base .now) (c .before .before .before .before .before .before .before .before .before .args .page .now)
+    → (firstOf (frameRows pageSize (pageRows pageSize (c .before .before .before .before .before .before .before .before .before .args .base .now)
+    (c .before .before .before .before .before .before .before .before .before .args .page .now)) []
+    (c .before .before .before .before .before .before .before .before .before .args .patch .now)
+    (c .before .before .before .before .before .before .before .before .before .args .full .now)) ≡ 0)
+    × Sound pageSize (c .before .before .before .before .before .before .before .before .before .args .patch .now)
+    (c .before .before .before .before .before .before .before .before .before .args .full .now)
+    (c .before .before .before .before .before .before .before .before .before .args .base .now)
+    (c .before .before .before .before .before .before .before .before .before .args .page .now)
 framed c =
     let a = c .before .before .before .before .before .before .before .before .before .args in
     let f = c .before .before .frame-fault in
     let p = c .before .before .before .pages-fit in
-    let none = frame-told pageSize (a .patch .now) (a .full .now) (a .base .now) (a .page .now) (p .result) 0 (p .ensures) (sym (ap faultNumber (c .enum-told .given .1)) ∙ f .ensures) in
+    let none = frame-told pageSize (a .patch .now) (a .full .now) (a .base .now) (a .page .now) (p .result) 0 (p .ensures)
+    (sym (ap faultNumber (c .enum-told .given .1)) ∙ f .ensures) in
     (none, sound-frame pageSize (a .patch .now) (a .full .now) (a .base .now) (a .page .now) none)
 
 pages-fit-requires : tie.Need-pages-fit-requires
@@ -55,7 +62,9 @@ returns : tie.Need-returns
 returns c =
     let a = c .before .before .before .before .before .before .before .before .before .before .before .args in
     let told = framed (c .before .before) in
-    let e : readOutcome pageSize (a .patch .now) (a .full .now) (a .block) (a .base .now) (a .page .now) ≡ record { number = 5; kind = 0; page = a .page .now } = read-block pageSize (a .patch .now) (a .full .now) (a .block) (a .base .now) (a .page .now) (told .0) (omega (arith, c .before .blocks2 .ensures, c .if1 .taken)) in
+    let e : readOutcome pageSize (a .patch .now) (a .full .now) (a .block) (a .base .now) (a .page .now)
+    ≡ record { number = 5; kind = 0; page = a .page .now } = read-block pageSize (a .patch .now) (a .full .now) (a .block) (a .base .now) (a .page .now)
+    (told .0) (omega (arith, c .before .blocks2 .ensures, c .if1 .taken)) in
     record { numbers = rw e; bytes = rw e }
 
 cast-read-block : tie.Need-cast-read-block
@@ -82,9 +91,17 @@ unfolding zeros
 returns-2 c =
     let a = c .before .before .before .before .before .before .before .before .before .before .before .before .before .before .before .before .before .args in
     let told = framed (c .before .before .before .before .before .before .before .before) in
-    let e : readOutcome pageSize (a .patch .now) (a .full .now) (a .block) (a .base .now) (a .page .now) ≡ slotOutcome pageSize (a .patch .now) (a .full .now) (a .block) (zeros pageSize) (a .page .now) =
-    read-slot pageSize (a .patch .now) (a .full .now) (a .block) (a .base .now) (a .page .now) (told .0) (omega (arith, c .before .before .before .before .before .before .before .blocks2 .ensures, c .before .before .before .before .before .before .if1 .left))
-    ∙ same-base pageSize (a .patch .now) (a .full .now) (a .block) (a .base .now) (zeros pageSize) (a .page .now) (base-none pageSize (a .base .now) (c .before .before .before .before .before .if2 .taken) ∙ sym (zeros-base pageSize)) in
+    let e : readOutcome pageSize (a .patch .now) (a .full .now) (a .block) (a .base .now) (a .page .now) ≡ slotOutcome pageSize (a .patch .now) (a .full .now)
+    (a .block) (zeros pageSize) (a .page .now) =
+    read-slot pageSize (a .patch .now) (a .full .now) (a .block) (a .base .now) (a .page .now) (told .0)
+    (omega (
+      arith,
+      c .before .before .before .before .before .before .before .blocks2 .ensures,
+      c .before .before .before .before .before .before .if1
+          .left,
+    ))
+    ∙ same-base pageSize (a .patch .now) (a .full .now) (a .block) (a .base .now) (zeros pageSize) (a .page .now)
+    (base-none pageSize (a .base .now) (c .before .before .before .before .before .if2 .taken) ∙ sym (zeros-base pageSize)) in
     record { numbers = rw e (c .before .before .read-block .ensures .numbers); bytes = rw e (c .before .before .read-block .ensures .bytes) }
 
 cast-read-block-2 : tie.Need-cast-read-block-2
@@ -97,8 +114,11 @@ cast-read-block-2 c =
 read-block-requires-2 : tie.Need-read-block-requires-2
 read-block-requires-2 c κs =
     let a = c .before .before .before .before .before .before .before .before .before .before .before .before .before .args in
-    let told = framed (c .before .before .before .before) in
-    ((told .1 .base-size (c .before .if2 .left), told .1 .page-size), places pageSize (blocksIn (length (a .patch .now))) (a .full .now) (lit< tt) (told .1 .full-fit))
+    let told = framed (c .before .before .before .before) in (
+      (told .1 .base-size (c .before .if2 .left), told .1 .page-size),
+      places pageSize (blocksIn (length (a .patch .now))) (a .full .now) (lit< tt)
+          (told .1 .full-fit),
+    )
 
 same-length-3 : tie.Need-same-length-3
 same-length-3 c = search needs
@@ -107,8 +127,12 @@ returns-3 : tie.Need-returns-3
 returns-3 c =
     let a = c .before .before .before .before .before .before .before .before .before .before .args in
     let r = c .before .r .given .0 .0 in
-    let told = frame-told pageSize (a .patch .now) (a .full .now) (a .base .now) (a .page .now) (c .before .before .before .before .pages-fit .result) (refusalNumber r) (c .before .before .before .before .pages-fit .ensures) (sym (ap faultNumber (c .before .r .given .1)) ∙ c .before .before .before .frame-fault .ensures) in
-    let e : readOutcome pageSize (a .patch .now) (a .full .now) (a .block) (a .base .now) (a .page .now) ≡ record { number = refusalNumber r; kind = 0; page = a .page .now } = read-frame pageSize (a .patch .now) (a .full .now) (a .block) (a .base .now) (a .page .now) (refusalNumber r) told (refusal-some r) in
+    let told = frame-told pageSize (a .patch .now) (a .full .now) (a .base .now) (a .page .now) (c .before .before .before .before .pages-fit .result)
+    (refusalNumber r) (c .before .before .before .before .pages-fit .ensures) (sym (ap faultNumber (c .before .r .given .1))
+    ∙ c .before .before .before .frame-fault .ensures) in
+    let e : readOutcome pageSize (a .patch .now) (a .full .now) (a .block) (a .base .now) (a .page .now)
+    ≡ record { number = refusalNumber r; kind = 0; page = a .page .now } = read-frame pageSize (a .patch .now) (a .full .now) (a .block) (a .base .now)
+    (a .page .now) (refusalNumber r) told (refusal-some r) in
     record { numbers = rw e; bytes = rw e }
 
 same-length-4 : tie.Need-same-length-4
@@ -118,7 +142,9 @@ returns-4 : tie.Need-returns-4
 returns-4 c =
     let a = c .before .before .before .before .before .before .before .before .before .before .before .before .before .before .before .before .args in
     let told = framed (c .before .before .before .before .before .before .before) in
-    let e : readOutcome pageSize (a .patch .now) (a .full .now) (a .block) (a .base .now) (a .page .now) ≡ slotOutcome pageSize (a .patch .now) (a .full .now) (a .block) (a .base .now) (a .page .now) = read-slot pageSize (a .patch .now) (a .full .now) (a .block) (a .base .now) (a .page .now) (told .0) (omega (arith, c .before .before .before .before .before .before .blocks2 .ensures, c .before .before .before .before .before .if1 .left)) in
+    let e : readOutcome pageSize (a .patch .now) (a .full .now) (a .block) (a .base .now) (a .page .now) ≡ slotOutcome pageSize (a .patch .now) (a .full .now)
+    (a .block) (a .base .now) (a .page .now) = read-slot pageSize (a .patch .now) (a .full .now) (a .block) (a .base .now) (a .page .now) (told .0)
+    (omega (arith, c .before .before .before .before .before .before .blocks2 .ensures, c .before .before .before .before .before .if1 .left)) in
     record { numbers = rw e (c .before .before .read-block2 .ensures .numbers); bytes = rw e (c .before .before .read-block2 .ensures .bytes) }
 
 pub read-spec : {M : Type 1} → statement M

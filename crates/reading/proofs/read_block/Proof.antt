@@ -58,10 +58,14 @@ returns c =
     let at = c .before .before .before .before .before .before .before .before .before .before .before in
     let a = at .args in
     let s : List ℕ = slotOf (a .patch .now) (a .block) in
-    let same-slot : c .before .before .before .before .before .part .result .now ≡ s = c .before .before .before .before .before .part .ensures ∙ ap (λ (k : ℕ). part k slotSize (a .patch .now)) (c .before .before .before .before .before .before .slot-at .ensures) in
-    let numbers : stateNumbers (c .before .before .before .before .slot-state .result) ≡ slotNumbers s = c .before .before .before .before .slot-state .ensures ∙ ap (λ (l : List ℕ). slotNumbers l) same-slot in
-    let e : slotOutcome pageSize (a .patch .now) (a .full .now) (a .block) (a .base .now) (a .page .now) ≡ record { number = 8; kind = 0; page = a .page .now } =
-    slot-missing pageSize (a .patch .now) (a .full .now) (a .block) (a .base .now) (a .page .now) (sym numbers ∙ ap stateNumbers (c .before .before .enum-told3 .given .1)) (omega (arith, c .before .pages .ensures, c .if1 .taken)) in
+    let same-slot : c .before .before .before .before .before .part .result .now ≡ s = c .before .before .before .before .before .part .ensures
+    ∙ ap (λ (k : ℕ). part k slotSize (a .patch .now)) (c .before .before .before .before .before .before .slot-at .ensures) in
+    let numbers : stateNumbers (c .before .before .before .before .slot-state .result) ≡ slotNumbers s = c .before .before .before .before .slot-state
+    .ensures ∙ ap (λ (l : List ℕ). slotNumbers l) same-slot in
+    let e : slotOutcome pageSize (a .patch .now) (a .full .now) (a .block) (a .base .now) (a .page .now)
+    ≡ record { number = 8; kind = 0; page = a .page .now } =
+    slot-missing pageSize (a .patch .now) (a .full .now) (a .block) (a .base .now) (a .page .now) (sym numbers
+    ∙ ap stateNumbers (c .before .before .enum-told3 .given .1)) (omega (arith, c .before .pages .ensures, c .if1 .taken)) in
     record { numbers = rw e; bytes = rw e }
 
 page-at-requires : tie.Need-page-at-requires
@@ -79,9 +83,12 @@ returns-2 c =
     let at = c .before .before .before .before .before .before .before .before .before in
     let a = at .args in
     let s : List ℕ = slotOf (a .patch .now) (a .block) in
-    let same-slot : c .before .before .before .part .result .now ≡ s = c .before .before .before .part .ensures ∙ ap (λ (k : ℕ). part k slotSize (a .patch .now)) (c .before .before .before .before .slot-at .ensures) in
-    let numbers : stateNumbers (c .before .before .slot-state .result) ≡ slotNumbers s = c .before .before .slot-state .ensures ∙ ap (λ (l : List ℕ). slotNumbers l) same-slot in
-    let e : slotOutcome pageSize (a .patch .now) (a .full .now) (a .block) (a .base .now) (a .page .now) ≡ record { number = 6; kind = 0; page = a .page .now } =
+    let same-slot : c .before .before .before .part .result .now ≡ s = c .before .before .before .part .ensures
+    ∙ ap (λ (k : ℕ). part k slotSize (a .patch .now)) (c .before .before .before .before .slot-at .ensures) in
+    let numbers : stateNumbers (c .before .before .slot-state .result) ≡ slotNumbers s = c .before .before .slot-state .ensures
+    ∙ ap (λ (l : List ℕ). slotNumbers l) same-slot in
+    let e : slotOutcome pageSize (a .patch .now) (a .full .now) (a .block) (a .base .now) (a .page .now)
+    ≡ record { number = 6; kind = 0; page = a .page .now } =
     slot-unsound pageSize (a .patch .now) (a .full .now) (a .block) (a .base .now) (a .page .now) (sym numbers ∙ ap stateNumbers (c .enum-told .given .1)) in
     record { numbers = rw e; bytes = rw e }
 
@@ -94,10 +101,15 @@ returns-3 c =
     let at = c .before .before .before .before .before .before .before .before .before .before .before .before .before in
     let a = at .args in
     let s : List ℕ = slotOf (a .patch .now) (a .block) in
-    let same-slot : c .before .before .before .before .before .before .before .part .result .now ≡ s = c .before .before .before .before .before .before .before .part .ensures ∙ ap (λ (k : ℕ). part k slotSize (a .patch .now)) (c .before .before .before .before .before .before .before .before .slot-at .ensures) in
-    let numbers : stateNumbers (c .before .before .before .before .before .before .slot-state .result) ≡ slotNumbers s = c .before .before .before .before .before .before .slot-state .ensures ∙ ap (λ (l : List ℕ). slotNumbers l) same-slot in
-    let e : slotOutcome pageSize (a .patch .now) (a .full .now) (a .block) (a .base .now) (a .page .now) ≡ record { number = 0; kind = 0; page = pageOf pageSize (a .base .now) } =
-    slot-empty pageSize (a .patch .now) (a .full .now) (a .block) (a .base .now) (a .page .now) (sym numbers ∙ ap stateNumbers (c .before .before .before .before .enum-told2 .given .1)) in
+    let same-slot : c .before .before .before .before .before .before .before .part .result .now ≡ s = c .before .before .before .before .before .before
+    .before .part .ensures ∙ ap (λ (k : ℕ). part k slotSize (a .patch .now))
+    (c .before .before .before .before .before .before .before .before .slot-at .ensures) in
+    let numbers : stateNumbers (c .before .before .before .before .before .before .slot-state .result) ≡ slotNumbers s = c .before .before .before .before
+    .before .before .slot-state .ensures ∙ ap (λ (l : List ℕ). slotNumbers l) same-slot in
+    let e : slotOutcome pageSize (a .patch .now) (a .full .now) (a .block) (a .base .now) (a .page .now)
+    ≡ record { number = 0; kind = 0; page = pageOf pageSize (a .base .now) } =
+    slot-empty pageSize (a .patch .now) (a .full .now) (a .block) (a .base .now) (a .page .now) (sym numbers
+    ∙ ap stateNumbers (c .before .before .before .before .enum-told2 .given .1)) in
     let lb : length (a .base .now) ≡ pageSize = at .pre .0 .0 in
     record {
       numbers = rw e;
@@ -116,13 +128,21 @@ returns-4 c =
     let at = c .before .before .before .before .before .before .before .before .before .before .before .before .before .before .before in
     let a = at .args in
     let s : List ℕ = slotOf (a .patch .now) (a .block) in
-    let same-slot : c .before .before .before .before .before .before .before .before .before .part .result .now ≡ s = c .before .before .before .before .before .before .before .before .before .part .ensures ∙ ap (λ (k : ℕ). part k slotSize (a .patch .now)) (c .before .before .before .before .before .before .before .before .before .before .slot-at .ensures) in
-    let numbers : stateNumbers (c .before .before .before .before .before .before .before .before .slot-state .result) ≡ slotNumbers s = c .before .before .before .before .before .before .before .before .slot-state .ensures ∙ ap (λ (l : List ℕ). slotNumbers l) same-slot in
+    let same-slot : c .before .before .before .before .before .before .before .before .before .part .result .now
+    ≡ s = c .before .before .before .before .before .before .before .before .before .part .ensures
+    ∙ ap (λ (k : ℕ). part k slotSize (a .patch .now)) (c .before .before .before .before .before .before .before .before .before .before .slot-at
+    .ensures) in
+    let numbers : stateNumbers (c .before .before .before .before .before .before .before .before .slot-state .result)
+    ≡ slotNumbers s = c .before .before .before .before .before .before .before .before .slot-state .ensures
+    ∙ ap (λ (l : List ℕ). slotNumbers l) same-slot in
     let n : ℕ = c .before .before .before .before .before .before .n .given .0 .0 in
     let told : slotNumbers s ≡ soundSlot 1 n = sym numbers ∙ ap stateNumbers (c .before .before .before .before .before .before .n .given .1) in
-    let payload : c .before .before .before .before .part2 .result .now ≡ payloadOf s = c .before .before .before .before .part2 .ensures ∙ ap (λ (l : List ℕ). part payloadAt n l) same-slot ∙ ap (λ (k : ℕ). part payloadAt k s) (sym (told-patch s n (sym told) .1)) in
+    let payload : c .before .before .before .before .part2 .result .now ≡ payloadOf s = c .before .before .before .before .part2 .ensures
+    ∙ ap (λ (l : List ℕ). part payloadAt n l) same-slot ∙ ap (λ (k : ℕ). part payloadAt k s) (sym (told-patch s n (sym told) .1)) in
     let lb : length (a .base .now) ≡ pageSize = at .pre .0 .0 in
-    patch-read pageSize (a .patch .now) (a .full .now) (a .block) (a .base .now) (a .page .now) n (c .before .before .before .before .part2 .result .now) (c .before .before .read-patch .result) (c .before .before .read-patch .last .1 .1 .0) told payload (base-some pageSize (a .base .now) (λ q. omega arith)) (c .before .before .read-patch .ensures)
+    patch-read pageSize (a .patch .now) (a .full .now) (a .block) (a .base .now) (a .page .now) n (c .before .before .before .before .part2 .result .now)
+    (c .before .before .read-patch .result) (c .before .before .read-patch .last .1 .1 .0) told payload
+    (base-some pageSize (a .base .now) (λ q. omega arith)) (c .before .before .read-patch .ensures)
 
 same-length-3 : tie.Need-same-length-3
 same-length-3 c = search needs
@@ -133,16 +153,30 @@ returns-5 c =
     let at = c .before .before .before .before .before .before .before .before .before .before .before .before .before .before .before .before .before in
     let a = at .args in
     let s : List ℕ = slotOf (a .patch .now) (a .block) in
-    let same-slot : c .before .before .before .before .before .before .before .before .before .before .before .part .result .now ≡ s = c .before .before .before .before .before .before .before .before .before .before .before .part .ensures ∙ ap (λ (k : ℕ). part k slotSize (a .patch .now)) (c .before .before .before .before .before .before .before .before .before .before .before .before .slot-at .ensures) in
-    let numbers : stateNumbers (c .before .before .before .before .before .before .before .before .before .before .slot-state .result) ≡ slotNumbers s = c .before .before .before .before .before .before .before .before .before .before .slot-state .ensures ∙ ap (λ (l : List ℕ). slotNumbers l) same-slot in
-    let below : a .block < pagesIn pageSize (length (a .full .now)) = omega (arith, c .before .before .before .before .before .before .before .pages .ensures, c .before .before .before .before .before .before .if1 .left) in
-    let e : slotOutcome pageSize (a .patch .now) (a .full .now) (a .block) (a .base .now) (a .page .now) ≡ record { number = 0; kind = 2; page = placeOf pageSize (a .full .now) (a .block) } =
-    slot-full pageSize (a .patch .now) (a .full .now) (a .block) (a .base .now) (a .page .now) (sym numbers ∙ ap stateNumbers (c .before .before .before .before .before .before .before .before .enum-told3 .given .1)) below in
-    let p : c .before .before .before .part3 .result .now ≡ part (pageAt pageSize (a .block)) pageSize (a .full .now) = c .before .before .before .part3 .ensures ∙ ap (λ (k : ℕ). part k pageSize (a .full .now)) (c .before .before .before .before .page-at .ensures) in
-    let l : length (c .before .before .before .part3 .result .now) ≡ pageSize = ap (λ (x : List ℕ). length x) p ∙ part-length (pageAt pageSize (a .block)) pageSize (a .full .now) (at .pre .1 (a .block) below) in
+    let same-slot : c .before .before .before .before .before .before .before .before .before .before .before .part .result .now
+    ≡ s = c .before .before .before .before .before .before .before .before .before .before .before .part .ensures
+    ∙ ap (λ (k : ℕ). part k slotSize (a .patch .now)) (c .before .before .before .before .before .before .before .before .before .before .before .before
+    .slot-at .ensures) in
+    let numbers : stateNumbers (c .before .before .before .before .before .before .before .before .before .before .slot-state .result)
+    ≡ slotNumbers s = c .before .before .before .before .before .before .before .before .before .before .slot-state .ensures
+    ∙ ap (λ (l : List ℕ). slotNumbers l) same-slot in
+    let below : a .block < pagesIn pageSize (length (a .full .now)) = omega (
+      arith,
+      c .before .before .before .before .before .before .before .pages .ensures,
+      c .before .before .before .before .before .before .if1 .left,
+    ) in
+    let e : slotOutcome pageSize (a .patch .now) (a .full .now) (a .block) (a .base .now) (a .page .now)
+    ≡ record { number = 0; kind = 2; page = placeOf pageSize (a .full .now) (a .block) } =
+    slot-full pageSize (a .patch .now) (a .full .now) (a .block) (a .base .now) (a .page .now) (sym numbers
+    ∙ ap stateNumbers (c .before .before .before .before .before .before .before .before .enum-told3 .given .1)) below in
+    let p : c .before .before .before .part3 .result .now ≡ part (pageAt pageSize (a .block)) pageSize (a .full .now) = c .before .before .before .part3
+    .ensures ∙ ap (λ (k : ℕ). part k pageSize (a .full .now)) (c .before .before .before .before .page-at .ensures) in
+    let l : length (c .before .before .before .part3 .result .now) ≡ pageSize = ap (λ (x : List ℕ). length x) p
+    ∙ part-length (pageAt pageSize (a .block)) pageSize (a .full .now) (at .pre .1 (a .block) below) in
     record {
       numbers = rw e;
-      bytes = rw e (copied-page (a .page .now) (c .before .before .before .part3 .result .now) (c .before .before .copy2 .last .0) (at .pre .0 .1) l (c .before .before .copy2 .ensures) ∙ p);
+      bytes = rw e (copied-page (a .page .now) (c .before .before .before .part3 .result .now) (c .before .before .copy2 .last .0) (at .pre .0 .1) l
+          (c .before .before .copy2 .ensures) ∙ p);
     }
 
 pub read-block-spec : {M : Type 1} → statement M

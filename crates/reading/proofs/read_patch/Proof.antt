@@ -20,7 +20,8 @@ returns c =
     let at = c .before .before .before .before .before .before .before .before .before .before in
     let a = at .args in
     let p = c .before .before .before .before .before .apply-to in
-    apply-refuses (a .base .now) (a .payload .now) (a .page .now) (p .last .1 .1 .0) (p .result) (at .pre .0) (at .pre .1) (p .ensures) (c .before .refusal .given .0 .0) (c .before .refusal .given .1)
+    apply-refuses (a .base .now) (a .payload .now) (a .page .now) (p .last .1 .1 .0) (p .result) (at .pre .0) (at .pre .1) (p .ensures)
+    (c .before .refusal .given .0 .0) (c .before .refusal .given .1)
 
 same-length-2 : tie.Need-same-length-2
 same-length-2 c = search needs
@@ -30,7 +31,8 @@ returns-2 c =
     let at = c .before .before .before .before .before .before .before .before .before in
     let a = at .args in
     let p = c .before .before .before .before .apply-to in
-    apply-reads (a .base .now) (a .payload .now) (a .page .now) (p .last .1 .1 .0) (p .result) (at .pre .0) (at .pre .1) (p .ensures) (c .enum-told .given .0 .0) (c .enum-told .given .0 .1 .0) (c .enum-told .given .1)
+    apply-reads (a .base .now) (a .payload .now) (a .page .now) (p .last .1 .1 .0) (p .result) (at .pre .0) (at .pre .1) (p .ensures)
+    (c .enum-told .given .0 .0) (c .enum-told .given .0 .1 .0) (c .enum-told .given .1)
 
 pub read-patch-spec : {M : Type 1} → statement M
 read-patch-spec =

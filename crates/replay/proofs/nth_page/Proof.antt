@@ -18,7 +18,8 @@ part-result-end c = search needs
 
 returns : tie.Need-returns
 returns c =
-    sym (part-past (pageSize * c .before .before .before .args .i) pageSize (c .before .before .before .args .pages .now) (omega (arith, c .before .if1 .taken)))
+    sym (part-past (pageSize * c .before .before .before .args .i) pageSize (c .before .before .before .args .pages .now)
+    (omega (arith, c .before .if1 .taken)))
 
 mul-part : tie.Need-mul-part
 mul-part c = search needs

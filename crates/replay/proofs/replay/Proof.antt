@@ -9,7 +9,8 @@ use Rattle.replay.proofs.replay.Statement.{statement}
 use Rattle.replay.proofs.replay.Tie as tie
 
 abbrev Inv-loop : tie.InvT-loop
-Inv-loop patch₀ full₀ blocks bases pages marks₀ accepted₀ i₀ patch full marks accepted i = Going pageSize patch₀ full₀ blocks bases pages marks₀ i accepted patch full marks × (length patch ≡ length patch₀) × (length full ≡ length full₀) × (length marks ≡ length marks₀)
+Inv-loop patch₀ full₀ blocks bases pages marks₀ accepted₀ i₀ patch full marks accepted i = Going pageSize patch₀ full₀ blocks bases pages marks₀ i accepted
+    patch full marks × (length patch ≡ length patch₀) × (length full ≡ length full₀) × (length marks ≡ length marks₀)
 
 abbrev μ-loop : tie.MeasureT-loop
 μ-loop patch₀ full₀ blocks bases pages marks₀ accepted₀ i₀ patch full marks accepted i = length blocks - i
@@ -42,11 +43,20 @@ cast-accepted c = search needs
 
 add-accepted : tie.Need-add-accepted Inv-loop μ-loop
 add-accepted c =
-    let a = c .before .before .before .before .before .before .before .before .before .before .before .before .before .before .before .before .before .before .before .before .before .before .args in
+    let a = c .before .before .before .before .before .before .before .before .before .before .before .before .before .before .before .before .before .before
+    .before .before .before .before .args in
     let l = c .before .before .before .before .before .before .before .before .before .before .before .before .before .before .before .loop in
     let t = c .before .before .before .before .before .before .before .before .turn in
-    let h = countable pageSize (a .patch .now) (a .full .now) (a .blocks .now) (a .bases .now) (a .pages .now) (a .marks .now) (l .i) (l .accepted) (l .patch) (l .full) (l .marks) (l .inv .0) (omega arith) (t .result) (t .last .0) (t .last .1 .0) (t .ensures) in
-    record { fits = omega (arith, h, c .before .before .before .before .before .before .before .before .before .before .before .before .before .before .before .before .before .before .before .before .before .before .good .1 .1 .0 .0) }
+    let h = countable pageSize (a .patch .now) (a .full .now) (a .blocks .now) (a .bases .now) (a .pages .now) (a .marks .now) (l .i) (l .accepted) (l .patch)
+    (l .full) (l .marks) (l .inv .0) (omega arith) (t .result) (t .last .0) (t .last .1 .0) (t .ensures) in
+    record {
+      fits = omega (
+        arith,
+        h,
+        c .before .before .before .before .before .before .before .before .before .before .before .before .before .before .before
+            .before .before .before .before .before .before .before .good .1 .1 .0 .0,
+      );
+    }
 
 add-i : tie.Need-add-i Inv-loop μ-loop
 add-i c = search needs
@@ -56,10 +66,21 @@ loop-less c = search needs
 
 loop-again : tie.Need-loop-again Inv-loop μ-loop
 loop-again c =
-    let a = c .before .before .before .before .before .before .before .before .before .before .before .before .before .before .before .before .before .before .before .before .before .before .args in
+    let a = c .before .before .before .before .before .before .before .before .before .before .before .before .before .before .before .before .before .before
+    .before .before .before .before .args in
     let l = c .before .before .before .before .before .before .before .before .before .before .before .before .before .before .before .loop in
-    let t = c .before .before .before .before .before .before .before .before .turn in
-    (go-on pageSize (a .patch .now) (a .full .now) (a .blocks .now) (a .bases .now) (a .pages .now) (a .marks .now) (l .i) (l .accepted) (l .patch) (l .full) (l .marks) (l .inv .0) (omega arith) (c .before .before .before .before .before .before .before .before .before .before .before .before .before .nth-page .result .now) (c .before .before .before .before .before .before .before .before .before .before .before .before .nth-page2 .result .now) (t .result) (t .last .0) (t .last .1 .0) (c .before .before .put .last .0) (c .before .before .before .before .before .before .before .before .before .before .before .before .before .nth-page .ensures) (c .before .before .before .before .before .before .before .before .before .before .before .before .nth-page2 .ensures) (t .ensures) (c .before .before .put .ensures), search needs, search needs, search needs)
+    let t = c .before .before .before .before .before .before .before .before .turn in (
+      go-on pageSize (a .patch .now) (a .full .now) (a .blocks .now) (a .bases .now) (a .pages .now) (a .marks .now) (l .i) (l .accepted) (l .patch) (l .full)
+          (l .marks) (l .inv .0) (omega arith) (c .before .before .before .before .before .before .before .before .before .before .before .before .before
+          .nth-page .result .now) (c .before .before .before .before .before .before .before .before .before .before .before .before .nth-page2 .result .now)
+          (t .result) (t .last .0) (t .last .1 .0) (c .before .before .put .last .0)
+          (c .before .before .before .before .before .before .before .before .before .before .before .before .before .nth-page .ensures)
+          (c .before .before .before .before .before .before .before .before .before .before .before .before .nth-page2 .ensures) (t .ensures)
+          (c .before .before .put .ensures),
+      search needs,
+      search needs,
+      search needs,
+    )
 
 same-length : tie.Need-same-length Inv-loop μ-loop
 same-length c = search needs
@@ -74,7 +95,8 @@ returns : tie.Need-returns Inv-loop μ-loop
 returns c =
     let a = c .before .before .before .before .before .before .before .before .args in
     let l = c .before .loop in
-    ended pageSize (a .patch .now) (a .full .now) (a .blocks .now) (a .bases .now) (a .pages .now) (a .marks .now) (l .i) (l .accepted) (l .patch) (l .full) (l .marks) (l .inv .0) (omega arith)
+    ended pageSize (a .patch .now) (a .full .now) (a .blocks .now) (a .bases .now) (a .pages .now) (a .marks .now) (l .i) (l .accepted) (l .patch) (l .full)
+    (l .marks) (l .inv .0) (omega arith)
 
 pub replay-spec : {M : Type 1} → statement M
 replay-spec =

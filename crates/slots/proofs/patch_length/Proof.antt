@@ -69,7 +69,12 @@ returns-3 c =
     let known = c .before .before .before .before .before .shared-slice-known3 .given in
     let n : payloadLength s ≡ getD s 2 0 + 256 * getD s 3 0 = length-at s (at .pre .0) in
     let z = c .before .zero-part in
-    rw (patch-value s (at .pre .0) (at .pre .1) (omega (arith, known 2)) (omega (arith, known 3)) (omega arith), eq-eqb (getD s 1 0) 1 (c .before .before .if2 .left), off (z .result) (z .ensures) (c .if3 .taken))
+    rw (
+      patch-value s (at .pre .0) (at .pre .1) (omega (arith, known 2)) (omega (arith, known 3)) (omega arith),
+      eq-eqb (getD s 1 0) 1
+          (c .before .before .if2 .left),
+      off (z .result) (z .ensures) (c .if3 .taken),
+    )
 
 add-zero-part : tie.Need-add-zero-part
 add-zero-part c = search needs
@@ -87,7 +92,13 @@ returns-4 c =
     let y = c .before .zero-part2 in
     let t : same (part (payloadAt + payloadLength s) (room - payloadLength s) s) (zeros (room - payloadLength s)) ≡ false =
     ap (λ (k : ℕ). same (part (payloadAt + k) (room - k) s) (zeros (room - k))) n ∙ off (y .result) (y .ensures) (c .if4 .taken) in
-    rw (patch-value s (at .pre .0) (at .pre .1) (omega (arith, known 2)) (omega (arith, known 3)) (omega arith), eq-eqb (getD s 1 0) 1 (c .before .before .before .before .if2 .left), on (z .result) (z .ensures) (c .before .before .if3 .left), t)
+    rw (
+      patch-value s (at .pre .0) (at .pre .1) (omega (arith, known 2)) (omega (arith, known 3)) (omega arith),
+      eq-eqb (getD s 1 0) 1
+          (c .before .before .before .before .if2 .left),
+      on (z .result) (z .ensures) (c .before .before .if3 .left),
+      t,
+    )
 
 returns-5 : tie.Need-returns-5
 returns-5 c =
@@ -99,7 +110,13 @@ returns-5 c =
     let y = c .before .zero-part2 in
     let t : same (part (payloadAt + payloadLength s) (room - payloadLength s) s) (zeros (room - payloadLength s)) ≡ true =
     ap (λ (k : ℕ). same (part (payloadAt + k) (room - k) s) (zeros (room - k))) n ∙ on (y .result) (y .ensures) (c .if4 .left) in
-    rw (patch-value s (at .pre .0) (at .pre .1) (omega (arith, known 2)) (omega (arith, known 3)) (omega arith), eq-eqb (getD s 1 0) 1 (c .before .before .before .before .if2 .left), on (z .result) (z .ensures) (c .before .before .if3 .left), t) (sym n)
+    rw (
+      patch-value s (at .pre .0) (at .pre .1) (omega (arith, known 2)) (omega (arith, known 3)) (omega arith),
+      eq-eqb (getD s 1 0) 1
+          (c .before .before .before .before .if2 .left),
+      on (z .result) (z .ensures) (c .before .before .if3 .left),
+      t,
+    ) (sym n)
 
 pub patch-length-spec : {M : Type 1} → statement M
 patch-length-spec =

@@ -61,7 +61,13 @@ returns-6 c =
     let s : List ℕ = c .before .before .before .before .before .before .before .before .args .slot .now in
     let l : length s ≡ slotSize = c .before .before .before .before .before .before .if1 .left in
     let z = c .before .before .before .zero-part in
-    rw (slot-other s l (c .before .before .before .before .if2 .left), on (z .result) (z .ensures) (c .before .before .if4 .left), ne-eqb (getD s 0 0) 0 (c .before .if5 .left), eq-eqb (getD s 0 0) 2 (c .if6 .taken))
+    rw (
+      slot-other s l (c .before .before .before .before .if2 .left),
+      on (z .result) (z .ensures) (c .before .before .if4 .left),
+      ne-eqb (getD s 0 0) 0
+          (c .before .if5 .left),
+      eq-eqb (getD s 0 0) 2 (c .if6 .taken),
+    )
 
 returns-7 : tie.Need-returns-7
 unfolding plainNumbers
@@ -69,7 +75,13 @@ returns-7 c =
     let s : List ℕ = c .before .before .before .before .before .before .before .before .args .slot .now in
     let l : length s ≡ slotSize = c .before .before .before .before .before .before .if1 .left in
     let z = c .before .before .before .zero-part in
-    rw (slot-other s l (c .before .before .before .before .if2 .left), on (z .result) (z .ensures) (c .before .before .if4 .left), ne-eqb (getD s 0 0) 0 (c .before .if5 .left), ne-eqb (getD s 0 0) 2 (c .if6 .left))
+    rw (
+      slot-other s l (c .before .before .before .before .if2 .left),
+      on (z .result) (z .ensures) (c .before .before .if4 .left),
+      ne-eqb (getD s 0 0) 0
+          (c .before .if5 .left),
+      ne-eqb (getD s 0 0) 2 (c .if6 .left),
+    )
 
 pub slot-state-spec : {M : Type 1} → statement M
 slot-state-spec =

@@ -105,7 +105,8 @@ returns c =
     let n : ℕ = end - l .at in
     let q : l .at + n ≡ min (length (a .dst .now)) (length (a .src .now)) = omega arith in
     let long : length (drop (l .at) (a .src .now)) ≡ length (a .src .now) - l .at = length-drop (l .at) (a .src .now) in
-    put-copied (l .at) n (l .dst) (c .before .before .copy-bytes .last .0) (take n (drop (l .at) (a .src .now))) (length-take-le n (drop (l .at) (a .src .now)) (omega arith)) (omega arith) (c .before .before .copy-bytes .ensures)
+    put-copied (l .at) n (l .dst) (c .before .before .copy-bytes .last .0) (take n (drop (l .at) (a .src .now)))
+    (length-take-le n (drop (l .at) (a .src .now)) (omega arith)) (omega arith) (c .before .before .copy-bytes .ensures)
     ∙ moved-on (a .dst .now) (l .dst) (a .src .now) (l .at) n (omega arith) (omega arith) (l .inv .2)
     ∙ ap (λ (k : ℕ). splice (a .dst .now) 0 (take k (a .src .now))) q
     ∙ ap (λ (x : List ℕ). splice (a .dst .now) 0 x) (take-min (length (a .dst .now)) (a .src .now))

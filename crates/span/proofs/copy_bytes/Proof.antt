@@ -50,7 +50,8 @@ returns c =
     let a = c .before .before .before .before .before .args in
     let l = c .before .loop in
     let e : l .i ≡ min (length (a .dst .now)) (length (a .src .now)) = omega arith in
-    l .inv .2 ∙ ap (λ (k : ℕ). splice (a .dst .now) 0 (take k (a .src .now))) e ∙ ap (λ (x : List ℕ). splice (a .dst .now) 0 x) (take-min (length (a .dst .now)) (a .src .now))
+    l .inv .2 ∙ ap (λ (k : ℕ). splice (a .dst .now) 0 (take k (a .src .now))) e
+    ∙ ap (λ (x : List ℕ). splice (a .dst .now) 0 x) (take-min (length (a .dst .now)) (a .src .now))
 
 pub copy-bytes-spec : {M : Type 1} → statement M
 copy-bytes-spec =

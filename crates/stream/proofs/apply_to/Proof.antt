@@ -43,8 +43,13 @@ returns-2 c =
     let k : ℕ = reach (length (a .page .now)) in
     let e : ℕ = c .before .before .before .before .before .before .before .before .before .entries .given .0 .0 in
     let l : ℤ = c .before .before .before .before .before .before .before .before .before .entries .given .0 .1 .0 in
-    let s : SoundAs k (a .payload .now) e l = subst (λ (r : Checked). Judges k (a .payload .now) r) (c .before .before .before .before .before .before .before .before .before .entries .given .1) (c .before .before .before .before .before .before .before .before .before .before .before .check .ensures) in
-    applies-sound (a .base .now) (a .payload .now) (a .page .now) (c .before .before .before .before .before .before .copy .last .0) (c .before .before .overlay .last .0) e l (toZ w32 (ofZ w32 l)) (toZ-ofZ w32 l (record { sfits = c .before .before .before .before .before .before .before .before .known-told .given .1 .0 .1 })) s (c .before .before .before .before .before .before .copy .ensures) (c .before .before .overlay .ensures)
+    let s : SoundAs k (a .payload .now) e l = subst (λ (r : Checked). Judges k (a .payload .now) r)
+    (c .before .before .before .before .before .before .before .before .before .entries .given .1)
+    (c .before .before .before .before .before .before .before .before .before .before .before .check .ensures) in
+    applies-sound (a .base .now) (a .payload .now) (a .page .now) (c .before .before .before .before .before .before .copy .last .0)
+    (c .before .before .overlay .last .0) e l (toZ w32 (ofZ w32 l))
+    (toZ-ofZ w32 l (record { sfits = c .before .before .before .before .before .before .before .before .known-told .given .1 .0 .1 })) s
+    (c .before .before .before .before .before .before .copy .ensures) (c .before .before .overlay .ensures)
 
 pub apply-to-spec : {M : Type 1} → statement M
 apply-to-spec =

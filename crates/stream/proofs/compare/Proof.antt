@@ -18,12 +18,14 @@ pages-fit-requires c κs = search needs
 returns : tie.Need-returns
 returns c =
     let a = c .before .before .before .before .before .args in
-    compare-refused-page pageSize (a .base .now) (a .page .now) (a .payload .now) (off (c .before .pages-fit .result) (c .before .pages-fit .ensures) (c .if1 .taken))
+    compare-refused-page pageSize (a .base .now) (a .page .now) (a .payload .now)
+    (off (c .before .pages-fit .result) (c .before .pages-fit .ensures) (c .if1 .taken))
 
 returns-2 : tie.Need-returns-2
 returns-2 c =
     let a = c .before .before .before .before .before .before .args in
-    let f : pagesFit pageSize (a .base .now) (a .page .now) ≡ true = on (c .before .before .pages-fit .result) (c .before .before .pages-fit .ensures) (c .before .if1 .left) in
+    let f : pagesFit pageSize (a .base .now) (a .page .now) ≡ true = on (c .before .before .pages-fit .result) (c .before .before .pages-fit .ensures)
+    (c .before .if1 .left) in
     compare-refused-buffer pageSize (a .base .now) (a .page .now) (a .payload .now) f (c .if2 .taken)
 
 slice-aggregate-compare-to : tie.Need-slice-aggregate-compare-to
@@ -32,7 +34,8 @@ slice-aggregate-compare-to c = search needs
 compare-to-requires : tie.Need-compare-to-requires
 compare-to-requires c κs =
     let a = c .before .before .before .before .before .before .before .before .before .args in
-    let f : pagesFit pageSize (a .base .now) (a .page .now) ≡ true = on (c .before .before .before .before .before .pages-fit .result) (c .before .before .before .before .before .pages-fit .ensures) (c .before .before .before .before .if1 .left) in
+    let f : pagesFit pageSize (a .base .now) (a .page .now) ≡ true = on (c .before .before .before .before .before .pages-fit .result)
+    (c .before .before .before .before .before .pages-fit .ensures) (c .before .before .before .before .if1 .left) in
     let g : length (a .page .now) ≡ 8192 = page-length pageSize (a .base .now) (a .page .now) f in
     (omega arith, c .before .before .before .if2 .left)
 
@@ -43,13 +46,18 @@ returns-3 : tie.Need-returns-3
 unfolding zeros
 returns-3 c =
     let a = c .before .before .before .before .before .before .before .before .before .before .before .before .args in
-    let f : pagesFit pageSize (a .base .now) (a .page .now) ≡ true = on (c .before .before .before .before .before .before .before .before .pages-fit .result) (c .before .before .before .before .before .before .before .before .pages-fit .ensures) (c .before .before .before .before .before .before .before .if1 .left) in
-    compare-with pageSize (a .base .now) (zeros pageSize) (a .page .now) (a .payload .now) (c .before .before .compare-to .last .1 .1 .0) (c .before .before .compare-to .result) f (c .before .before .before .before .before .before .if2 .left) (base-none pageSize (a .base .now) (c .before .before .before .before .before .if3 .taken)) (c .before .before .compare-to .ensures)
+    let f : pagesFit pageSize (a .base .now) (a .page .now) ≡ true = on (c .before .before .before .before .before .before .before .before .pages-fit .result)
+    (c .before .before .before .before .before .before .before .before .pages-fit .ensures)
+    (c .before .before .before .before .before .before .before .if1 .left) in
+    compare-with pageSize (a .base .now) (zeros pageSize) (a .page .now) (a .payload .now) (c .before .before .compare-to .last .1 .1 .0)
+    (c .before .before .compare-to .result) f (c .before .before .before .before .before .before .if2 .left)
+    (base-none pageSize (a .base .now) (c .before .before .before .before .before .if3 .taken)) (c .before .before .compare-to .ensures)
 
 compare-to-requires-2 : tie.Need-compare-to-requires-2
 compare-to-requires-2 c κs =
     let a = c .before .before .before .before .before .before .before .before .args in
-    let f : pagesFit pageSize (a .base .now) (a .page .now) ≡ true = on (c .before .before .before .before .pages-fit .result) (c .before .before .before .before .pages-fit .ensures) (c .before .before .before .if1 .left) in
+    let f : pagesFit pageSize (a .base .now) (a .page .now) ≡ true = on (c .before .before .before .before .pages-fit .result)
+    (c .before .before .before .before .pages-fit .ensures) (c .before .before .before .if1 .left) in
     let g : length (a .page .now) ≡ 8192 = page-length pageSize (a .base .now) (a .page .now) f in
     (omega arith, c .before .before .if2 .left)
 
@@ -59,8 +67,11 @@ same-length-2 c = search needs
 returns-4 : tie.Need-returns-4
 returns-4 c =
     let a = c .before .before .before .before .before .before .before .before .before .before .before .args in
-    let f : pagesFit pageSize (a .base .now) (a .page .now) ≡ true = on (c .before .before .before .before .before .before .before .pages-fit .result) (c .before .before .before .before .before .before .before .pages-fit .ensures) (c .before .before .before .before .before .before .if1 .left) in
-    compare-with pageSize (a .base .now) (a .base .now) (a .page .now) (a .payload .now) (c .before .before .compare-to2 .last .1 .1 .0) (c .before .before .compare-to2 .result) f (c .before .before .before .before .before .if2 .left) (base-some pageSize (a .base .now) (c .before .before .before .before .if3 .left)) (c .before .before .compare-to2 .ensures)
+    let f : pagesFit pageSize (a .base .now) (a .page .now) ≡ true = on (c .before .before .before .before .before .before .before .pages-fit .result)
+    (c .before .before .before .before .before .before .before .pages-fit .ensures) (c .before .before .before .before .before .before .if1 .left) in
+    compare-with pageSize (a .base .now) (a .base .now) (a .page .now) (a .payload .now) (c .before .before .compare-to2 .last .1 .1 .0)
+    (c .before .before .compare-to2 .result) f (c .before .before .before .before .before .if2 .left)
+    (base-some pageSize (a .base .now) (c .before .before .before .before .if3 .left)) (c .before .before .compare-to2 .ensures)
 
 pub compare-spec : {M : Type 1} → statement M
 compare-spec =

@@ -50,7 +50,8 @@ part-copy-start c = search needs
 part-copy-end : tie.Need-part-copy-end
 part-copy-end c =
     let d = c .before .before .before .before .before .before .stream-of in
-    let e : 1 ≡ kindFor (d .result .length) = sym (ap kindNumber (c .before .before .enum-told3 .given .1)) ∙ c .before .before .before .before .kind-for .ensures in
+    let e : 1 ≡ kindFor (d .result .length) = sym (ap kindNumber (c .before .before .enum-told3 .given .1))
+    ∙ c .before .before .before .before .kind-for .ensures in
     omega (arith, patch-fits (d .result .length) e, d .kept .1 .1 .0)
 
 copy-requires : tie.Need-copy-requires
@@ -64,18 +65,24 @@ unfolding zeros
 returns c =
     let a = c .before .before .before .before .before .before .before .before .before .before .before .args in
     let d = c .before .before .before .before .before .before .stream-of in
-    let e : 0 ≡ kindFor (d .result .length) = sym (ap kindNumber (c .before .before .enum-told .given .1)) ∙ c .before .before .before .before .kind-for .ensures in
+    let e : 0 ≡ kindFor (d .result .length) = sym (ap kindNumber (c .before .before .enum-told .given .1))
+    ∙ c .before .before .before .before .kind-for .ensures in
     subst (λ (r : Compared). Compares (a .base .now) (a .page .now) (a .payload .now) r (a .payload .now)) (sym (c .answered .ensures))
-    (compares-kept (a .base .now) (a .page .now) (zeros 504) (d .last .1 .1 .0) (a .payload .now) (d .result) (toZ w32 (ofZ w32 (d .result .last))) (c .before .before .before .before .before .before .before .before .before .before .before .pre .0) (toZ-ofZ w32 (d .result .last) (record { sfits = c .before .struct-told .given .1 .1 .0 .1 })) (d .ensures) Empty e (λ q. omega arith))
+    (compares-kept (a .base .now) (a .page .now) (zeros 504) (d .last .1 .1 .0) (a .payload .now) (d .result) (toZ w32 (ofZ w32 (d .result .last)))
+    (c .before .before .before .before .before .before .before .before .before .before .before .pre .0)
+    (toZ-ofZ w32 (d .result .last) (record { sfits = c .before .struct-told .given .1 .1 .0 .1 })) (d .ensures) Empty e (λ q. omega arith))
 
 returns-2 : tie.Need-returns-2
 unfolding zeros
 returns-2 c =
     let a = c .before .before .before .before .before .before .before .before .before .before .before .args in
     let d = c .before .before .before .before .before .before .stream-of in
-    let e : 2 ≡ kindFor (d .result .length) = sym (ap kindNumber (c .before .before .enum-told2 .given .1)) ∙ c .before .before .before .before .kind-for .ensures in
+    let e : 2 ≡ kindFor (d .result .length) = sym (ap kindNumber (c .before .before .enum-told2 .given .1))
+    ∙ c .before .before .before .before .kind-for .ensures in
     subst (λ (r : Compared). Compares (a .base .now) (a .page .now) (a .payload .now) r (a .payload .now)) (sym (c .answered2 .ensures))
-    (compares-kept (a .base .now) (a .page .now) (zeros 504) (d .last .1 .1 .0) (a .payload .now) (d .result) (toZ w32 (ofZ w32 (d .result .last))) (c .before .before .before .before .before .before .before .before .before .before .before .pre .0) (toZ-ofZ w32 (d .result .last) (record { sfits = c .before .struct-told2 .given .1 .1 .0 .1 })) (d .ensures) Full e (λ q. omega arith))
+    (compares-kept (a .base .now) (a .page .now) (zeros 504) (d .last .1 .1 .0) (a .payload .now) (d .result) (toZ w32 (ofZ w32 (d .result .last)))
+    (c .before .before .before .before .before .before .before .before .before .before .before .pre .0)
+    (toZ-ofZ w32 (d .result .last) (record { sfits = c .before .struct-told2 .given .1 .1 .0 .1 })) (d .ensures) Full e (λ q. omega arith))
 
 same-length : tie.Need-same-length
 same-length c = search needs
@@ -85,9 +92,16 @@ unfolding zeros part
 returns-3 c =
     let a = c .before .before .before .before .before .before .before .before .before .before .before .before .before .before .before .before .before .args in
     let d = c .before .before .before .before .before .before .before .before .before .before .before .before .stream-of in
-    let e : 1 ≡ kindFor (d .result .length) = sym (ap kindNumber (c .before .before .before .before .before .before .before .before .enum-told3 .given .1)) ∙ c .before .before .before .before .before .before .before .before .before .before .kind-for .ensures in
-    subst (λ (r : Compared). Compares (a .base .now) (a .page .now) (a .payload .now) r (c .before .before .before .before .copy .last .0)) (sym (c .answered3 .ensures))
-    (compares-patch (a .base .now) (a .page .now) (zeros 504) (d .last .1 .1 .0) (a .payload .now) (d .result) (toZ w32 (ofZ w32 (d .result .last))) (c .before .before .before .before .before .before .before .before .before .before .before .before .before .before .before .before .before .pre .0) (toZ-ofZ w32 (d .result .last) (record { sfits = c .before .struct-told3 .given .1 .1 .0 .1 })) (d .ensures) (c .before .before .before .before .copy .last .0) (d .result .length - 0) (zeros-length 504) (c .before .before .before .before .before .before .before .before .before .before .before .before .before .before .before .before .before .pre .1) e (omega arith) (c .before .before .before .before .copy .ensures))
+    let e : 1 ≡ kindFor (d .result .length) = sym (ap kindNumber (c .before .before .before .before .before .before .before .before .enum-told3 .given .1))
+    ∙ c .before .before .before .before .before .before .before .before .before .before .kind-for .ensures in
+    subst (λ (r : Compared). Compares (a .base .now) (a .page .now) (a .payload .now) r (c .before .before .before .before .copy .last .0))
+    (sym (c .answered3 .ensures))
+    (compares-patch (a .base .now) (a .page .now) (zeros 504) (d .last .1 .1 .0) (a .payload .now) (d .result) (toZ w32 (ofZ w32 (d .result .last)))
+    (c .before .before .before .before .before .before .before .before .before .before .before .before .before .before .before .before .before .pre .0)
+    (toZ-ofZ w32 (d .result .last) (record { sfits = c .before .struct-told3 .given .1 .1 .0 .1 })) (d .ensures)
+    (c .before .before .before .before .copy .last .0) (d .result .length - 0) (zeros-length 504)
+    (c .before .before .before .before .before .before .before .before .before .before .before .before .before .before .before .before .before .pre .1) e
+    (omega arith) (c .before .before .before .before .copy .ensures))
 
 pub compare-to-spec : {M : Type 1} → statement M
 compare-to-spec =

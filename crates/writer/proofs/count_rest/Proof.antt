@@ -28,7 +28,8 @@ returns c =
     let a = c .before .before .before .before .before .before .args in
     let l = c .before .before .before .loop in
     let at = c .before .before .next-diff in
-    counted-all (a .base .now) (a .page .now) (l .next) (l .used) (l .many) (l .inv) (at .result) (at .ensures) (c .found .result) (inl (c .before .if1 .taken)) (c .found .ensures)
+    counted-all (a .base .now) (a .page .now) (l .next) (l .used) (l .many) (l .inv) (at .result) (at .ensures) (c .found .result)
+    (inl (c .before .if1 .taken)) (c .found .ensures)
 
 found-requires-2 : tie.Need-found-requires-2 Inv-loop μ-loop
 found-requires-2 c κs = omega (arith, c .before .before .before .before .before .before .pre .0, c .before .before .before .loop .inv .on)
@@ -38,7 +39,8 @@ returns-2 c =
     let a = c .before .before .before .before .before .before .before .args in
     let l = c .before .before .before .before .loop in
     let at = c .before .before .before .next-diff in
-    counted-all (a .base .now) (a .page .now) (l .next) (l .used) (l .many) (l .inv) (at .result) (at .ensures) (c .found2 .result) (inr (c .before .if2 .taken)) (c .found2 .ensures)
+    counted-all (a .base .now) (a .page .now) (l .next) (l .used) (l .many) (l .inv) (at .result) (at .ensures) (c .found2 .result)
+    (inr (c .before .if2 .taken)) (c .found2 .ensures)
 
 add-cluster-at : tie.Need-add-cluster-at Inv-loop μ-loop
 add-cluster-at c = omega (arith, c .if2 .left, c .before .before .before .before .before .before .pre .0)
@@ -63,7 +65,9 @@ add-used-2 c =
     let at = c .before .before .before .before .before .next-diff in
     let more = c .before .before .cluster-at in
     let w = c .before .entry-width in
-    let t = counted-cluster (a .base .now) (a .page .now) (l .next) (l .used) (l .many) (l .inv) (at .result) (at .ensures) (omega (arith, c .before .before .before .before .if1 .left)) (omega (arith, c .before .before .before .if2 .left)) (more .result) (more .ensures) (w .result) (w .ensures) in
+    let t = counted-cluster (a .base .now) (a .page .now) (l .next) (l .used) (l .many) (l .inv) (at .result) (at .ensures)
+    (omega (arith, c .before .before .before .before .if1 .left)) (omega (arith, c .before .before .before .if2 .left)) (more .result) (more .ensures)
+    (w .result) (w .ensures) in
     omega (arith, t .short, t .on, c .before .before .before .before .before .before .before .before .before .pre .0)
 
 mul-used : tie.Need-mul-used Inv-loop μ-loop
@@ -77,7 +81,13 @@ loop-less c =
     let a = c .before .before .before .before .before .before .before .before .before .before .args in
     let l = c .before .before .before .before .before .before .before .loop in
     let at = c .before .before .before .before .before .before .next-diff in
-    omega (arith, at-on (a .base .now) (a .page .now) (l .next) (at .result) (at .ensures), c .before .before .before .cluster-at .ensures .on, c .before .before .before .before .if2 .left)
+    omega (
+      arith,
+      at-on (a .base .now) (a .page .now) (l .next) (at .result) (at .ensures),
+      c .before .before .before .cluster-at .ensures .on,
+      c .before
+          .before .before .before .if2 .left,
+    )
 
 loop-again : tie.Need-loop-again Inv-loop μ-loop
 loop-again c =
@@ -86,7 +96,9 @@ loop-again c =
     let at = c .before .before .before .before .before .before .next-diff in
     let more = c .before .before .before .cluster-at in
     let w = c .before .before .entry-width in
-    counted-cluster (a .base .now) (a .page .now) (l .next) (l .used) (l .many) (l .inv) (at .result) (at .ensures) (omega (arith, c .before .before .before .before .before .if1 .left)) (omega (arith, c .before .before .before .before .if2 .left)) (more .result) (more .ensures) (w .result) (w .ensures)
+    counted-cluster (a .base .now) (a .page .now) (l .next) (l .used) (l .many) (l .inv) (at .result) (at .ensures)
+    (omega (arith, c .before .before .before .before .before .if1 .left)) (omega (arith, c .before .before .before .before .if2 .left)) (more .result)
+    (more .ensures) (w .result) (w .ensures)
 
 add-many-2 : tie.Need-add-many-2 Inv-loop μ-loop
 add-many-2 c = omega (arith, loop-again c .few, loop-again c .on, c .before .before .before .before .before .before .before .before .before .before .pre .0)

@@ -29,7 +29,8 @@ returns : tie.Need-returns Inv-loop μ-loop
 returns c =
     let a = c .before .before .before .before .before .before .args in
     let l = c .before .before .loop in
-    written-full (a .base .now) (a .page .now) (a .room .now) (l .room) (l .next) (l .used) (l .entries) (l .inv) (c .count-rest .result) (c .before .if1 .taken) (c .count-rest .ensures)
+    written-full (a .base .now) (a .page .now) (a .room .now) (l .room) (l .next) (l .used) (l .entries) (l .inv) (c .count-rest .result)
+    (c .before .if1 .taken) (c .count-rest .ensures)
 
 next-diff-requires : tie.Need-next-diff-requires Inv-loop μ-loop
 next-diff-requires c κs = search needs
@@ -45,10 +46,16 @@ returns-2 c =
     let a = c .before .before .before .before .before .before .before .before .args in
     let l = c .before .before .before .before .loop in
     let at = c .before .before .next-diff in
-    written-all (a .base .now) (a .page .now) (a .room .now) (l .room) (l .next) (l .used) (l .entries) (l .inv) (at .result) (at .ensures) (c .found .result) (inl (c .before .if2 .taken)) (c .found .ensures)
+    written-all (a .base .now) (a .page .now) (a .room .now) (l .room) (l .next) (l .used) (l .entries) (l .inv) (at .result) (at .ensures) (c .found .result)
+    (inl (c .before .if2 .taken)) (c .found .ensures)
 
 found-requires-2 : tie.Need-found-requires-2 Inv-loop μ-loop
-found-requires-2 c κs = omega (arith, c .before .before .before .before .before .before .before .before .pre, c .before .before .before .before .loop .inv .counted .on)
+found-requires-2 c κs = omega (
+  arith,
+  c .before .before .before .before .before .before .before .before .pre,
+  c .before .before .before .before .loop .inv
+      .counted .on,
+)
 
 same-length-3 : tie.Need-same-length-3 Inv-loop μ-loop
 same-length-3 c = c .before .before .before .before .before .loop .inv .kept
@@ -58,7 +65,8 @@ returns-3 c =
     let a = c .before .before .before .before .before .before .before .before .before .args in
     let l = c .before .before .before .before .before .loop in
     let at = c .before .before .before .next-diff in
-    written-all (a .base .now) (a .page .now) (a .room .now) (l .room) (l .next) (l .used) (l .entries) (l .inv) (at .result) (at .ensures) (c .found2 .result) (inr (c .before .if3 .taken)) (c .found2 .ensures)
+    written-all (a .base .now) (a .page .now) (a .room .now) (l .room) (l .next) (l .used) (l .entries) (l .inv) (at .result) (at .ensures)
+    (c .found2 .result) (inr (c .before .if3 .taken)) (c .found2 .ensures)
 
 sub-put-entry : tie.Need-sub-put-entry Inv-loop μ-loop
 sub-put-entry c =
@@ -81,7 +89,12 @@ add-entries c =
     omega (arith, counted .few, counted .on, c .before .before .before .before .before .before .before .before .before .before .before .before .before .pre)
 
 add-next : tie.Need-add-next Inv-loop μ-loop
-add-next c = omega (arith, c .before .before .before .before .before .if3 .left, c .before .before .before .before .before .before .before .before .before .before .before .before .before .pre)
+add-next c = omega (
+  arith,
+  c .before .before .before .before .before .if3 .left,
+  c .before .before .before .before .before .before .before .before .before
+      .before .before .before .before .pre,
+)
 
 loop-less : tie.Need-loop-less Inv-loop μ-loop
 loop-less c =
@@ -96,7 +109,9 @@ loop-again c =
     let l = c .before .before .before .before .before .before .before .before .before .loop in
     let at = c .before .before .before .before .before .before .before .next-diff in
     let put = c .before .before .put-entry in
-    written-more (a .base .now) (a .page .now) (a .room .now) (l .room) (l .next) (l .used) (l .entries) (l .inv) (at .result) (at .ensures) (put .result) (put .last .0) (omega (arith, c .before .before .before .before .before .before .if2 .left)) (omega (arith, c .before .before .before .before .before .if3 .left)) (put .ensures)
+    written-more (a .base .now) (a .page .now) (a .room .now) (l .room) (l .next) (l .used) (l .entries) (l .inv) (at .result) (at .ensures) (put .result)
+    (put .last .0) (omega (arith, c .before .before .before .before .before .before .if2 .left))
+    (omega (arith, c .before .before .before .before .before .if3 .left)) (put .ensures)
 
 pub encode-spec : {M : Type 1} → statement M
 encode-spec =

@@ -28,7 +28,8 @@ same-length c = search needs
 returns : tie.Need-returns
 returns c =
     let a = c .before .before .before .before .before .before .before .before .before .before .args in
-    put-short (a .room .now) (c .before .before .before .before .before .before .put .last .0) (c .before .before .put2 .last .0) (a .used) (a .jump) (a .value) (omega arith) (c .before .before .before .before .before .before .put .ensures) (c .before .before .put2 .ensures)
+    put-short (a .room .now) (c .before .before .before .before .before .before .put .last .0) (c .before .before .put2 .last .0) (a .used) (a .jump)
+    (a .value) (omega arith) (c .before .before .before .before .before .before .put .ensures) (c .before .before .put2 .ensures)
 
 put-requires-3 : tie.Need-put-requires-3
 put-requires-3 c κs = search needs
@@ -65,8 +66,15 @@ same-length-2 c = search needs
 
 returns-2 : tie.Need-returns-2
 returns-2 c =
-    let a = c .before .before .before .before .before .before .before .before .before .before .before .before .before .before .before .before .before .before .args in
-    put-long (a .room .now) (c .before .before .before .before .before .before .before .before .before .before .before .before .before .before .put3 .last .0) (c .before .before .before .before .before .before .before .before .before .before .put4 .last .0) (c .before .before .before .before .before .before .put5 .last .0) (c .before .before .put6 .last .0) (a .used) (a .jump) (a .value) (omega (arith, c .before .before .before .before .before .before .before .before .before .before .before .before .before .before .before .before)) (c .before .before .before .before .before .before .before .before .before .before .before .before .before .before .put3 .ensures) (c .before .before .before .before .before .before .before .before .before .before .put4 .ensures) (c .before .before .before .before .before .before .put5 .ensures) (c .before .before .put6 .ensures)
+    let a = c .before .before .before .before .before .before .before .before .before .before .before .before .before .before .before .before .before .before
+    .args in
+    put-long (a .room .now) (c .before .before .before .before .before .before .before .before .before .before .before .before .before .before .put3 .last .0)
+    (c .before .before .before .before .before .before .before .before .before .before .put4 .last .0)
+    (c .before .before .before .before .before .before .put5 .last .0) (c .before .before .put6 .last .0) (a .used) (a .jump) (a .value)
+    (omega (arith, c .before .before .before .before .before .before .before .before .before .before .before .before .before .before .before .before))
+    (c .before .before .before .before .before .before .before .before .before .before .before .before .before .before .put3 .ensures)
+    (c .before .before .before .before .before .before .before .before .before .before .put4 .ensures)
+    (c .before .before .before .before .before .before .put5 .ensures) (c .before .before .put6 .ensures)
 
 pub put-entry-spec : {M : Type 1} → statement M
 put-entry-spec =

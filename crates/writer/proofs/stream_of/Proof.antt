@@ -25,7 +25,8 @@ same-length c = search needs
 returns : tie.Need-returns
 returns c =
     let a = c .before .before .before .before .before .before .before .before .args in
-    subst (λ (l : List ℕ). Differs (a .base .now) l (a .room .now) (c .before .before .encode .result) (c .before .before .encode .last .1 .1 .0)) (c .before .before .before .before .part .ensures) (c .before .before .encode .ensures)
+    subst (λ (l : List ℕ). Differs (a .base .now) l (a .room .now) (c .before .before .encode .result) (c .before .before .encode .last .1 .1 .0))
+    (c .before .before .before .before .part .ensures) (c .before .before .encode .ensures)
 
 pub stream-of-spec : {M : Type 1} → statement M
 stream-of-spec = tie.close (tie.spec part-requires encode-requires same-length returns)

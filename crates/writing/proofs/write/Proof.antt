@@ -24,13 +24,20 @@ use Rattle.writing.proofs.write.Tie as tie
 
 -- where the shared check found nothing wrong, the frame is sound
 framed : (c : tie.After-enum-told)
-    → (firstOf (frameRows pageSize (pageRows pageSize (c .before .before .before .before .before .before .before .before .before .before .args .base .now) (c .before .before .before .before .before .before .before .before .before .before .args .page .now)) [] (c .before .before .before .before .before .before .before .before .before .before .args .patch .now) (c .before .before .before .before .before .before .before .before .before .before .args .full .now)) ≡ 0)
-    × Sound pageSize (c .before .before .before .before .before .before .before .before .before .before .args .patch .now) (c .before .before .before .before .before .before .before .before .before .before .args .full .now) (c .before .before .before .before .before .before .before .before .before .before .args .base .now) (c .before .before .before .before .before .before .before .before .before .before .args .page .now)
+    → (firstOf (frameRows pageSize (pageRows pageSize (c .before .before .before .before .before .before .before .before .before .before .args .base .now)
+    (c .before .before .before .before .before .before .before .before .before .before .args .page .now)) []
+    (c .before .before .before .before .before .before .before .before .before .before .args .patch .now)
+    (c .before .before .before .before .before .before .before .before .before .before .args .full .now)) ≡ 0)
+    × Sound pageSize (c .before .before .before .before .before .before .before .before .before .before .args .patch .now)
+    (c .before .before .before .before .before .before .before .before .before .before .args .full .now)
+    (c .before .before .before .before .before .before .before .before .before .before .args .base .now)
+    (c .before .before .before .before .before .before .before .before .before .before .args .page .now)
 framed c =
     let a = c .before .before .before .before .before .before .before .before .before .before .args in
     let f = c .before .before .frame-fault in
     let p = c .before .before .before .before .before .pages-fit in
-    let none = frame-told pageSize (a .patch .now) (a .full .now) (a .base .now) (a .page .now) (p .result) 0 (p .ensures) (sym (ap faultNumber (c .enum-told .given .1)) ∙ f .ensures) in
+    let none = frame-told pageSize (a .patch .now) (a .full .now) (a .base .now) (a .page .now) (p .result) 0 (p .ensures)
+    (sym (ap faultNumber (c .enum-told .given .1)) ∙ f .ensures) in
     (none, sound-frame pageSize (a .patch .now) (a .full .now) (a .base .now) (a .page .now) none)
 
 pages-fit-requires : tie.Need-pages-fit-requires
@@ -58,7 +65,9 @@ returns : tie.Need-returns
 returns c =
     let a = c .before .before .before .before .before .before .before .before .before .before .before .before .args in
     let told = framed (c .before .before) in
-    let e : writeOutcome pageSize (a .patch .now) (a .full .now) (a .block) (a .base .now) (a .page .now) ≡ record { number = 5; kind = 0; length = 0; patch = a .patch .now; full = a .full .now } = write-block pageSize (a .patch .now) (a .full .now) (a .block) (a .base .now) (a .page .now) (told .0) (omega (arith, c .before .blocks2 .ensures, c .if1 .taken)) in
+    let e : writeOutcome pageSize (a .patch .now) (a .full .now) (a .block) (a .base .now) (a .page .now)
+    ≡ record { number = 5; kind = 0; length = 0; patch = a .patch .now; full = a .full .now } = write-block pageSize (a .patch .now) (a .full .now)
+    (a .block) (a .base .now) (a .page .now) (told .0) (omega (arith, c .before .blocks2 .ensures, c .if1 .taken)) in
     record { numbers = rw e; patch-bytes = rw e; full-bytes = rw e }
 
 cast-write-block : tie.Need-cast-write-block
@@ -75,8 +84,19 @@ write-block-requires : tie.Need-write-block-requires
 write-block-requires c κs =
     let a = c .before .before .before .before .before .before .before .before .before .before .before .before .before .before .before .before .args in
     let told = framed (c .before .before .before .before .before .before) in
-    let below : a .block < blocksIn (length (a .patch .now)) = omega (arith, c .before .before .before .before .before .blocks2 .ensures, c .before .before .before .before .if1 .left) in
-    ((refl, told .1 .page-size), (slot-within pageSize (length (a .patch .now)) (a .block) (told .1 .patch-fit) below, places pageSize (blocksIn (length (a .patch .now))) (a .full .now) (lit< tt) (told .1 .full-fit)))
+    let below : a .block < blocksIn (length (a .patch .now)) = omega (
+      arith,
+      c .before .before .before .before .before .blocks2 .ensures,
+      c .before .before
+          .before .before .if1 .left,
+    ) in (
+      (refl, told .1 .page-size),
+      (
+        slot-within pageSize (length (a .patch .now)) (a .block) (told .1 .patch-fit) below,
+        places pageSize
+            (blocksIn (length (a .patch .now))) (a .full .now) (lit< tt) (told .1 .full-fit),
+      ),
+    )
 
 same-length-3 : tie.Need-same-length-3
 same-length-3 c = search needs
@@ -87,12 +107,20 @@ same-length-4 c = search needs
 returns-2 : tie.Need-returns-2
 unfolding zeros
 returns-2 c =
-    let a = c .before .before .before .before .before .before .before .before .before .before .before .before .before .before .before .before .before .before .before .before .before .args in
+    let a = c .before .before .before .before .before .before .before .before .before .before .before .before .before .before .before .before .before .before
+    .before .before .before .args in
     let told = framed (c .before .before .before .before .before .before .before .before .before .before .before) in
-    let below : a .block < blocksIn (length (a .patch .now)) = omega (arith, c .before .before .before .before .before .before .before .before .before .before .blocks2 .ensures, c .before .before .before .before .before .before .before .before .before .if1 .left) in
-    let e : writeOutcome pageSize (a .patch .now) (a .full .now) (a .block) (a .base .now) (a .page .now) ≡ blockOutcome pageSize (a .patch .now) (a .full .now) (a .block) (zeros pageSize) (a .page .now) =
+    let below : a .block < blocksIn (length (a .patch .now)) = omega (
+      arith,
+      c .before .before .before .before .before .before .before .before .before .before
+          .blocks2 .ensures,
+      c .before .before .before .before .before .before .before .before .before .if1 .left,
+    ) in
+    let e : writeOutcome pageSize (a .patch .now) (a .full .now) (a .block) (a .base .now) (a .page .now)
+    ≡ blockOutcome pageSize (a .patch .now) (a .full .now) (a .block) (zeros pageSize) (a .page .now) =
     write-within pageSize (a .patch .now) (a .full .now) (a .block) (a .base .now) (a .page .now) (told .0) below
-    ∙ same-base-write pageSize (a .patch .now) (a .full .now) (a .block) (a .base .now) (zeros pageSize) (a .page .now) (base-none pageSize (a .base .now) (c .before .before .before .before .before .before .before .before .if2 .taken) ∙ sym (zeros-base pageSize)) in
+    ∙ same-base-write pageSize (a .patch .now) (a .full .now) (a .block) (a .base .now) (zeros pageSize) (a .page .now)
+    (base-none pageSize (a .base .now) (c .before .before .before .before .before .before .before .before .if2 .taken) ∙ sym (zeros-base pageSize)) in
     let w = c .before .before .before .before .write-block .ensures in
     record { numbers = rw e (w .numbers); patch-bytes = rw e (w .patch-bytes); full-bytes = rw e (w .full-bytes) }
 
@@ -107,8 +135,19 @@ write-block-requires-2 : tie.Need-write-block-requires-2
 write-block-requires-2 c κs =
     let a = c .before .before .before .before .before .before .before .before .before .before .before .before .before .before .before .args in
     let told = framed (c .before .before .before .before .before) in
-    let below : a .block < blocksIn (length (a .patch .now)) = omega (arith, c .before .before .before .before .blocks2 .ensures, c .before .before .before .if1 .left) in
-    ((told .1 .base-size (c .before .before .if2 .left), told .1 .page-size), (slot-within pageSize (length (a .patch .now)) (a .block) (told .1 .patch-fit) below, places pageSize (blocksIn (length (a .patch .now))) (a .full .now) (lit< tt) (told .1 .full-fit)))
+    let below : a .block < blocksIn (length (a .patch .now)) = omega (
+      arith,
+      c .before .before .before .before .blocks2 .ensures,
+      c .before .before .before
+          .if1 .left,
+    ) in (
+      (told .1 .base-size (c .before .before .if2 .left), told .1 .page-size),
+      (
+        slot-within pageSize (length (a .patch .now)) (a .block) (told .1 .patch-fit) below,
+        places pageSize (blocksIn (length (a .patch .now)))
+            (a .full .now) (lit< tt) (told .1 .full-fit),
+      ),
+    )
 
 same-length-5 : tie.Need-same-length-5
 same-length-5 c = search needs
@@ -120,8 +159,13 @@ returns-3 : tie.Need-returns-3
 returns-3 c =
     let a = c .before .before .before .before .before .before .before .before .before .before .before .args in
     let r = c .before .r .given .0 .0 in
-    let told = frame-told pageSize (a .patch .now) (a .full .now) (a .base .now) (a .page .now) (c .before .before .before .before .before .before .pages-fit .result) (refusalNumber r) (c .before .before .before .before .before .before .pages-fit .ensures) (sym (ap faultNumber (c .before .r .given .1)) ∙ c .before .before .before .frame-fault .ensures) in
-    let e : writeOutcome pageSize (a .patch .now) (a .full .now) (a .block) (a .base .now) (a .page .now) ≡ record { number = refusalNumber r; kind = 0; length = 0; patch = a .patch .now; full = a .full .now } = write-frame pageSize (a .patch .now) (a .full .now) (a .block) (a .base .now) (a .page .now) (refusalNumber r) told (refusal-some r) in
+    let told = frame-told pageSize (a .patch .now) (a .full .now) (a .base .now) (a .page .now)
+    (c .before .before .before .before .before .before .pages-fit .result) (refusalNumber r)
+    (c .before .before .before .before .before .before .pages-fit .ensures) (sym (ap faultNumber (c .before .r .given .1))
+    ∙ c .before .before .before .frame-fault .ensures) in
+    let e : writeOutcome pageSize (a .patch .now) (a .full .now) (a .block) (a .base .now) (a .page .now)
+    ≡ record { number = refusalNumber r; kind = 0; length = 0; patch = a .patch .now; full = a .full .now } = write-frame pageSize (a .patch .now)
+    (a .full .now) (a .block) (a .base .now) (a .page .now) (refusalNumber r) told (refusal-some r) in
     record { numbers = rw e; patch-bytes = rw e; full-bytes = rw e }
 
 same-length-7 : tie.Need-same-length-7
@@ -132,10 +176,18 @@ same-length-8 c = search needs
 
 returns-4 : tie.Need-returns-4
 returns-4 c =
-    let a = c .before .before .before .before .before .before .before .before .before .before .before .before .before .before .before .before .before .before .before .before .args in
+    let a = c .before .before .before .before .before .before .before .before .before .before .before .before .before .before .before .before .before .before
+    .before .before .args in
     let told = framed (c .before .before .before .before .before .before .before .before .before .before) in
-    let below : a .block < blocksIn (length (a .patch .now)) = omega (arith, c .before .before .before .before .before .before .before .before .before .blocks2 .ensures, c .before .before .before .before .before .before .before .before .if1 .left) in
-    let e : writeOutcome pageSize (a .patch .now) (a .full .now) (a .block) (a .base .now) (a .page .now) ≡ blockOutcome pageSize (a .patch .now) (a .full .now) (a .block) (a .base .now) (a .page .now) = write-within pageSize (a .patch .now) (a .full .now) (a .block) (a .base .now) (a .page .now) (told .0) below in
+    let below : a .block < blocksIn (length (a .patch .now)) = omega (
+      arith,
+      c .before .before .before .before .before .before .before .before .before
+          .blocks2 .ensures,
+      c .before .before .before .before .before .before .before .before .if1 .left,
+    ) in
+    let e : writeOutcome pageSize (a .patch .now) (a .full .now) (a .block) (a .base .now) (a .page .now)
+    ≡ blockOutcome pageSize (a .patch .now) (a .full .now) (a .block) (a .base .now) (a .page .now) = write-within pageSize (a .patch .now) (a .full .now)
+    (a .block) (a .base .now) (a .page .now) (told .0) below in
     let w = c .before .before .before .before .write-block2 .ensures in
     record { numbers = rw e (w .numbers); patch-bytes = rw e (w .patch-bytes); full-bytes = rw e (w .full-bytes) }
 

@@ -38,11 +38,14 @@ returns c =
     let d = c .before .before .before .before .stream-of in
     let k : ℕ = kindNumber (c .before .before .kind-for .result) in
     let kind : k ≡ decidedKind pageSize (a .base .now) (a .page .now) =
-    kind-is (a .base .now) (a .page .now) _ (d .last .1 .1 .0) (d .result) k (at .pre .0 .0) (at .pre .0 .1) refl (d .ensures) (c .before .before .kind-for .ensures) in
+    kind-is (a .base .now) (a .page .now) _ (d .last .1 .1 .0) (d .result) k (at .pre .0 .0) (at .pre .0 .1) refl (d .ensures)
+    (c .before .before .kind-for .ensures) in
     let m = c .before .place-missing in
     let t : (eqb (decidedKind pageSize (a .base .now) (a .page .now)) 2 && leb (pagesIn pageSize (length (a .full .now))) (a .block)) ≡ true =
     sym (ap (λ (n : ℕ). eqb n 2 && leb (pagesIn pageSize (length (a .full .now))) (a .block)) kind) ∙ sym (m .ensures) ∙ c .if1 .taken in
-    let e : blockOutcome pageSize (a .patch .now) (a .full .now) (a .block) (a .base .now) (a .page .now) ≡ record { number = 8; kind = 0; length = 0; patch = a .patch .now; full = a .full .now } = block-missing pageSize (a .patch .now) (a .full .now) (a .block) (a .base .now) (a .page .now) t in
+    let e : blockOutcome pageSize (a .patch .now) (a .full .now) (a .block) (a .base .now) (a .page .now)
+    ≡ record { number = 8; kind = 0; length = 0; patch = a .patch .now; full = a .full .now } = block-missing pageSize (a .patch .now) (a .full .now)
+    (a .block) (a .base .now) (a .page .now) t in
     record { numbers = rw e; patch-bytes = rw e; full-bytes = rw e }
 
 room-used-requires : tie.Need-room-used-requires
@@ -61,8 +64,11 @@ part-carry-out-end c =
     let d = c .before .before .before .before .before .before .before .before .stream-of in
     let k : ℕ = kindNumber (c .before .before .before .before .before .before .kind-for .result) in
     let kind : k ≡ decidedKind pageSize (a .base .now) (a .page .now) =
-    kind-is (a .base .now) (a .page .now) _ (d .last .1 .1 .0) (d .result) k (at .pre .0 .0) (at .pre .0 .1) refl (d .ensures) (c .before .before .before .before .before .before .kind-for .ensures) in
-    let u = used-fits (a .base .now) (a .page .now) _ (d .last .1 .1 .0) (d .result) k (at .pre .0 .0) (at .pre .0 .1) refl (d .ensures) (c .before .before .before .before .before .before .kind-for .ensures) (c .before .before .before .room-used .result) (c .before .before .before .room-used .ensures) in
+    kind-is (a .base .now) (a .page .now) _ (d .last .1 .1 .0) (d .result) k (at .pre .0 .0) (at .pre .0 .1) refl (d .ensures)
+    (c .before .before .before .before .before .before .kind-for .ensures) in
+    let u = used-fits (a .base .now) (a .page .now) _ (d .last .1 .1 .0) (d .result) k (at .pre .0 .0) (at .pre .0 .1) refl (d .ensures)
+    (c .before .before .before .before .before .before .kind-for .ensures) (c .before .before .before .room-used .result)
+    (c .before .before .before .room-used .ensures) in
     omega (arith, u, d .kept .1 .1 .0)
 
 carry-out-requires : tie.Need-carry-out-requires
@@ -72,8 +78,16 @@ carry-out-requires c κs =
     let d = c .before .before .before .before .before .before .before .before .before .stream-of in
     let k : ℕ = kindNumber (c .before .before .before .before .before .before .before .kind-for .result) in
     let kind : k ≡ decidedKind pageSize (a .base .now) (a .page .now) =
-    kind-is (a .base .now) (a .page .now) _ (d .last .1 .1 .0) (d .result) k (at .pre .0 .0) (at .pre .0 .1) refl (d .ensures) (c .before .before .before .before .before .before .before .kind-for .ensures) in
-    ((at .pre .1 .0, taken-fits (a .base .now) (a .page .now) _ (d .last .1 .1 .0) (d .result) k (at .pre .0 .0) (at .pre .0 .1) refl (d .ensures) (c .before .before .before .before .before .before .before .kind-for .ensures) (c .before .before .before .before .room-used .result) (c .before .before .before .before .room-used .ensures)), (at .pre .1 .1, at .pre .0 .1))
+    kind-is (a .base .now) (a .page .now) _ (d .last .1 .1 .0) (d .result) k (at .pre .0 .0) (at .pre .0 .1) refl (d .ensures)
+    (c .before .before .before .before .before .before .before .kind-for .ensures) in (
+      (
+        at .pre .1 .0,
+        taken-fits (a .base .now) (a .page .now) _ (d .last .1 .1 .0) (d .result) k (at .pre .0 .0) (at .pre .0 .1) refl (d .ensures)
+            (c .before .before .before .before .before .before .before .kind-for .ensures) (c .before .before .before .before .room-used .result)
+            (c .before .before .before .before .room-used .ensures),
+      ),
+      (at .pre .1 .1, at .pre .0 .1),
+    )
 
 same-length : tie.Need-same-length
 same-length c = search needs
@@ -83,29 +97,38 @@ same-length-2 c = search needs
 
 returns-2 : tie.Need-returns-2
 returns-2 c =
-    let at = c .before .before .before .before .before .before .before .before .before .before .before .before .before .before .before .before .before .before .before .before in
+    let at = c .before .before .before .before .before .before .before .before .before .before .before .before .before .before .before .before .before .before
+    .before .before in
     let a = at .args in
     let d = c .before .before .before .before .before .before .before .before .before .before .before .before .before .before .stream-of in
     let k : ℕ = kindNumber (c .before .before .before .before .before .before .before .before .before .before .before .before .kind-for .result) in
     let kind : k ≡ decidedKind pageSize (a .base .now) (a .page .now) =
-    kind-is (a .base .now) (a .page .now) _ (d .last .1 .1 .0) (d .result) k (at .pre .0 .0) (at .pre .0 .1) refl (d .ensures) (c .before .before .before .before .before .before .before .before .before .before .before .before .kind-for .ensures) in
+    kind-is (a .base .now) (a .page .now) _ (d .last .1 .1 .0) (d .result) k (at .pre .0 .0) (at .pre .0 .1) refl (d .ensures)
+    (c .before .before .before .before .before .before .before .before .before .before .before .before .kind-for .ensures) in
     let m = c .before .before .before .before .before .before .before .before .before .before .before .place-missing in
     let t : (eqb (decidedKind pageSize (a .base .now) (a .page .now)) 2 && leb (pagesIn pageSize (length (a .full .now))) (a .block)) ≡ false =
-    sym (ap (λ (n : ℕ). eqb n 2 && leb (pagesIn pageSize (length (a .full .now))) (a .block)) kind) ∙ sym (m .ensures) ∙ c .before .before .before .before .before .before .before .before .before .before .if1 .left in
+    sym (ap (λ (n : ℕ). eqb n 2 && leb (pagesIn pageSize (length (a .full .now))) (a .block)) kind) ∙ sym (m .ensures)
+    ∙ c .before .before .before .before .before .before .before .before .before .before .if1 .left in
     let e : blockOutcome pageSize (a .patch .now) (a .full .now) (a .block) (a .base .now) (a .page .now)
     ≡ record {
       number = 0;
       kind = decidedKind pageSize (a .base .now) (a .page .now);
       length = length (decidedStream pageSize (a .base .now) (a .page .now));
-      patch = carriedPatch (a .patch .now) (a .block) (decidedKind pageSize (a .base .now) (a .page .now)) (decidedStream pageSize (a .base .now) (a .page .now));
+      patch = carriedPatch (a .patch .now) (a .block) (decidedKind pageSize (a .base .now) (a .page .now))
+          (decidedStream pageSize (a .base .now) (a .page .now));
       full = carriedFull pageSize (a .full .now) (a .block) (decidedKind pageSize (a .base .now) (a .page .now)) (a .page .now);
     } =
     block-done pageSize (a .patch .now) (a .full .now) (a .block) (a .base .now) (a .page .now) t in
-    let n : d .result .length ≡ length (decidedStream pageSize (a .base .now) (a .page .now)) = length-is (a .base .now) (a .page .now) _ (d .last .1 .1 .0) (d .result) k (at .pre .0 .0) (at .pre .0 .1) refl (d .ensures) (c .before .before .before .before .before .before .before .before .before .before .before .before .kind-for .ensures) in
+    let n : d .result .length ≡ length (decidedStream pageSize (a .base .now) (a .page .now)) = length-is (a .base .now) (a .page .now) _ (d .last .1 .1 .0)
+    (d .result) k (at .pre .0 .0) (at .pre .0 .1) refl (d .ensures) (c .before .before .before .before .before .before .before .before .before .before
+    .before .before .kind-for .ensures) in
     let done = c .before .before .before .before .carry-out .ensures in
     record {
       numbers = rw e (numbered kind n);
-      patch-bytes = rw e (done .0 ∙ slot-is (a .base .now) (a .page .now) _ (d .last .1 .1 .0) (d .result) k (at .pre .0 .0) (at .pre .0 .1) refl (d .ensures) (c .before .before .before .before .before .before .before .before .before .before .before .before .kind-for .ensures) (a .patch .now) (a .block) (c .before .before .before .before .before .before .before .before .before .room-used .result) (c .before .before .before .before .before .before .before .before .before .room-used .ensures));
+      patch-bytes = rw e (done .0 ∙ slot-is (a .base .now) (a .page .now) _ (d .last .1 .1 .0) (d .result) k (at .pre .0 .0) (at .pre .0 .1) refl (d .ensures)
+          (c .before .before .before .before .before .before .before .before .before .before .before .before .kind-for .ensures) (a .patch .now) (a .block)
+          (c .before .before .before .before .before .before .before .before .before .room-used .result)
+          (c .before .before .before .before .before .before .before .before .before .room-used .ensures));
       full-bytes = rw e (done .1 ∙ ap (λ (n : ℕ). carriedFull pageSize (a .full .now) (a .block) n (a .page .now)) kind);
     }
 

@@ -50,7 +50,8 @@ landed-requires c κs =
 returns-3 : tie.Need-returns-3
 returns-3 c =
     let a = c .before .before .before .before .before .before .before .args in
-    lands (reach (a .size)) (a .position) (a .payload .now) (a .place) 2 (getD (a .payload .now) (a .place) 0) (getD (a .payload .now) (a .place + 1) 0) (toZ w32 (ofZ w32 (a .position))) (c .landed .result)
+    lands (reach (a .size)) (a .position) (a .payload .now) (a .place) 2 (getD (a .payload .now) (a .place) 0) (getD (a .payload .now) (a .place + 1) 0)
+    (toZ w32 (ofZ w32 (a .position))) (c .landed .result)
     (toZ-ofZ w32 (a .position) (c .before .before .before .before .before .before .before .fits .position))
     (omega arith) (omega arith)
     (short-read (reach (a .size)) (a .position) (a .payload .now) (a .place) (omega arith) (c .before .before .before .if2 .taken))
@@ -111,7 +112,8 @@ returns-5 : tie.Need-returns-5
 returns-5 c =
     let a = c .before .before .before .before .before .before .before .before .before .args in
     let s : List ℕ = a .payload .now in
-    lands (reach (a .size)) (a .position) s (a .place) 4 (getD s (a .place + 1) 0 + 256 * getD s (a .place + 2) 0) (getD s (a .place + 3) 0) (toZ w32 (ofZ w32 (a .position))) (c .landed2 .result)
+    lands (reach (a .size)) (a .position) s (a .place) 4 (getD s (a .place + 1) 0 + 256 * getD s (a .place + 2) 0) (getD s (a .place + 3) 0)
+    (toZ w32 (ofZ w32 (a .position))) (c .landed2 .result)
     (toZ-ofZ w32 (a .position) (c .before .before .before .before .before .before .before .before .before .fits .position))
     (omega arith) (omega arith)
     (long-read (reach (a .size)) (a .position) s (a .place) (omega arith) (c .before .before .before .before .before .if2 .left))

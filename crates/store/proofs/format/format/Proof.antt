@@ -37,7 +37,8 @@ returns-2 c =
     let a = c .before .before .before .before .before .before .before .before .before .before .before .before .args in
     let f = c .before .before .before .before .before .before .before .before .before .lengths-fit in
     let fit = on (f .result) (f .ensures) (c .before .before .before .before .before .before .before .before .if1 .left) in
-    let e : formatOutcome pageSize (a .patch .now) (a .full .now) ≡ record { number = 0; patch = freshPatch pageSize (length (a .patch .now)); full = freshFull pageSize (length (a .full .now)) } =
+    let e : formatOutcome pageSize (a .patch .now) (a .full .now)
+    ≡ record { number = 0; patch = freshPatch pageSize (length (a .patch .now)); full = freshFull pageSize (length (a .full .now)) } =
     format-done pageSize (a .patch .now) (a .full .now) fit in
     record {
       numbers = rw e;

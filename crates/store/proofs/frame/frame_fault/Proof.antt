@@ -21,14 +21,25 @@ unfolding frameBy orElse
 returns-2 c =
     let a = c .before .before .before .before .before .args in
     let f = c .before .lengths-fit in
-    rw (frame-is pageSize (a .patch .now) (a .full .now) (a .pages-fit) (a .buffer-fits), on (a .pages-fit) refl (c .before .before .if1 .left), off (f .result) (f .ensures) (c .if2 .taken))
+    rw (
+      frame-is pageSize (a .patch .now) (a .full .now) (a .pages-fit) (a .buffer-fits),
+      on (a .pages-fit) refl (c .before .before .if1 .left),
+      off
+          (f .result) (f .ensures) (c .if2 .taken),
+    )
 
 returns-3 : tie.Need-returns-3
 unfolding frameBy orElse
 returns-3 c =
     let a = c .before .before .before .before .before .before .args in
     let f = c .before .before .lengths-fit in
-    rw (frame-is pageSize (a .patch .now) (a .full .now) (a .pages-fit) (a .buffer-fits), on (a .pages-fit) refl (c .before .before .before .if1 .left), on (f .result) (f .ensures) (c .before .if2 .left), off (a .buffer-fits) refl (c .if3 .taken))
+    rw (
+      frame-is pageSize (a .patch .now) (a .full .now) (a .pages-fit) (a .buffer-fits),
+      on (a .pages-fit) refl (c .before .before .before .if1 .left),
+      on
+          (f .result) (f .ensures) (c .before .if2 .left),
+      off (a .buffer-fits) refl (c .if3 .taken),
+    )
 
 headers-fault-requires : tie.Need-headers-fault-requires
 headers-fault-requires c κs = search needs
@@ -38,7 +49,14 @@ unfolding frameBy orElse
 returns-4 c =
     let a = c .before .before .before .before .before .before .before .args in
     let f = c .before .before .before .lengths-fit in
-    rw (frame-is pageSize (a .patch .now) (a .full .now) (a .pages-fit) (a .buffer-fits), on (a .pages-fit) refl (c .before .before .before .before .if1 .left), on (f .result) (f .ensures) (c .before .before .if2 .left), on (a .buffer-fits) refl (c .before .if3 .left)) (c .headers-fault .ensures)
+    rw (
+      frame-is pageSize (a .patch .now) (a .full .now) (a .pages-fit) (a .buffer-fits),
+      on (a .pages-fit) refl
+          (c .before .before .before .before .if1 .left),
+      on (f .result) (f .ensures) (c .before .before .if2 .left),
+      on (a .buffer-fits) refl
+          (c .before .if3 .left),
+    ) (c .headers-fault .ensures)
 
 pub frame-fault-spec : {M : Type 1} → statement M
 frame-fault-spec =

@@ -29,22 +29,34 @@ enum-told-3 c = search needs
 returns-2 : tie.Need-returns-2
 returns-2 c =
     let s : List ℕ = c .before .before .before .before .before .args .slot .now in
-    record { numbers = sym (judge-done s 0 0 (c .before .before .before .if1 .left) (sym (c .before .before .slot-state .ensures) ∙ ap stateNumbers (c .enum-told .given .1))) }
+    record {
+      numbers = sym (judge-done s 0 0 (c .before .before .before .if1 .left) (sym (c .before .before .slot-state .ensures)
+          ∙ ap stateNumbers (c .enum-told .given .1)));
+    }
 
 returns-3 : tie.Need-returns-3
 returns-3 c =
     let s : List ℕ = c .before .before .before .before .before .before .args .slot .now in
-    record { numbers = sym (judge-done s 1 (c .before .n .given .0 .0) (c .before .before .before .before .if1 .left) (sym (c .before .before .before .slot-state .ensures) ∙ ap stateNumbers (c .before .n .given .1))) }
+    record {
+      numbers = sym (judge-done s 1 (c .before .n .given .0 .0) (c .before .before .before .before .if1 .left)
+          (sym (c .before .before .before .slot-state .ensures) ∙ ap stateNumbers (c .before .n .given .1)));
+    }
 
 returns-4 : tie.Need-returns-4
 returns-4 c =
     let s : List ℕ = c .before .before .before .before .before .args .slot .now in
-    record { numbers = sym (judge-done s 2 0 (c .before .before .before .if1 .left) (sym (c .before .before .slot-state .ensures) ∙ ap stateNumbers (c .enum-told2 .given .1))) }
+    record {
+      numbers = sym (judge-done s 2 0 (c .before .before .before .if1 .left) (sym (c .before .before .slot-state .ensures)
+          ∙ ap stateNumbers (c .enum-told2 .given .1)));
+    }
 
 returns-5 : tie.Need-returns-5
 returns-5 c =
     let s : List ℕ = c .before .before .before .before .before .args .slot .now in
-    record { numbers = sym (judge-slot s (c .before .before .before .if1 .left) (sym (c .before .before .slot-state .ensures) ∙ ap stateNumbers (c .enum-told3 .given .1))) }
+    record {
+      numbers = sym (judge-slot s (c .before .before .before .if1 .left) (sym (c .before .before .slot-state .ensures)
+          ∙ ap stateNumbers (c .enum-told3 .given .1)));
+    }
 
 pub judge-spec : {M : Type 1} → statement M
 judge-spec =

@@ -86,9 +86,11 @@ unfolding slotOf
 judged c =
     let a = c .before .before .before .before .before .before .before .before .before .before .before .args in
     let f = c .before .before .before .before .before .before .before .before .before .patch-fits in
-    let same-slot : c .before .part .result .now ≡ slotOf (a .patch .now) (a .block) = c .before .part .ensures ∙ ap (λ (k : ℕ). part k slotSize (a .patch .now)) (c .before .before .slot-at .ensures) in (
+    let same-slot : c .before .part .result .now ≡ slotOf (a .patch .now) (a .block) = c .before .part .ensures
+    ∙ ap (λ (k : ℕ). part k slotSize (a .patch .now)) (c .before .before .slot-at .ensures) in (
       on (f .result) (f .ensures) (c .before .before .before .before .before .before .before .before .if1 .left),
-      sym (c .before .before .before .before .before .before .before .patch-fault .ensures) ∙ ap faultNumber (c .before .before .before .before .before .enum-told2 .given .1),
+      sym (c .before .before .before .before .before .before .before .patch-fault .ensures)
+          ∙ ap faultNumber (c .before .before .before .before .before .enum-told2 .given .1),
       omega (arith, c .before .before .before .before .blocks2 .ensures, c .before .before .before .if2 .left),
       c .payload-length .ensures ∙ ap (λ (l : List ℕ). cond (isPatch l) (payloadLength l) 0) same-slot,
     )
@@ -109,7 +111,8 @@ returns-4 c =
     let f = c .before .before .before .before .patch-fits in
     let fit : patchFits pageSize (length p) ≡ true = on (f .result) (f .ensures) (c .before .before .before .if1 .left) in
     let r = c .enum-told .given .0 .0 in
-    show-header pageSize p (a .block) (refusalNumber r) fit (sym (c .before .before .patch-fault .ensures) ∙ ap faultNumber (c .enum-told .given .1)) (refusal-some r)
+    show-header pageSize p (a .block) (refusalNumber r) fit (sym (c .before .before .patch-fault .ensures) ∙ ap faultNumber (c .enum-told .given .1))
+    (refusal-some r)
 
 returns-5 : tie.Need-returns-5
 returns-5 c =
@@ -118,7 +121,8 @@ returns-5 c =
     let s : List ℕ = slotOf (a .patch .now) (a .block) in
     let n : ℕ = c .before .payload-length .result in
     let t : (isPatch s ≡ true) × (payloadLength s ≡ n) = length-some s n (c .if3 .left) (sym (j .3)) in
-    let e : record { at = slotAt (a .block) + payloadAt; len = payloadLength s } ≡ showPlace pageSize (a .patch .now) (a .block) = show-done pageSize (a .patch .now) (a .block) (j .0) (j .1) (j .2) (t .0) in
+    let e : record { at = slotAt (a .block) + payloadAt; len = payloadLength s } ≡ showPlace pageSize (a .patch .now) (a .block) = show-done pageSize
+    (a .patch .now) (a .block) (j .0) (j .1) (j .2) (t .0) in
     rw (← e) (placed (c .before .before .before .slot-at .ensures) (sym (t .1)))
 
 pub payload-place-spec : {M : Type 1} → statement M

@@ -40,7 +40,8 @@ part-fill-end : tie.Need-part-fill-end
 part-fill-end c =
     let at = c .before .before .before .before .before .before .before in
     let a = at .args in
-    let below : a .block < pagesIn pageSize (length (a .full .now)) = omega (arith, c .before .before .before .before .pages .ensures, c .before .before .before .if1 .left) in
+    let below : a .block < pagesIn pageSize (length (a .full .now)) = omega
+    (arith, c .before .before .before .before .pages .ensures, c .before .before .before .if1 .left) in
     let fits : pageAt pageSize (a .block) + pageSize ≤ length (a .full .now) = at .pre .0 (a .block) below in
     let e : c .before .before .page-at .result ≡ pageAt pageSize (a .block) = c .before .before .page-at .ensures in
     omega arith
@@ -61,7 +62,8 @@ part-fill-end-2 : tie.Need-part-fill-end-2
 part-fill-end-2 c =
     let at = c .before .before .before .before .before .before .before in
     let a = at .args in
-    let below : a .block < pagesIn pageSize (length (a .full .now)) = omega (arith, c .before .before .before .before .pages .ensures, c .before .before .before .if1 .left) in
+    let below : a .block < pagesIn pageSize (length (a .full .now)) = omega
+    (arith, c .before .before .before .before .pages .ensures, c .before .before .before .if1 .left) in
     let fits : pageAt pageSize (a .block) + pageSize ≤ length (a .full .now) = at .pre .0 (a .block) below in
     let e : c .before .before .page-at .result ≡ pageAt pageSize (a .block) = c .before .before .page-at .ensures in
     omega arith
@@ -82,7 +84,8 @@ part-copy-end : tie.Need-part-copy-end
 part-copy-end c =
     let at = c .before .before .before .before .before .before .before in
     let a = at .args in
-    let below : a .block < pagesIn pageSize (length (a .full .now)) = omega (arith, c .before .before .before .before .pages .ensures, c .before .before .before .if1 .left) in
+    let below : a .block < pagesIn pageSize (length (a .full .now)) = omega
+    (arith, c .before .before .before .before .pages .ensures, c .before .before .before .if1 .left) in
     let fits : pageAt pageSize (a .block) + pageSize ≤ length (a .full .now) = at .pre .0 (a .block) below in
     let e : c .before .before .page-at .result ≡ pageAt pageSize (a .block) = c .before .before .page-at .ensures in
     omega arith
@@ -97,10 +100,18 @@ returns-2 : tie.Need-returns-2
 returns-2 c =
     let at = c .before .before .before .before .before .before .before .before .before .before .before in
     let a = at .args in
-    let below : a .block < pagesIn pageSize (length (a .full .now)) = omega (arith, c .before .before .before .before .before .before .before .before .pages .ensures, c .before .before .before .before .before .before .before .if1 .left) in
+    let below : a .block < pagesIn pageSize (length (a .full .now)) = omega (
+      arith,
+      c .before .before .before .before .before .before .before .before .pages
+          .ensures,
+      c .before .before .before .before .before .before .before .if1 .left,
+    ) in
     let fits : pageAt pageSize (a .block) + pageSize ≤ length (a .full .now) = at .pre .0 (a .block) below in
-    let e : c .before .before .before .before .before .before .page-at .result ≡ pageAt pageSize (a .block) = c .before .before .before .before .before .before .page-at .ensures in
-    zeros-stored pageSize (a .full .now) (a .block) (c .before .before .before .before .before .before .page-at .result) (a .page .now) (c .before .before .fill .last .0) e below fits (kindNumber (a .kind)) (other-kind (ap kindNumber (c .before .before .before .before .enum-told .given .1)) (omega arith)) (c .before .before .fill .ensures)
+    let e : c .before .before .before .before .before .before .page-at .result ≡ pageAt pageSize (a .block) = c .before .before .before .before .before
+    .before .page-at .ensures in
+    zeros-stored pageSize (a .full .now) (a .block) (c .before .before .before .before .before .before .page-at .result) (a .page .now)
+    (c .before .before .fill .last .0) e below fits (kindNumber (a .kind))
+    (other-kind (ap kindNumber (c .before .before .before .before .enum-told .given .1)) (omega arith)) (c .before .before .fill .ensures)
 
 same-length-2 : tie.Need-same-length-2
 same-length-2 c = search needs
@@ -109,10 +120,18 @@ returns-3 : tie.Need-returns-3
 returns-3 c =
     let at = c .before .before .before .before .before .before .before .before .before .before .before in
     let a = at .args in
-    let below : a .block < pagesIn pageSize (length (a .full .now)) = omega (arith, c .before .before .before .before .before .before .before .before .pages .ensures, c .before .before .before .before .before .before .before .if1 .left) in
+    let below : a .block < pagesIn pageSize (length (a .full .now)) = omega (
+      arith,
+      c .before .before .before .before .before .before .before .before .pages
+          .ensures,
+      c .before .before .before .before .before .before .before .if1 .left,
+    ) in
     let fits : pageAt pageSize (a .block) + pageSize ≤ length (a .full .now) = at .pre .0 (a .block) below in
-    let e : c .before .before .before .before .before .before .page-at .result ≡ pageAt pageSize (a .block) = c .before .before .before .before .before .before .page-at .ensures in
-    zeros-stored pageSize (a .full .now) (a .block) (c .before .before .before .before .before .before .page-at .result) (a .page .now) (c .before .before .fill2 .last .0) e below fits (kindNumber (a .kind)) (other-kind (ap kindNumber (c .before .before .before .before .enum-told2 .given .1)) (omega arith)) (c .before .before .fill2 .ensures)
+    let e : c .before .before .before .before .before .before .page-at .result ≡ pageAt pageSize (a .block) = c .before .before .before .before .before
+    .before .page-at .ensures in
+    zeros-stored pageSize (a .full .now) (a .block) (c .before .before .before .before .before .before .page-at .result) (a .page .now)
+    (c .before .before .fill2 .last .0) e below fits (kindNumber (a .kind))
+    (other-kind (ap kindNumber (c .before .before .before .before .enum-told2 .given .1)) (omega arith)) (c .before .before .fill2 .ensures)
 
 same-length-3 : tie.Need-same-length-3
 same-length-3 c = search needs
@@ -121,10 +140,18 @@ returns-4 : tie.Need-returns-4
 returns-4 c =
     let at = c .before .before .before .before .before .before .before .before .before .before .before in
     let a = at .args in
-    let below : a .block < pagesIn pageSize (length (a .full .now)) = omega (arith, c .before .before .before .before .before .before .before .before .pages .ensures, c .before .before .before .before .before .before .before .if1 .left) in
+    let below : a .block < pagesIn pageSize (length (a .full .now)) = omega (
+      arith,
+      c .before .before .before .before .before .before .before .before .pages
+          .ensures,
+      c .before .before .before .before .before .before .before .if1 .left,
+    ) in
     let fits : pageAt pageSize (a .block) + pageSize ≤ length (a .full .now) = at .pre .0 (a .block) below in
-    let e : c .before .before .before .before .before .before .page-at .result ≡ pageAt pageSize (a .block) = c .before .before .before .before .before .before .page-at .ensures in
-    page-stored pageSize (a .full .now) (a .block) (c .before .before .before .before .before .before .page-at .result) (a .page .now) (c .before .before .copy .last .0) e below fits (kindNumber (a .kind)) (ap kindNumber (c .before .before .before .before .enum-told3 .given .1)) (at .pre .1) (c .before .before .copy .ensures)
+    let e : c .before .before .before .before .before .before .page-at .result ≡ pageAt pageSize (a .block) = c .before .before .before .before .before
+    .before .page-at .ensures in
+    page-stored pageSize (a .full .now) (a .block) (c .before .before .before .before .before .before .page-at .result) (a .page .now)
+    (c .before .before .copy .last .0) e below fits (kindNumber (a .kind)) (ap kindNumber (c .before .before .before .before .enum-told3 .given .1))
+    (at .pre .1) (c .before .before .copy .ensures)
 
 pub store-place-spec : {M : Type 1} → statement M
 store-place-spec =

@@ -29,7 +29,9 @@ returns : tie.Need-returns
 returns c =
     let at = c .before .before .before .before .before .before .before in
     let a = at .args in
-    slot-stored (a .patch .now) (a .block) (c .before .before .before .before .slot-at .result) (kindNumber (a .kind)) (a .payload .now) (c .before .before .put-slot .last .0) (c .before .before .before .before .slot-at .ensures) (at .pre .0) (at .pre .1) (c .before .before .put-slot .ensures)
+    slot-stored (a .patch .now) (a .block) (c .before .before .before .before .slot-at .result) (kindNumber (a .kind)) (a .payload .now)
+    (c .before .before .put-slot .last .0) (c .before .before .before .before .slot-at .ensures) (at .pre .0) (at .pre .1)
+    (c .before .before .put-slot .ensures)
 
 pub store-slot-spec : {M : Type 1} → statement M
 store-slot-spec =
