@@ -7,7 +7,7 @@ use lib.ListN.{length}
 use Rattle.layout.specs.Sizes.{blocksAtMost}
 use Rattle.layout.specs.Numbers.{refusalNumber}
 use Rattle.layout.specs.Refusals.{Row, _⇐_, firstOf, decided}
-use Rattle.layout.specs.Groups.{ordered, _▸_}
+use Rattle.layout.specs.Groups.{Grouped, ordered, _▸_}
 use Rattle.layout.specs.Groups as group
 use Rattle.blockmap.specs.Pairs.{mapBytes, pairAt, pairs, patchPair, fullPair, reservedPair, badPairs}
 use Rattle.blockmap.specs.declared.Looked.{Looked}
@@ -16,11 +16,16 @@ use Rattle.blockmap.specs.declared.Tallied.{Tallied}
 use Rattle.blockmap.specs.declared.Tallied.the-variants.{Done as TalliedDone, Refused as TalliedRefused}
 
 -- both are told n
+abbrev pub mapGroups : ℕ → List ℕ → ℕ → List Row → List Row → List Grouped
+mapGroups P map n block pair =
+    (group.lengths ▸ (2 ⇐ ltb (blocksAtMost P) n) ∷ [])
+    ∷ (group.buffers ▸ (9 ⇐ ltb (length map) (mapBytes n)) ∷ [])
+    ∷ (group.block ▸ block)
+    ∷ (group.pair ▸ pair)
+    ∷ []
+
 unfoldable pub mapRows : ℕ → List ℕ → ℕ → List Row → List Row → List Row
-mapRows P map n block pair =
-    ordered
-    ((group.lengths ▸ (2 ⇐ ltb (blocksAtMost P) n) ∷ []) ∷ (group.buffers ▸ (9 ⇐ ltb (length map) (mapBytes n)) ∷ [])
-    ∷ (group.block ▸ block) ∷ (group.pair ▸ pair) ∷ [])
+mapRows P map n block pair = ordered (mapGroups P map n block pair)
 
 -- Look up
 

@@ -9,7 +9,7 @@ use lib.Dec.{eqb}
 use lib.ListN.{length, getD}
 use mir.Val.{boolByte}
 use borrow.Author.Tests.{eqb-true}
-use Rattle.differ.specs.Differ.{Same, nextDiff, differsAt, diffsIn, Lasts, Clusters}
+use Rattle.differ.specs.Differ.{Same, nextDiff, differsAt, diffsIn, AfterLast, Clusters}
 use Rattle.differ.specs.DifferLaws.{next-skip, diffs-none, diffs-next, diffs-alike}
 
 -- no byte is passed yet
@@ -82,7 +82,7 @@ cluster-none a b from =
 
 -- a chunk's differences, up to the last of them
 pub cluster-chunk : (a b : List ℕ) (from count r : ℕ) → from + 64 ≤ length a → from + 64 ≤ length b → count ≡ diffsIn a b from 64
-    → Lasts a b from (from + 64) r
+    → AfterLast a b from (from + 64) r
     → Clusters a b from (record { count = count; next = r })
 cluster-chunk a b from count r la lb e l =
     let o : from ≤ r = l .on in

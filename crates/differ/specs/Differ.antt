@@ -35,7 +35,7 @@ diffsIn a b from zero = 0
 diffsIn a b from (suc n) = diffsIn a b from n + differsAt a b (from + n)
 
 -- the place after the last difference between `from` and `to`, or `from`
-pub record Lasts (a b : List ℕ) (from to r : ℕ) : Type 0 where
+pub record AfterLast (a b : List ℕ) (from to r : ℕ) : Type 0 where
   pub on : from ≤ r
   pub within : r ≤ to
   pub alike : Same a b r to

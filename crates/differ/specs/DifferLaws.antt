@@ -15,7 +15,7 @@ use Rattle.span.specs.Laws.{ext, same-true, same-false}
 use Rattle.differ.specs.Differ.{agree, nextDiff, Same, differsAt, diffsIn}
 
 -- what the next difference is, said of places and not by a walk
-pub record Next (a b : List ℕ) (from r : ℕ) : Type 0 where
+pub record NextAt (a b : List ℕ) (from r : ℕ) : Type 0 where
   pub on : from ≤ r
   pub within : from < r → (r ≤ length a) × (r ≤ length b)
   pub alike : Same a b from r
@@ -63,9 +63,9 @@ agree-differ (x ∷ xs) (y ∷ ys) h k e = go (eqb x y) refl (agree-differ xs ys
     go false e rest h k f = eqb-false x y e f
 
 -- the walk finds that place
-pub next : (a b : List ℕ) (from : ℕ) → Next a b from (nextDiff a b from)
+pub next-at : (a b : List ℕ) (from : ℕ) → NextAt a b from (nextDiff a b from)
 unfolding nextDiff Same
-next a b from =
+next-at a b from =
     let xs : List ℕ = drop from a in
     let ys : List ℕ = drop from b in
     let n : ℕ = agree xs ys in
@@ -88,7 +88,7 @@ next a b from =
     }
 
 -- and there is no second such place
-pub next-one : (a b : List ℕ) (from r s : ℕ) → Next a b from r → Next a b from s → r ≡ s
+pub next-one : (a b : List ℕ) (from r s : ℕ) → NextAt a b from r → NextAt a b from s → r ≡ s
 unfolding Same
 next-one a b from r s p q =
     elim (decLt r s) [
@@ -104,15 +104,15 @@ next-one a b from r s p q =
           ]
     ]
 
-pub next-is : (a b : List ℕ) (from r : ℕ) → Next a b from r → nextDiff a b from ≡ r
-next-is a b from r p = next-one a b from (nextDiff a b from) r (next a b from) p
+pub next-is : (a b : List ℕ) (from r : ℕ) → NextAt a b from r → nextDiff a b from ≡ r
+next-is a b from r p = next-one a b from (nextDiff a b from) r (next-at a b from) p
 
 -- equal bytes may be passed over
 pub next-skip : (a b : List ℕ) (from r : ℕ) → from ≤ r → r ≤ length a → r ≤ length b → Same a b from r
     → nextDiff a b from ≡ nextDiff a b r
 unfolding Same
 next-skip a b from r h la lb e =
-    let n : Next a b r (nextDiff a b r) = next a b r in
+    let n : NextAt a b r (nextDiff a b r) = next-at a b r in
     next-is a b from (nextDiff a b r)
     (record {
       on = omega arith;
@@ -203,8 +203,8 @@ pub same-by-next : (a b : List ℕ) → length a ≡ length b → eqb (nextDiff 
 unfolding Same
 same-by-next a b e = go (eqb (nextDiff a b 0) (length a)) refl
   where
-    n : Next a b 0 (nextDiff a b 0)
-    n = next a b 0
+    n : NextAt a b 0 (nextDiff a b 0)
+    n = next-at a b 0
 
     go : (t : Bool) → eqb (nextDiff a b 0) (length a) ≡ t → eqb (nextDiff a b 0) (length a) ≡ same a b
     go true h =

@@ -6,7 +6,7 @@ ghost use mathlib.Core.Bool.{false};
 ghost use Prim.Native.Nat.{_+_, _≤_, min};
 ghost use lib.ListN.{length};
 ghost use Rattle.span.specs.Bytes.{part as partOf, same as sameBytes};
-ghost use Rattle.differ.specs.Differ.{chunk, nextDiff, diffsIn, Same, Skipped, Lasts, Clusters};
+ghost use Rattle.differ.specs.Differ.{chunk, nextDiff, diffsIn, Same, Skipped, AfterLast, Clusters};
 
 // Differences that stand close together: how many they are, and the place after the last of them.
 pub struct Cluster {
@@ -103,7 +103,7 @@ fn count_chunk(a: &[u8], b: &[u8], at: usize) -> u8
 // The place after the last difference between `from` and `to`, or `from`: for a chunk that has one, looked for from its end.
 fn after_last(a: &[u8], b: &[u8], from: usize, to: usize) -> usize
     requires { ⌜ (from ≤ to) × (to ≤ length (now a)) × (to ≤ length (now b)) ⌝ }
-    ensures { λ r. ⌜ Lasts (now (a .entry)) (now (b .entry)) from to r ⌝ }
+    ensures { λ r. ⌜ AfterLast (now (a .entry)) (now (b .entry)) from to r ⌝ }
 {
     let mut at = to;
     while from < at {

@@ -34,15 +34,15 @@ use Rattle.promises.specs.WriteLaws.{write-length, kind-empty, kind-patc
 use Rattle.promises.specs.ShowLaws.{shown-payload, nothing-shown}
 
 module _ (patch full : List ℕ) (b : ℕ) (base page : List ℕ) where
-  abbrev pub written : WriteOutcome
-  written = writeOutcome pageSize patch full b base page
+  abbrev pub outcome : WriteOutcome
+  outcome = writeOutcome pageSize patch full b base page
 
   abbrev pub read : ReadOutcome
   read = readOutcome pageSize patch full b base page
 
   -- Every number that Write and Read give, and just when: the tables are `WriteGives` and `ReadGives`
 
-  pub write-gives : (k : ℕ) → (written .number ≡ k) ↔ WriteGives pageSize patch full b base page k
+  pub write-gives : (k : ℕ) → (outcome .number ≡ k) ↔ WriteGives pageSize patch full b base page k
   write-gives = write-table pageSize patch full b base page
 
   pub read-gives : (k : ℕ) → (read .number ≡ k) ↔ ReadGives pageSize patch full b base page k
@@ -50,36 +50,36 @@ module _ (patch full : List ℕ) (b : ℕ) (base page : List ℕ) where
 
   -- "refuses for room only if the full area has no place for that block"
   pub write-room : FrameFits pageSize patch full base page → b < blocks patch
-      → (written .number ≡ 8) ↔ (Large pageSize base page × (places pageSize full ≤ b))
+      → (outcome .number ≡ 8) ↔ (Large pageSize base page × (places pageSize full ≤ b))
   write-room = no-room pageSize patch full b base page
 
-  module _ (done : written .number ≡ 0) where
+  module _ (done : outcome .number ≡ 0) where
     -- The kind stored, and the stream's length
 
-    pub empty-iff : (written .kind ≡ 0) ↔ (page ≡ pageOf pageSize base)
+    pub empty-iff : (outcome .kind ≡ 0) ↔ (page ≡ pageOf pageSize base)
     empty-iff = kind-empty pageSize patch full b base page done
 
-    pub patch-iff : (written .kind ≡ 1) ↔ ((1 ≤ length (streamOf pageSize base page)) × (length (streamOf pageSize base page) ≤ 504))
+    pub patch-iff : (outcome .kind ≡ 1) ↔ ((1 ≤ length (streamOf pageSize base page)) × (length (streamOf pageSize base page) ≤ 504))
     patch-iff = kind-patch pageSize patch full b base page done
 
-    pub full-iff : (written .kind ≡ 2) ↔ (504 < length (streamOf pageSize base page))
+    pub full-iff : (outcome .kind ≡ 2) ↔ (504 < length (streamOf pageSize base page))
     full-iff = kind-full pageSize patch full b base page done
 
-    pub stream-length : written .length ≡ length (streamOf pageSize base page)
+    pub stream-length : outcome .length ≡ length (streamOf pageSize base page)
     stream-length = write-length pageSize patch full b base page done
 
     -- afterwards the slot is the sound one of that kind, the place holds the page or zeros, and no other byte is changed
-    pub stores : Stored pageSize patch full b base page (written .kind) (written .patch) (written .full)
+    pub stores : Stored pageSize patch full b base page (outcome .kind) (outcome .patch) (outcome .full)
     stores = write-stored pageSize patch full b base page done
 
     -- "Reading back over the same base gives the written page": over a base that stands for the same page, into any page
     pub read-back : (base′ page′ : List ℕ) → pageOf pageSize base′ ≡ pageOf pageSize base → length page′ ≡ pageSize
-        → readOutcome pageSize (written .patch) (written .full) b base′ page′ ≡ record { number = 0; kind = written .kind; page = page }
+        → readOutcome pageSize (outcome .patch) (outcome .full) b base′ page′ ≡ record { number = 0; kind = outcome .kind; page = page }
     read-back = reads-back pageSize patch full b base page (lit≤ tt) done
 
   -- and every other block reads as before, whatever it holds and whether or not the write was refused
   pub others : (c : ℕ) → (c ≡ b → ⊥) → (base′ page′ : List ℕ)
-      → readOutcome pageSize (written .patch) (written .full) c base′ page′ ≡ readOutcome pageSize patch full c base′ page′
+      → readOutcome pageSize (outcome .patch) (outcome .full) c base′ page′ ≡ readOutcome pageSize patch full c base′ page′
   others = others-read pageSize patch full b base page
 
   -- Every sound slot from elsewhere

@@ -24,7 +24,7 @@ use Rattle.promises.specs.Cells.{emptied, emptied-length, emptied-same}
 use Rattle.promises.specs.StoreLaws.{base-page-length, imageOf, contentOf, stored-so, accepted as acceptedIs}
 use Rattle.promises.specs.ReadLaws.{reads-empty, stored-reads}
 use Rattle.promises.specs.RunBuild.{empty-fine, stored-fine, builds}
-use Rattle.promises.specs.Runs.{run, last, later, Fresh, Taken, writes, lastWrite, LastWrites, lastWrites, NoRepeats, WritesOver}
+use Rattle.promises.specs.Runs.{run, lastSuch, later, Fresh, Taken, writes, lastWrite, LastWrites, lastWrites, NoRepeats, WritesOver}
 use Rattle.promises.specs.Runs.{ReadSame, last-writes-are, last-writes-apart, writes-taken, writes-same, writes-at, last-in}
 use Rattle.promises.specs.Runs.{writes-frame, writes-same-iff-read-same}
 use Rattle.promises.specs.RunWords.{Areas, Lent, taken, next, after, accepted, lastTo, JustLasts, OverBases, FreshAreas}
@@ -41,7 +41,7 @@ module _ (P : ℕ) where
   after-is s (w ∷ ws) = after-is (next P s w) ws
 
   last-is : (b : ℕ) (s : Areas) (ws : List Lent) → lastWrite (store P) (frameOf s) b ws ≡ lastTo b (accepted P s ws)
-  unfolding lastWrite last lastTo accepted later
+  unfolding lastWrite lastSuch lastTo accepted later
   last-is b s [] = refl
   last-is b s (w ∷ ws) = rw (taken-frame P s w) (go (taken P s w) (sym (ap (λ (f : Areas). lastWrite (store P) f b ws) (frame-next P s w))
       ∙ last-is b (next P s w) ws))

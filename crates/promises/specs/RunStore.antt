@@ -178,8 +178,8 @@ store-laws P =
     record {
       frame-kept = λ s o. elim o [ write w ↦ frame-next P s w | wipe c ↦ absurd c ];
       refused = λ s o. elim o [ write w ↦ λ e. not-taken P s w (sym (taken-frame P s w) ∙ e) | wipe c ↦ absurd c ];
-      written = λ s w b e h q. ap (cellAt P (next P s w)) (sym q) ∙ cell-here P s w (sym (taken-frame P s w) ∙ e);
-      not-written = λ s w b e h d. cell-other P s w (sym (taken-frame P s w) ∙ e) b (λ q. d (sym q));
+      write-here = λ s w b e h q. ap (cellAt P (next P s w)) (sym q) ∙ cell-here P s w (sym (taken-frame P s w) ∙ e);
+      write-elsewhere = λ s w b e h d. cell-other P s w (sym (taken-frame P s w) ∙ e) b (λ q. d (sym q));
       wiped = λ s c. absurd c;
       not-wiped = λ s c. absurd c;
       ext =

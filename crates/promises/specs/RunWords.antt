@@ -10,7 +10,7 @@ use lib.Dec.{eqb}
 use Rattle.stream.specs.Calls.{pageOf}
 use Rattle.store.specs.Format.{formatOutcome}
 use Rattle.writing.specs.Write.{WriteOutcome, writeOutcome}
-use Rattle.promises.specs.Runs.{last}
+use Rattle.promises.specs.Runs.{lastSuch}
 
 pub record Areas : Type 0 where
   pub patch : List ℕ
@@ -44,7 +44,7 @@ accepted P s (w ∷ ws) = cond (taken P s w) (w ∷ accepted P (next P s w) ws) 
 
 -- the last of some writes that went to block b
 unfoldable pub lastTo : ℕ → List Lent → Option Lent
-lastTo b ws = last (λ w. eqb (w .block) b) ws
+lastTo b ws = lastSuch (λ w. eqb (w .block) b) ws
 
 -- ls holds each block's last accepted write and nothing else, in any order
 abbrev pub JustLasts : ℕ → Areas → List Lent → List Lent → Type 0

@@ -25,9 +25,9 @@ later true x none = some x
 later false x none = none
 
 -- the last element that passes a test
-unfoldable pub last : {A : Type 0} → (A → Bool) → List A → Option A
-last p [] = none
-last p (x ∷ xs) = later (p x) x (last p xs)
+unfoldable pub lastSuch : {A : Type 0} → (A → Bool) → List A → Option A
+lastSuch p [] = none
+lastSuch p (x ∷ xs) = later (p x) x (lastSuch p xs)
 
 -- the same said of places (`last-at`, `at-last`): x passes, and nothing after it does
 pub record LastAt {A : Type 0} (p : A → Bool) (xs : List A) (x : A) : Type 0 where
@@ -85,10 +85,10 @@ keep-mem true x z none xs = (
 )
 keep-mem false x z none xs = (inl, elim [ inl i ↦ i | inr q ↦ absurd (true≢false (sym (q .1))) ])
 
-last-map : {A B : Type 0} (p : B → Bool) (f : A → B) (xs : List A) → last p (map f xs) ≡ Option·map f (last (λ x. p (f x)) xs)
-unfolding last later
+last-map : {A B : Type 0} (p : B → Bool) (f : A → B) (xs : List A) → lastSuch p (map f xs) ≡ Option·map f (lastSuch (λ x. p (f x)) xs)
+unfolding lastSuch later
 last-map p f [] = refl
-last-map p f (x ∷ xs) = rw (last-map p f xs) (go (p (f x)) (last (λ x. p (f x)) xs))
+last-map p f (x ∷ xs) = rw (last-map p f xs) (go (p (f x)) (lastSuch (λ x. p (f x)) xs))
   where
     go : (t : Bool) (m : Option _) → later t (f x) (Option·map f m) ≡ Option·map f (later t x m)
     go t (some y) = refl
@@ -96,19 +96,19 @@ last-map p f (x ∷ xs) = rw (last-map p f xs) (go (p (f x)) (last (λ x. p (f x
     go false none = refl
 
 module _ {A : Type 0} (p : A → Bool) where
-  last-none : (xs : List A) → last p xs ≡ none → (y : A) → List·Memᴰ y xs → p y ≡ true → ⊥
-  unfolding last
+  last-none : (xs : List A) → lastSuch p xs ≡ none → (y : A) → List·Memᴰ y xs → p y ≡ true → ⊥
+  unfolding lastSuch
   last-none [] e y m h = List·Memᴰ·not-nil m
   last-none (x ∷ xs) e y m h =
-      let q = later-none (p x) x (last p xs) e in
+      let q = later-none (p x) x (lastSuch p xs) e in
       elim (List·Memᴰ·cases-cons m) [ inl f ↦ true≢false (sym h ∙ ap p f ∙ q .1) | inr n ↦ last-none xs (q .0) y n h ]
 
-  pub last-at : (xs : List A) (x : A) → last p xs ≡ some x → LastAt p xs x
-  unfolding last
+  pub last-at : (xs : List A) (x : A) → lastSuch p xs ≡ some x → LastAt p xs x
+  unfolding lastSuch
   last-at [] x e = absurd (Option·none-ne-some _ e)
-  last-at (y ∷ xs) x e = go (last-at xs x) (later-some (p y) y x (last p xs) .0 e)
+  last-at (y ∷ xs) x e = go (last-at xs x) (later-some (p y) y x (lastSuch p xs) .0 e)
     where
-      go : (last p xs ≡ some x → LastAt p xs x) → (last p xs ≡ some x) ⊎ ((y ≡ x) × (p y ≡ true) × (last p xs ≡ none))
+      go : (lastSuch p xs ≡ some x → LastAt p xs x) → (lastSuch p xs ≡ some x) ⊎ ((y ≡ x) × (p y ≡ true) × (lastSuch p xs ≡ none))
           → LastAt p (y ∷ xs) x
       go below (inl e) =
           let l : LastAt p xs x = below e in
@@ -129,21 +129,21 @@ module _ {A : Type 0} (p : A → Bool) where
             none-later = last-none xs (q .2);
           }
 
-  pub last-in : {x : A} (xs : List A) → last p xs ≡ some x → List·Memᴰ x xs × (p x ≡ true)
+  pub last-in : {x : A} (xs : List A) → lastSuch p xs ≡ some x → List·Memᴰ x xs × (p x ≡ true)
   last-in {x} xs e =
       let l : LastAt p xs x = last-at xs x e in
       (rw (l .split) (Memᴰ·append-right (l .before) (List·Memᴰ·head refl)), l .passes)
 
-  pub at-last : (xs : List A) (x : A) → LastAt p xs x → last p xs ≡ some x
-  unfolding last later
-  at-last xs x l = ap (last p) (l .split) ∙ go (l .before)
+  pub at-last : (xs : List A) (x : A) → LastAt p xs x → lastSuch p xs ≡ some x
+  unfolding lastSuch later
+  at-last xs x l = ap (lastSuch p) (l .split) ∙ go (l .before)
     where
-      alone : (m : Option A) → last p (l .after) ≡ m → later true x m ≡ some x
+      alone : (m : Option A) → lastSuch p (l .after) ≡ m → later true x m ≡ some x
       alone none e = refl
       alone (some y) e = let i = last-in (l .after) e in absurd (l .none-later y (i .0) (i .1))
 
-      go : (us : List A) → last p (us ++ (x ∷ l .after)) ≡ some x
-      go [] = rw (l .passes) (alone (last p (l .after)) refl)
+      go : (us : List A) → lastSuch p (us ++ (x ∷ l .after)) ≡ some x
+      go [] = rw (l .passes) (alone (lastSuch p (l .after)) refl)
       go (u ∷ us) = rw (go us)
 
 -- Stores: what the words mean
@@ -187,9 +187,9 @@ module _ (S : Store) where
   pub record Laws : Type 0 where
     pub frame-kept : (s : State) (o : Op Write Wipe) → frame (step s o) ≡ frame s
     pub refused : (s : State) (o : Op Write Wipe) → accepts (frame s) o ≡ false → step s o ≡ s
-    pub written : (s : State) (w : Write) (b : ℕ) → accepts (frame s) (write w) ≡ true → b < blocks (frame s)
+    pub write-here : (s : State) (w : Write) (b : ℕ) → accepts (frame s) (write w) ≡ true → b < blocks (frame s)
         → block w ≡ b → at (step s (write w)) b ≡ cell w
-    pub not-written : (s : State) (w : Write) (b : ℕ) → accepts (frame s) (write w) ≡ true → b < blocks (frame s)
+    pub write-elsewhere : (s : State) (w : Write) (b : ℕ) → accepts (frame s) (write w) ≡ true → b < blocks (frame s)
         → (block w ≡ b → ⊥) → at (step s (write w)) b ≡ at s b
     pub wiped : (s : State) (c : Wipe) (b : ℕ) → accepts (frame s) (wipe c) ≡ true → b < blocks (frame s)
         → covers (frame s) c b ≡ true → at (step s (wipe c)) b ≡ blank
@@ -209,7 +209,7 @@ module _ (S : Store) where
 
   -- the last accepted operation that touches block b: the operation that stands there at the end
   unfoldable pub standing : Frame → ℕ → Ops → Option (Op Write Wipe)
-  standing f b os = last (touches f b) os
+  standing f b os = lastSuch (touches f b) os
 
   -- what the standing operation makes of the cell that was there at the start
   unfoldable pub leaves : Cell → Option (Op Write Wipe) → Cell
@@ -240,7 +240,7 @@ module _ (S : Store) where
 
   -- the last accepted write to block b
   unfoldable pub lastWrite : Frame → ℕ → List Write → Option Write
-  lastWrite f b ws = last (λ w. accepts f (write w) && eqb (block w) b) ws
+  lastWrite f b ws = lastSuch (λ w. accepts f (write w) && eqb (block w) b) ws
 
   -- ls holds each block's last accepted write and nothing else, in any order
   unfoldable pub LastWrites : Frame → List Write → List Write → Type 0
@@ -319,7 +319,7 @@ module _ (S : Store) where
 
   -- a list of just the last accepted writes, without repeats, is there for every run
   pub lasts-are : (f : Frame) (os : Ops) → Lasts f os (lasts f os)
-  unfolding Lasts lasts standing last touches
+  unfolding Lasts lasts standing lastSuch touches
   lasts-are f [] v = (λ i. absurd (List·Memᴰ·not-nil i), λ e. absurd (Option·none-ne-some _ e))
   lasts-are f (o ∷ os) v = more o (lasts-are f os v)
     where
@@ -389,8 +389,8 @@ module _ (S : Store) where
       where
         go : (t : Bool) → accepts (frame s) (write w) ≡ t → (u : Bool) → eqb (block w) b ≡ u
             → at (step s (write w)) b ≡ leaves (at s b) (later (t && u) (write w) none)
-        go true e true k = L .written s w b e h (eqb-true (block w) b k)
-        go true e false k = L .not-written s w b e h (eqb-false (block w) b k)
+        go true e true k = L .write-here s w b e h (eqb-true (block w) b k)
+        go true e false k = L .write-elsewhere s w b e h (eqb-false (block w) b k)
         go false e u k = ap (λ (t : State). at t b) (L .refused s (write w) e)
     step-at s (wipe c) b h = go (accepts (frame s) (wipe c)) refl (covers (frame s) c b) refl
       where
@@ -402,11 +402,11 @@ module _ (S : Store) where
 
     -- after any run, from any state, a block holds what the operation that stands there makes of it
     pub run-at : (s : State) (os : Ops) (b : ℕ) → b < blocks (frame s) → at (run step s os) b ≡ leaves (at s b) (standing (frame s) b os)
-    unfolding run standing last leaves later
+    unfolding run standing lastSuch leaves later
     run-at s [] b h = refl
     run-at s (o ∷ os) b h =
         (rw (L .frame-kept s o) at (run-at (step s o) os b (rw (L .frame-kept s o) h)))
-        ∙ rw (step-at s o b h) (go (touches (frame s) b o) (last (touches (frame s) b) os))
+        ∙ rw (step-at s o b h) (go (touches (frame s) b o) (lastSuch (touches (frame s) b) os))
       where
         go : (t : Bool) (m : Option (Op Write Wipe)) → leaves (leaves (at s b) (later t o none)) m ≡ leaves (at s b) (later t o m)
         go t (some (write w)) = refl

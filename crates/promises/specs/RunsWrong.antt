@@ -23,7 +23,7 @@ use Rattle.promises.specs.Words.{blocks, PagesFit}
 use Rattle.promises.specs.StoreLaws.{write-done}
 use Rattle.promises.specs.ReadLaws.{reads-patch}
 use Rattle.promises.specs.WriteLaws.{others-read}
-use Rattle.promises.specs.Runs.{last}
+use Rattle.promises.specs.Runs.{lastSuch}
 use Rattle.promises.specs.RunWords.{Areas, Lent, next, after, accepted, lastTo, FreshAreas}
 use Rattle.promises.specs.RunLaws.{run-fits, reads-none}
 use Rattle.promises.specs.DemandThree.{readAt}
@@ -59,7 +59,7 @@ pub not-any-base : ((s : Areas) → FreshAreas pageSize s → (bases into : ℕ 
     ≡ readAt (after pageSize s vs) b (bases b) (into b) .page)
     → after pageSize s ws ≡ after pageSize s vs)
     → ⊥
-unfolding after accepted lastTo last page pageOf zeros slotImage kindFor stream inPage whole sound put applied
+unfolding after accepted lastTo lastSuch page pageOf zeros slotImage kindFor stream inPage whole sound put applied
 not-any-base claim = changes 0 (lit< tt) (claim sample sample-fresh (λ b. one) (λ b. one) (λ b n. both) (to 0 one ∷ []) [] same)
   where
     both : PagesFit pageSize one one

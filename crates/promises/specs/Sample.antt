@@ -27,7 +27,7 @@ use Rattle.writing.specs.Write.{decidedKind, decidedStream}
 use Rattle.promises.specs.Words.{blocks, places, PagesFit, WriteGives, streamOf}
 use Rattle.promises.specs.Tables.{write-table}
 use Rattle.promises.specs.WriteLaws.{reads-back}
-use Rattle.promises.specs.Runs.{last}
+use Rattle.promises.specs.Runs.{lastSuch}
 use Rattle.promises.specs.RunWords.{Areas, Lent, outcome, next, after, accepted, lastTo, FreshAreas}
 use Rattle.promises.specs.RunStore.{Cell, cellAt, cell-here}
 use Rattle.promises.specs.StoreLaws.{imageOf, contentOf}
@@ -180,7 +180,7 @@ reads ws b h x f =
 
 -- where a fresh block reads as zeros
 pub reads-zeros : (b : ℕ) → b < 2 → readAt sample b [] two .page ≡ page []
-unfolding after accepted lastTo last page pageOf
+unfolding after accepted lastTo lastSuch page pageOf
 reads-zeros b h = ap (λ (o : ReadOutcome). o .page) (reads-none pageSize sample sample-fresh [] b (rw (two-blocks []) h) [] two two-fits
     refl)
 

@@ -29,7 +29,7 @@ use Rattle.promises.specs.FrameLaws.{lengths-moved, headers-moved}
 use Rattle.promises.specs.Tables.{write-table}
 use Rattle.promises.specs.StoreLaws.{imageOf, contentOf, write-done, write-not}
 use Rattle.promises.specs.WriteLaws.{write-length, others-read}
-use Rattle.promises.specs.Runs.{run, last, later, last-in}
+use Rattle.promises.specs.Runs.{run, lastSuch, later, last-in}
 use Rattle.promises.specs.RunWords.{Areas, Lent, outcome, next, after, accepted, lastTo, JustLasts}
 use Rattle.promises.specs.RunStore.{Cell, cellAt, cell-here}
 use Rattle.promises.specs.FreshLaws.{fresh-lengths, fresh-headers, fresh-cell}
@@ -126,7 +126,7 @@ abbrev pub oneThenZero : List Lent
 oneThenZero = to 1 two ∷ to 0 one ∷ []
 
 pub both-lasts : JustLasts pageSize sample zeroThenOne zeroThenOne × JustLasts pageSize sample zeroThenOne oneThenZero
-unfolding lastTo last later
+unfolding lastTo lastSuch later
 both-lasts = (lasts, λ w. (λ i. lasts w .0 (swap i), λ e. swap (lasts w .1 e)))
   where
     lasts : JustLasts pageSize sample zeroThenOne zeroThenOne

@@ -8,7 +8,9 @@ use Rattle.layout.specs.Groups.{ordered}
 use Rattle.headers.specs.HeaderLaws.{headers-numbered}
 use Rattle.layout.specs.Areas.{lengthRows}
 use Rattle.store.specs.Block.{slotRows, fullRows, payloadRows}
-use Rattle.reading.specs.Read.{ReadOutcome, readRows, readOutcome}
+use Rattle.reading.specs.Read.{ReadOutcome, readRows, readOutcome, readGroups}
+use Rattle.layout.specs.GroupLaws.{once}
+use mathlib.Core.Bool.{true}
 
 module _ (P : ℕ) where
   pub read-number : (patch full : List ℕ) (b : ℕ) (base page : List ℕ) → readOutcome P patch full b base page .number
@@ -23,3 +25,6 @@ module _ (P : ℕ) where
   read-exactly patch full b base page =
       exactly (readRows P patch full b base page) _ (read-number patch full b base page)
       (row (row (both (headers-numbered P patch full) (row (row (row (row no-row)))))))
+
+pub read-once : (P : ℕ) (patch full : List ℕ) (b : ℕ) (base page : List ℕ) → once (readGroups P patch full b base page) ≡ true
+read-once P patch full b base page = refl

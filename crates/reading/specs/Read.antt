@@ -7,7 +7,7 @@ use lib.Dec.{eqb}
 use lib.ListN.{length}
 use Rattle.layout.specs.Numbers.{kindNumber, refusalNumber}
 use Rattle.layout.specs.Refusals.{Row, firstOf, decided}
-use Rattle.layout.specs.Groups.{ordered, _▸_}
+use Rattle.layout.specs.Groups.{Grouped, ordered, _▸_}
 use Rattle.layout.specs.Groups as group
 use Rattle.headers.specs.Headers.{headerRows}
 use Rattle.layout.specs.Areas.{lengthRows}
@@ -18,12 +18,19 @@ use Rattle.store.specs.Block.{slotOf, placeOf, blockRows, slotRows, fullRows, p
 use Rattle.reading.specs.declared.Reading.{Reading}
 use Rattle.reading.specs.declared.Reading.the-variants.{Done, Refused}
 
+abbrev pub readGroups : ℕ → List ℕ → List ℕ → ℕ → List ℕ → List ℕ → List Grouped
+readGroups P patch full b base page =
+    (group.pages ▸ pageRows P base page)
+    ∷ (group.lengths ▸ lengthRows P (length patch) (length full))
+    ∷ (group.headers ▸ headerRows P patch full)
+    ∷ (group.block ▸ blockRows patch b)
+    ∷ (group.slot ▸ slotRows (slotOf patch b))
+    ∷ (group.full ▸ fullRows P (slotOf patch b) full b)
+    ∷ (group.payload ▸ payloadRows P (slotOf patch b))
+    ∷ []
+
 unfoldable pub readRows : ℕ → List ℕ → List ℕ → ℕ → List ℕ → List ℕ → List Row
-readRows P patch full b base page =
-    ordered
-    ((group.pages ▸ pageRows P base page) ∷ (group.lengths ▸ lengthRows P (length patch) (length full))
-    ∷ (group.headers ▸ headerRows P patch full) ∷ (group.block ▸ blockRows patch b) ∷ (group.slot ▸ slotRows (slotOf patch b))
-    ∷ (group.full ▸ fullRows P (slotOf patch b) full b) ∷ (group.payload ▸ payloadRows P (slotOf patch b)) ∷ [])
+readRows P patch full b base page = ordered (readGroups P patch full b base page)
 
 -- what a block holds, by its slot's kind
 unfoldable pub contents : ℕ → List ℕ → List ℕ → ℕ → List ℕ → List ℕ

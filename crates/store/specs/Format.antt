@@ -5,7 +5,7 @@ use mathlib.Core.List.{List, [], _∷_}
 use lib.ListN.{length}
 use Rattle.layout.specs.Numbers.{refusalNumber}
 use Rattle.layout.specs.Refusals.{Row, firstOf, decided}
-use Rattle.layout.specs.Groups.{ordered, _▸_}
+use Rattle.layout.specs.Groups.{Grouped, ordered, _▸_}
 use Rattle.layout.specs.Groups as group
 use Rattle.layout.specs.Areas.{lengthRows}
 use Rattle.headers.specs.Fresh.{freshPatch, freshFull}
@@ -18,10 +18,13 @@ pub record FormatOutcome : Type 0 where
   pub full : List ℕ
 
 -- "Format checks only 2."
+abbrev pub formatGroups : ℕ → List ℕ → List ℕ → List Grouped
+formatGroups P patch full =
+    (group.lengths ▸ lengthRows P (length patch) (length full))
+    ∷ []
+
 unfoldable pub formatRows : ℕ → List ℕ → List ℕ → List Row
-formatRows P patch full =
-    ordered
-    ((group.lengths ▸ lengthRows P (length patch) (length full)) ∷ [])
+formatRows P patch full = ordered (formatGroups P patch full)
 
 unfoldable pub formatOutcome : ℕ → List ℕ → List ℕ → FormatOutcome
 formatOutcome P patch full =

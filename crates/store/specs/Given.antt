@@ -18,10 +18,11 @@ use Rattle.layout.specs.Areas.{blocksIn, patchFits, lengthRows}
 use Rattle.layout.specs.AreaLaws.{slot-within}
 use Rattle.slots.specs.Slots.{isPatch, payloadLength}
 use Rattle.store.specs.Block.{slotOf}
-use Rattle.store.specs.Format.{FormatOutcome, formatRows, formatOutcome}
-use Rattle.store.specs.Judge.{JudgedNumbers, judgeRows, judgeNumbers}
-use Rattle.store.specs.Show.{showRows, showPlace}
+use Rattle.store.specs.Format.{FormatOutcome, formatRows, formatOutcome, formatGroups}
+use Rattle.store.specs.Judge.{JudgedNumbers, judgeRows, judgeNumbers, judgeGroups}
+use Rattle.store.specs.Show.{showRows, showPlace, showGroups}
 use Rattle.store.specs.declared.Place.{Place}
+use Rattle.layout.specs.GroupLaws.{once}
 
 pub judge-exactly : (slot : List ℕ) → Exactly (judgeRows slot) (judgeNumbers slot .number)
 unfolding judgeNumbers judgeRows ordered
@@ -60,3 +61,12 @@ module _ (P : ℕ) where
       let short : length (part (slotAt b + payloadAt) n patch)
       ≡ 0 = ap (λ (l : List ℕ). length l) (sym (ap (λ (x : Place). part (x .at) (x .len) patch) place) ∙ e) in
       omega arith
+
+pub format-once : (P : ℕ) (patch full : List ℕ) → once (formatGroups P patch full) ≡ true
+format-once P patch full = refl
+
+pub judge-once : (slot : List ℕ) → once (judgeGroups slot) ≡ true
+judge-once slot = refl
+
+pub show-once : (P : ℕ) (patch : List ℕ) (b : ℕ) → once (showGroups P patch b) ≡ true
+show-once P patch b = refl

@@ -8,16 +8,20 @@ use lib.ListN.{length}
 use Rattle.layout.specs.Sizes.{slotSize}
 use Rattle.layout.specs.Numbers.{kindNumber, refusalNumber}
 use Rattle.layout.specs.Refusals.{Row, _⇐_, firstOf, decided}
-use Rattle.layout.specs.Groups.{ordered, _▸_}
+use Rattle.layout.specs.Groups.{Grouped, ordered, _▸_}
 use Rattle.layout.specs.Groups as group
 use Rattle.slots.specs.Slots.{slotNumbers}
 use Rattle.store.specs.declared.Judged.{Judged}
 use Rattle.store.specs.declared.Judged.the-variants.{Done, Refused}
 
+abbrev pub judgeGroups : List ℕ → List Grouped
+judgeGroups slot =
+    (group.lengths ▸ (2 ⇐ not (eqb (length slot) slotSize)) ∷ [])
+    ∷ (group.slot ▸ (6 ⇐ not (eqb (slotNumbers slot .number) 0)) ∷ [])
+    ∷ []
+
 unfoldable pub judgeRows : List ℕ → List Row
-judgeRows slot =
-    ordered
-    ((group.lengths ▸ (2 ⇐ not (eqb (length slot) slotSize)) ∷ []) ∷ (group.slot ▸ (6 ⇐ not (eqb (slotNumbers slot .number) 0)) ∷ []) ∷ [])
+judgeRows slot = ordered (judgeGroups slot)
 
 pub record JudgedNumbers : Type 0 where
   pub number : ℕ

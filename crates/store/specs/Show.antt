@@ -8,7 +8,7 @@ use lib.ListN.{length}
 use Rattle.span.specs.Bytes.{part}
 use Rattle.layout.specs.Sizes.{payloadAt, slotAt}
 use Rattle.layout.specs.Refusals.{Row, _⇐_, firstOf, decided}
-use Rattle.layout.specs.Groups.{ordered, _▸_}
+use Rattle.layout.specs.Groups.{Grouped, ordered, _▸_}
 use Rattle.layout.specs.Groups as group
 use Rattle.headers.specs.Headers.{patchHeadRows}
 use Rattle.layout.specs.Areas.{blocksIn, patchFits}
@@ -17,11 +17,16 @@ use Rattle.store.specs.Block.{slotOf}
 use Rattle.store.specs.declared.Place.{Place}
 
 -- "It looks at the patch area alone."
+abbrev pub showGroups : ℕ → List ℕ → ℕ → List Grouped
+showGroups P patch b =
+    (group.lengths ▸ (2 ⇐ not (patchFits P (length patch))) ∷ [])
+    ∷ (group.headers ▸ patchHeadRows P patch)
+    ∷ (group.block ▸ (5 ⇐ leb (blocksIn (length patch)) b) ∷ [])
+    ∷ (group.slot ▸ (6 ⇐ not (isPatch (slotOf patch b))) ∷ [])
+    ∷ []
+
 unfoldable pub showRows : ℕ → List ℕ → ℕ → List Row
-showRows P patch b =
-    ordered
-    ((group.lengths ▸ (2 ⇐ not (patchFits P (length patch))) ∷ []) ∷ (group.headers ▸ patchHeadRows P patch)
-    ∷ (group.block ▸ (5 ⇐ leb (blocksIn (length patch)) b) ∷ []) ∷ (group.slot ▸ (6 ⇐ not (isPatch (slotOf patch b))) ∷ []) ∷ [])
+showRows P patch b = ordered (showGroups P patch b)
 
 -- where the part begins and how long it is; an empty one where anything would be refused
 unfoldable pub showPlace : ℕ → List ℕ → ℕ → Place

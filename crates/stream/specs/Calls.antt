@@ -11,7 +11,7 @@ use Rattle.span.specs.Bytes.{zeros, splice}
 use Rattle.layout.specs.Sizes.{room}
 use Rattle.layout.specs.Numbers.{kindNumber, refusalNumber}
 use Rattle.layout.specs.Refusals.{Row, _⇐_, firstOf, decided}
-use Rattle.layout.specs.Groups.{ordered, _▸_}
+use Rattle.layout.specs.Groups.{Grouped, ordered, _▸_}
 use Rattle.layout.specs.Groups as group
 use Rattle.payload.specs.Entries.{start, payloadStream, sound, entries, last, applied}
 use Rattle.writer.specs.Differences.{Change, diffs, coded, lastPlace}
@@ -44,10 +44,14 @@ pub record ComparedNumbers : Type 0 where
 unfoldable pub kindFor : ℕ → ℕ
 kindFor n = cond (eqb n 0) 0 (cond (leb n room) 1 2)
 
+abbrev pub compareGroups : ℕ → List ℕ → List ℕ → List ℕ → List Grouped
+compareGroups P base page buffer =
+    (group.pages ▸ pageRows P base page)
+    ∷ (group.buffers ▸ (9 ⇐ ltb (length buffer) room) ∷ [])
+    ∷ []
+
 unfoldable pub compareRows : ℕ → List ℕ → List ℕ → List ℕ → List Row
-compareRows P base page buffer =
-    ordered
-    ((group.pages ▸ pageRows P base page) ∷ (group.buffers ▸ (9 ⇐ ltb (length buffer) room) ∷ []) ∷ [])
+compareRows P base page buffer = ordered (compareGroups P base page buffer)
 
 -- the answer where nothing is refused
 unfoldable pub comparison : List Change → ComparedNumbers
@@ -83,10 +87,14 @@ pub record AppliedNumbers : Type 0 where
   pub entries : ℕ
   pub last : ℤ
 
+abbrev pub applyGroups : ℕ → List ℕ → List ℕ → List ℕ → List Grouped
+applyGroups P base payload page =
+    (group.pages ▸ pageRows P base page)
+    ∷ (group.payload ▸ (7 ⇐ not (sound P payload)) ∷ [])
+    ∷ []
+
 unfoldable pub applyRows : ℕ → List ℕ → List ℕ → List ℕ → List Row
-applyRows P base payload page =
-    ordered
-    ((group.pages ▸ pageRows P base page) ∷ (group.payload ▸ (7 ⇐ not (sound P payload)) ∷ []) ∷ [])
+applyRows P base payload page = ordered (applyGroups P base payload page)
 
 abbrev refusedApplication : ℕ → AppliedNumbers
 refusedApplication n = record { number = n; entries = 0; last = pos 0 }

@@ -5,8 +5,10 @@ use mathlib.Core.List.{List}
 use Rattle.layout.specs.Refusals.{firstOf}
 use Rattle.layout.specs.RefusalLaws.{decided-number, Exactly, exactly, no-row, row}
 use Rattle.layout.specs.Groups.{ordered}
-use Rattle.stream.specs.Calls.{compareRows, compareNumbers, AppliedNumbers, applyRows, applyNumbers}
+use Rattle.stream.specs.Calls.{compareRows, compareNumbers, AppliedNumbers, applyRows, applyNumbers, compareGroups, applyGroups}
 use Rattle.stream.specs.Kinds.{compare-gives}
+use Rattle.layout.specs.GroupLaws.{once}
+use mathlib.Core.Bool.{true}
 
 pub compare-exactly : (P : ℕ) (base page buffer : List ℕ)
     → Exactly (compareRows P base page buffer) (compareNumbers P base page buffer .number)
@@ -24,3 +26,9 @@ pub apply-exactly : (P : ℕ) (base payload page : List ℕ)
     → Exactly (applyRows P base payload page) (applyNumbers P base payload page .number)
 unfolding applyRows ordered
 apply-exactly P base payload page = exactly (applyRows P base payload page) _ (apply-gives P base payload page) (row (row no-row))
+
+pub compare-once : (P : ℕ) (base page buffer : List ℕ) → once (compareGroups P base page buffer) ≡ true
+compare-once P base page buffer = refl
+
+pub apply-once : (P : ℕ) (base payload page : List ℕ) → once (applyGroups P base payload page) ≡ true
+apply-once P base payload page = refl

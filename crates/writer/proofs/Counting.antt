@@ -12,7 +12,7 @@ use lib.IntN.{ℤ}
 use borrow.Author.Tests.{lt-ltb, le-ltb, eq-eqb, ne-eqb, eqb-true, eqb-false}
 use Rattle.differ.specs.declared.Cluster.{Cluster}
 use Rattle.differ.specs.Differ.{nextDiff, Same, differsAt, diffsIn, Clusters}
-use Rattle.differ.specs.DifferLaws.{Next, next, diffs-none, diffs-first, diffs-few, alike-at, unlike-at}
+use Rattle.differ.specs.DifferLaws.{NextAt, next-at, diffs-none, diffs-first, diffs-few, alike-at, unlike-at}
 use Rattle.layout.specs.Numbers.{le}
 use Rattle.writer.specs.Differences.{Change, diffs, spelled, coded, written, lastPlace}
 use Rattle.writer.specs.Steps.{before, widthOf, rest, Counted, Numbers}
@@ -87,8 +87,8 @@ unfolding diffs
 diffs-left q ys = refl
 
 module _ (base page : List ℕ) (from at : ℕ) (e : at ≡ nextDiff base page from) where
-  n : Next base page from at
-  n = subst (λ (k : ℕ). Next base page from k) (sym e) (next base page from)
+  n : NextAt base page from at
+  n = subst (λ (k : ℕ). NextAt base page from k) (sym e) (next-at base page from)
 
   pub at-on : from ≤ at
   at-on = n .on

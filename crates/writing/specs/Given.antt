@@ -7,7 +7,9 @@ use Rattle.layout.specs.RefusalLaws.{Exactly, exactly, decided-number, no-row, 
 use Rattle.layout.specs.Groups.{ordered}
 use Rattle.headers.specs.HeaderLaws.{headers-numbered}
 use Rattle.layout.specs.Areas.{lengthRows}
-use Rattle.writing.specs.Write.{WriteOutcome, writeRows, writeOutcome}
+use Rattle.writing.specs.Write.{WriteOutcome, writeRows, writeOutcome, writeGroups}
+use Rattle.layout.specs.GroupLaws.{once}
+use mathlib.Core.Bool.{true}
 
 module _ (P : ℕ) where
   pub write-number : (patch full : List ℕ) (b : ℕ) (base page : List ℕ) → writeOutcome P patch full b base page .number
@@ -22,3 +24,6 @@ module _ (P : ℕ) where
   write-exactly patch full b base page =
       exactly (writeRows P patch full b base page) _ (write-number patch full b base page)
       (row (row (both (headers-numbered P patch full) (row (row no-row)))))
+
+pub write-once : (P : ℕ) (patch full : List ℕ) (b : ℕ) (base page : List ℕ) → once (writeGroups P patch full b base page) ≡ true
+write-once P patch full b base page = refl

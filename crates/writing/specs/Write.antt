@@ -7,7 +7,7 @@ use lib.Dec.{eqb, leb}
 use lib.ListN.{length}
 use Rattle.layout.specs.Numbers.{kindNumber, refusalNumber}
 use Rattle.layout.specs.Refusals.{Row, _⇐_, firstOf, decided}
-use Rattle.layout.specs.Groups.{ordered, _▸_}
+use Rattle.layout.specs.Groups.{Grouped, ordered, _▸_}
 use Rattle.layout.specs.Groups as group
 use Rattle.headers.specs.Headers.{headerRows}
 use Rattle.layout.specs.Areas.{pagesIn, lengthRows}
@@ -26,12 +26,17 @@ unfoldable pub decidedKind : ℕ → List ℕ → List ℕ → ℕ
 decidedKind P base page = kindFor (length (decidedStream P base page))
 
 -- "The old slot is not consulted."
+abbrev pub writeGroups : ℕ → List ℕ → List ℕ → ℕ → List ℕ → List ℕ → List Grouped
+writeGroups P patch full b base page =
+    (group.pages ▸ pageRows P base page)
+    ∷ (group.lengths ▸ lengthRows P (length patch) (length full))
+    ∷ (group.headers ▸ headerRows P patch full)
+    ∷ (group.block ▸ blockRows patch b)
+    ∷ (group.full ▸ (8 ⇐ eqb (decidedKind P base page) 2 && leb (pagesIn P (length full)) b) ∷ [])
+    ∷ []
+
 unfoldable pub writeRows : ℕ → List ℕ → List ℕ → ℕ → List ℕ → List ℕ → List Row
-writeRows P patch full b base page =
-    ordered
-    ((group.pages ▸ pageRows P base page) ∷ (group.lengths ▸ lengthRows P (length patch) (length full))
-    ∷ (group.headers ▸ headerRows P patch full) ∷ (group.block ▸ blockRows patch b)
-    ∷ (group.full ▸ (8 ⇐ eqb (decidedKind P base page) 2 && leb (pagesIn P (length full)) b) ∷ []) ∷ [])
+writeRows P patch full b base page = ordered (writeGroups P patch full b base page)
 
 pub record WriteOutcome : Type 0 where
   pub number : ℕ
