@@ -5,25 +5,19 @@ use mathlib.Core.List.{List, [], _∷_, _++_}
 use lib.Dec.{eqb}
 use lib.ListN.{length}
 use Rattle.span.specs.Bytes.{zeros, part, same}
-use Rattle.layout.specs.Sizes.{patchHead, fullHead, slotSize, versionAt, restAt}
+use Rattle.layout.specs.Sizes.{patchHead, fullHead, slotSize, versionAt, restAt, shortWidth, sizeWidth}
+use Rattle.layout.specs.Sizes.{patchMagic, fullMagic, patchVersion, fullVersion, headerFlags}
 use Rattle.layout.specs.Numbers.{le}
 use Rattle.layout.specs.Refusals.{Row, _⇐_}
 
--- `PBKPATCH`
-abbrev pub patchMagic : List ℕ
-patchMagic = 80 ∷ 66 ∷ 75 ∷ 80 ∷ 65 ∷ 84 ∷ 67 ∷ 72 ∷ []
-
--- `PBKFULL` and a zero byte
-abbrev pub fullMagic : List ℕ
-fullMagic = 80 ∷ 66 ∷ 75 ∷ 70 ∷ 85 ∷ 76 ∷ 76 ∷ 0 ∷ []
-
--- magic, version 2, flags 0, page size, slot size
+-- magic, version, flags, page size, slot size
 unfoldable pub patchFields : ℕ → List ℕ
-patchFields P = patchMagic ++ (le 2 2 ++ (le 2 0 ++ (le 4 P ++ le 4 slotSize)))
+patchFields P =
+    patchMagic ++ (le shortWidth patchVersion ++ (le shortWidth headerFlags ++ (le sizeWidth P ++ le sizeWidth slotSize)))
 
--- magic, version 1, flags 0, page size
+-- magic, version, flags, page size
 unfoldable pub fullFields : ℕ → List ℕ
-fullFields P = fullMagic ++ (le 2 1 ++ (le 2 0 ++ le 4 P))
+fullFields P = fullMagic ++ (le shortWidth fullVersion ++ (le shortWidth headerFlags ++ le sizeWidth P))
 
 -- a header of a size: its fields, the rest zero
 unfoldable pub header : List ℕ → ℕ → List ℕ

@@ -12,12 +12,13 @@ ghost use Rattle.layout.specs.Refusals.{firstOf};
 ghost use Rattle.headers.specs.Headers.{patchFields, fullFields, header, headRows, patchHeadRows, headerRows};
 ghost use Rattle.headers.specs.Fresh.{freshPatch, freshFull};
 
-// The fields that begin a patch area of pages of this size: magic, version, flags 0, page size, slot size.
+// The fields that begin a patch area of pages of this size: magic, version, flags, page size, slot size.
 fn patch_fields(size: u64) -> [u8; Layout::PATCH_FIELDS]
     ensures { λ r. ⌜ r ≡ patchFields size ⌝ }
 {
     let magic = Layout::PATCH_MAGIC;
     let version = Layout::PATCH_VERSION;
+    let flags = Layout::HEADER_FLAGS;
     let slot = Layout::SLOT;
     [
         magic[0],
@@ -30,8 +31,8 @@ fn patch_fields(size: u64) -> [u8; Layout::PATCH_FIELDS]
         magic[7],
         (version % 256) as u8,
         (version / 256 % 256) as u8,
-        0,
-        0,
+        (flags % 256) as u8,
+        (flags / 256 % 256) as u8,
         (size % 256) as u8,
         (size / 256 % 256) as u8,
         (size / 256 / 256 % 256) as u8,
@@ -43,12 +44,13 @@ fn patch_fields(size: u64) -> [u8; Layout::PATCH_FIELDS]
     ]
 }
 
-// The fields that begin a full area of pages of this size: magic, version, flags 0, page size.
+// The fields that begin a full area of pages of this size: magic, version, flags, page size.
 fn full_fields(size: u64) -> [u8; Layout::FULL_FIELDS]
     ensures { λ r. ⌜ r ≡ fullFields size ⌝ }
 {
     let magic = Layout::FULL_MAGIC;
     let version = Layout::FULL_VERSION;
+    let flags = Layout::HEADER_FLAGS;
     [
         magic[0],
         magic[1],
@@ -60,8 +62,8 @@ fn full_fields(size: u64) -> [u8; Layout::FULL_FIELDS]
         magic[7],
         (version % 256) as u8,
         (version / 256 % 256) as u8,
-        0,
-        0,
+        (flags % 256) as u8,
+        (flags / 256 % 256) as u8,
         (size % 256) as u8,
         (size / 256 % 256) as u8,
         (size / 256 / 256 % 256) as u8,

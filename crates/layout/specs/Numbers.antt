@@ -1,6 +1,7 @@
 -- The paper's numbers for each case of the enums that all calls share, and numbers as bytes: all are little endian.
 use Prim.Native.Nat.{ℕ, zero, suc, _+_, _*_, _/_, _%_}
 use mathlib.Core.List.{List, [], _∷_}
+use Rattle.layout.specs.Sizes.{emptyKind, patchKind, fullKind}
 use Rattle.layout.specs.declared.Kind.{Kind}
 use Rattle.layout.specs.declared.Kind.the-variants.{Empty, Patch, Full}
 use Rattle.layout.specs.declared.Refusal.{Refusal}
@@ -11,9 +12,9 @@ use Rattle.layout.specs.declared.Fault.the-variants.{Nothing, Found}
 
 -- Kinds in answers: EMPTY or same, PATCH or patch, FULL_REF or large
 abbrev pub kindNumber : Kind → ℕ
-kindNumber Empty = 0
-kindNumber Patch = 1
-kindNumber Full = 2
+kindNumber Empty = emptyKind
+kindNumber Patch = patchKind
+kindNumber Full = fullKind
 
 -- "Numbers given back"
 abbrev pub refusalNumber : Refusal → ℕ

@@ -3,8 +3,11 @@ pub mod area;
 pub mod number;
 
 ghost use mathlib.Core.Path.{_≡_};
-ghost use Rattle.layout.specs.Sizes.{pageSize, segment, blocksAtMost, patchHead, fullHead, slotSize, versionAt, restAt, lengthAt};
-ghost use Rattle.layout.specs.Sizes.{payloadAt, room, slotAt, pageAt};
+ghost use Rattle.layout.specs.Sizes.{blocksAtMost, emptyKind, fullFieldsSize, fullHead, fullKind, fullMagic};
+ghost use Rattle.layout.specs.Sizes.{fullVersion, headerFlags, kindAt, lengthAt, pageAt, pageSize, pageSizeAt};
+ghost use Rattle.layout.specs.Sizes.{patchFieldsSize, patchFlags, patchHead, patchKind, patchMagic, patchVersion};
+ghost use Rattle.layout.specs.Sizes.{payloadAt, reservedAt, restAt, room, segment, sizeWidth, slotAt, slotFlagsAt};
+ghost use Rattle.layout.specs.Sizes.{slotSize, slotSizeAt, versionAt};
 
 // What a slot holds, and what a comparison finds.
 pub enum Kind {
@@ -50,7 +53,7 @@ impl Layout {
 
     pub const SLOT: usize = 512;
 
-    // Places in a header, and how many bytes its fields take.
+    // Places in a header.
     pub const VERSION_AT: usize = 8;
 
     pub const FLAGS_AT: usize = 10;
@@ -59,9 +62,12 @@ impl Layout {
 
     pub const SLOT_SIZE_AT: usize = 16;
 
-    pub const PATCH_FIELDS: usize = Self::SLOT_SIZE_AT + 4;
+    // How many bytes a size takes, and all fields of a header.
+    pub const SIZE_WIDTH: usize = 4;
 
-    pub const FULL_FIELDS: usize = Self::PAGE_SIZE_AT + 4;
+    pub const PATCH_FIELDS: usize = Self::SLOT_SIZE_AT + Self::SIZE_WIDTH;
+
+    pub const FULL_FIELDS: usize = Self::PAGE_SIZE_AT + Self::SIZE_WIDTH;
 
     pub const PATCH_MAGIC: [u8; 8] = [80, 66, 75, 80, 65, 84, 67, 72];
 
@@ -70,6 +76,8 @@ impl Layout {
     pub const PATCH_VERSION: u64 = 2;
 
     pub const FULL_VERSION: u64 = 1;
+
+    pub const HEADER_FLAGS: u64 = 0;
 
     // Places in a slot, and the payload's room.
     pub const KIND_AT: usize = 0;
@@ -106,6 +114,19 @@ impl Layout {
         Self::FULL_HEAD + Self::PAGE * (block as usize)
     }
 
+    // An array cannot stand in a clause of `agrees`, so each magic is tied by a function of its own.
+    pub fn patch_magic() -> [u8; 8]
+        ensures { λ r. ⌜ r ≡ patchMagic ⌝ }
+    {
+        Self::PATCH_MAGIC
+    }
+
+    pub fn full_magic() -> [u8; 8]
+        ensures { λ r. ⌜ r ≡ fullMagic ⌝ }
+    {
+        Self::FULL_MAGIC
+    }
+
     // The code's numbers are the definitions'.
     pub fn agrees()
         ensures pages { λ _. do ⌜ (← ⟦Layout::PAGE⟧ .entry) ≡ pageSize ⌝ }
@@ -114,10 +135,25 @@ impl Layout {
         ensures patch { λ _. do ⌜ (← ⟦Layout::PATCH_HEAD⟧ .entry) ≡ patchHead ⌝ }
         ensures full { λ _. do ⌜ (← ⟦Layout::FULL_HEAD⟧ .entry) ≡ fullHead ⌝ }
         ensures slots { λ _. do ⌜ (← ⟦Layout::SLOT⟧ .entry) ≡ slotSize ⌝ }
-        ensures versions { λ _. do ⌜ (← ⟦Layout::VERSION_AT⟧ .entry) ≡ versionAt ⌝ }
-        ensures rests { λ _. do ⌜ (← ⟦Layout::FLAGS_AT⟧ .entry) ≡ restAt ⌝ }
-        ensures lengths { λ _. do ⌜ (← ⟦Layout::LENGTH_AT⟧ .entry) ≡ lengthAt ⌝ }
-        ensures payloads { λ _. do ⌜ (← ⟦Layout::PAYLOAD_AT⟧ .entry) ≡ payloadAt ⌝ }
+        ensures versions_at { λ _. do ⌜ (← ⟦Layout::VERSION_AT⟧ .entry) ≡ versionAt ⌝ }
+        ensures rests_at { λ _. do ⌜ (← ⟦Layout::FLAGS_AT⟧ .entry) ≡ restAt ⌝ }
+        ensures page_sizes_at { λ _. do ⌜ (← ⟦Layout::PAGE_SIZE_AT⟧ .entry) ≡ pageSizeAt ⌝ }
+        ensures slot_sizes_at { λ _. do ⌜ (← ⟦Layout::SLOT_SIZE_AT⟧ .entry) ≡ slotSizeAt ⌝ }
+        ensures size_widths { λ _. do ⌜ (← ⟦Layout::SIZE_WIDTH⟧ .entry) ≡ sizeWidth ⌝ }
+        ensures patch_fields { λ _. do ⌜ (← ⟦Layout::PATCH_FIELDS⟧ .entry) ≡ patchFieldsSize ⌝ }
+        ensures full_fields { λ _. do ⌜ (← ⟦Layout::FULL_FIELDS⟧ .entry) ≡ fullFieldsSize ⌝ }
+        ensures patch_versions { λ _. do ⌜ (← ⟦Layout::PATCH_VERSION⟧ .entry) ≡ patchVersion ⌝ }
+        ensures full_versions { λ _. do ⌜ (← ⟦Layout::FULL_VERSION⟧ .entry) ≡ fullVersion ⌝ }
+        ensures header_flags { λ _. do ⌜ (← ⟦Layout::HEADER_FLAGS⟧ .entry) ≡ headerFlags ⌝ }
+        ensures kinds_at { λ _. do ⌜ (← ⟦Layout::KIND_AT⟧ .entry) ≡ kindAt ⌝ }
+        ensures slot_flags_at { λ _. do ⌜ (← ⟦Layout::SLOT_FLAGS_AT⟧ .entry) ≡ slotFlagsAt ⌝ }
+        ensures lengths_at { λ _. do ⌜ (← ⟦Layout::LENGTH_AT⟧ .entry) ≡ lengthAt ⌝ }
+        ensures reserved_at { λ _. do ⌜ (← ⟦Layout::RESERVED_AT⟧ .entry) ≡ reservedAt ⌝ }
+        ensures payloads_at { λ _. do ⌜ (← ⟦Layout::PAYLOAD_AT⟧ .entry) ≡ payloadAt ⌝ }
         ensures rooms { λ _. do ⌜ (← ⟦Layout::ROOM⟧ .entry) ≡ room ⌝ }
+        ensures empty_kinds { λ _. do ⌜ (← ⟦Layout::EMPTY_KIND⟧ .entry) ≡ emptyKind ⌝ }
+        ensures patch_kinds { λ _. do ⌜ (← ⟦Layout::PATCH_KIND⟧ .entry) ≡ patchKind ⌝ }
+        ensures full_kinds { λ _. do ⌜ (← ⟦Layout::FULL_KIND⟧ .entry) ≡ fullKind ⌝ }
+        ensures patch_flags { λ _. do ⌜ (← ⟦Layout::PATCH_FLAGS⟧ .entry) ≡ patchFlags ⌝ }
     {}
 }

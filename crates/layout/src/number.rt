@@ -1,5 +1,6 @@
 // The paper's numbers for the cases that all answers share.
 use crate::Kind;
+use crate::Layout;
 use crate::Refusal;
 ghost use mathlib.Core.Path.{_≡_};
 ghost use Rattle.layout.specs.Numbers.{kindNumber, refusalNumber};
@@ -9,9 +10,9 @@ pub fn kind_number(kind: Kind) -> u32
     ensures { λ r. ⌜ r ≡ kindNumber kind ⌝ }
 {
     match kind {
-        Kind::Empty => 0,
-        Kind::Patch => 1,
-        Kind::Full => 2,
+        Kind::Empty => Layout::EMPTY_KIND as u32,
+        Kind::Patch => Layout::PATCH_KIND as u32,
+        Kind::Full => Layout::FULL_KIND as u32,
     }
 }
 

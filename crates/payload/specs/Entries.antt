@@ -7,6 +7,16 @@ use lib.ListN.{length, set}
 use lib.IntN.{ℤ, pos, negsuc, _+ℤ_}
 use Rattle.layout.specs.Sizes.{room}
 
+-- the first byte of an entry with a 16-bit jump, and how many bytes an entry takes
+abbrev pub longCode : ℕ
+longCode = 255
+
+abbrev pub shortEntry : ℕ
+shortEntry = 2
+
+abbrev pub longEntry : ℕ
+longEntry = 4
+
 -- Entries, each with the bytes that it takes, its place and its value; and how they end: with the payload, inside an entry, or with an
 -- entry that leaves the page.
 pub data Stream : Type 0 where
@@ -30,9 +40,9 @@ stream n p code [] = done
 stream n p low [] = cut
 stream n p (high l) [] = cut
 stream n p (value w j) [] = cut
-stream n p code (b ∷ bs) = elim (eqb b 255) [ true ↦ stream n p low bs | false ↦ stream n p (value 2 b) bs ]
+stream n p code (b ∷ bs) = elim (eqb b longCode) [ true ↦ stream n p low bs | false ↦ stream n p (value shortEntry b) bs ]
 stream n p low (b ∷ bs) = stream n p (high b) bs
-stream n p (high l) (b ∷ bs) = stream n p (value 4 (l + 256 * b)) bs
+stream n p (high l) (b ∷ bs) = stream n p (value longEntry (l + 256 * b)) bs
 stream n p (value w j) (b ∷ bs) =
     let q = p +ℤ pos (j + 1) in
     elim (inPage n q) [ true ↦ entry w q b (stream n q code bs) | false ↦ out ]

@@ -4,8 +4,8 @@ pub mod entry;
 use layout::Layout;
 ghost use mathlib.Core.Path.{_≡_};
 ghost use lib.ListN.{length};
-ghost use Rattle.payload.specs.Entries.{payloadStream, applied};
-ghost use Rattle.payload.specs.Steps.{reach, Judges};
+ghost use Rattle.payload.specs.Entries.{longCode, shortEntry, longEntry, payloadStream, applied};
+ghost use Rattle.payload.specs.Steps.{farthest, reach, Judges};
 
 // What stands next in a payload: nothing more, no whole entry that stays in the page, or an entry's place and value, and where the
 // payload goes on after it.
@@ -37,6 +37,14 @@ impl Code {
     pub const LONG_WIDTH: usize = 4;
     // The most bytes of a page that 16-bit jumps are made for.
     pub const REACH: usize = 65536;
+
+    // The code's numbers are the definitions'.
+    pub fn agrees()
+        ensures long { λ _. do ⌜ (← ⟦Code::LONG⟧ .entry) ≡ longCode ⌝ }
+        ensures short_width { λ _. do ⌜ (← ⟦Code::SHORT_WIDTH⟧ .entry) ≡ shortEntry ⌝ }
+        ensures long_width { λ _. do ⌜ (← ⟦Code::LONG_WIDTH⟧ .entry) ≡ longEntry ⌝ }
+        ensures reach { λ _. do ⌜ (← ⟦Code::REACH⟧ .entry) ≡ farthest ⌝ }
+    {}
 }
 
 // Whether a payload is sound in a page of this size, its number of entries and its last position.

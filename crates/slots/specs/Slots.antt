@@ -5,7 +5,8 @@ use mathlib.Core.List.{List, _∷_, _++_}
 use lib.Dec.{leb, eqb}
 use lib.ListN.{length}
 use Rattle.span.specs.Bytes.{zeros, part, same}
-use Rattle.layout.specs.Sizes.{slotSize, lengthAt, payloadAt, room}
+use Rattle.layout.specs.Sizes.{slotSize, shortWidth, lengthAt, reservedAt, payloadAt, room}
+use Rattle.layout.specs.Sizes.{emptyKind, patchKind, fullKind, patchFlags}
 use Rattle.layout.specs.Numbers.{number, le}
 use Rattle.slots.specs.declared.SlotState.{SlotState}
 use Rattle.slots.specs.declared.SlotState.the-variants.{Empty, Patch, Full, Unsound}
@@ -16,15 +17,17 @@ emptySlot = zeros slotSize
 
 -- PATCH: kind 1, flags 1, payload length, four zero bytes, the payload, zeros
 unfoldable pub patchSlot : List ℕ → List ℕ
-patchSlot payload = (1 ∷ 1 ∷ le 2 (length payload)) ++ (zeros 4 ++ (payload ++ zeros (room - length payload)))
+patchSlot payload =
+    (patchKind ∷ patchFlags ∷ le shortWidth (length payload))
+    ++ (zeros (payloadAt - reservedAt) ++ (payload ++ zeros (room - length payload)))
 
 -- FULL_REF: kind 2, every other byte zero
 unfoldable pub fullSlot : List ℕ
-fullSlot = 2 ∷ zeros (slotSize - 1)
+fullSlot = fullKind ∷ zeros (slotSize - 1)
 
 -- what a slot says of its payload
 unfoldable pub payloadLength : List ℕ → ℕ
-payloadLength s = number (part lengthAt 2 s)
+payloadLength s = number (part lengthAt shortWidth s)
 
 unfoldable pub payloadOf : List ℕ → List ℕ
 payloadOf s = part payloadAt (payloadLength s) s
@@ -47,17 +50,17 @@ unsoundSlot = record { number = 6; kind = 0; length = 0 }
 
 unfoldable pub slotNumbers : List ℕ → SlotNumbers
 slotNumbers s =
-    cond (same s emptySlot) (soundSlot 0 0)
-    (cond (isPatch s) (soundSlot 1 (payloadLength s))
-    (cond (same s fullSlot) (soundSlot 2 0) unsoundSlot))
+    cond (same s emptySlot) (soundSlot emptyKind 0)
+    (cond (isPatch s) (soundSlot patchKind (payloadLength s))
+    (cond (same s fullSlot) (soundSlot fullKind 0) unsoundSlot))
 
 -- the paper's numbers for each case of the code's enum
 abbrev pub stateNumbers : SlotState → SlotNumbers
-stateNumbers Empty = soundSlot 0 0
-stateNumbers (Patch n) = soundSlot 1 n
-stateNumbers Full = soundSlot 2 0
+stateNumbers Empty = soundSlot emptyKind 0
+stateNumbers (Patch n) = soundSlot patchKind n
+stateNumbers Full = soundSlot fullKind 0
 stateNumbers Unsound = unsoundSlot
 
 -- the sound slot of a kind, by its number
 unfoldable pub slotImage : ℕ → List ℕ → List ℕ
-slotImage k payload = cond (eqb k 0) emptySlot (cond (eqb k 1) (patchSlot payload) fullSlot)
+slotImage k payload = cond (eqb k emptyKind) emptySlot (cond (eqb k patchKind) (patchSlot payload) fullSlot)

@@ -4,7 +4,9 @@ use mathlib.Core.Bool.{true, false, cond}
 use mathlib.Core.List.{List, [], _∷_, _++_}
 use lib.Dec.{eqb, ltb}
 use lib.IntN.{ℤ, pos}
+use Rattle.layout.specs.Sizes.{shortWidth}
 use Rattle.layout.specs.Numbers.{le}
+use Rattle.payload.specs.Entries.{longCode}
 
 -- a byte of the modified page that is not its base's
 pub record Change : Type 0 where
@@ -19,7 +21,7 @@ diffs q (x ∷ xs) (y ∷ ys) = elim (eqb x y) [ true ↦ diffs (q + 1) xs ys | 
 
 -- one entry: the one-byte code for jumps below 255, the long code otherwise
 unfoldable pub spelled : ℕ → ℕ → List ℕ
-spelled jump v = cond (ltb jump 255) (jump ∷ v ∷ []) (255 ∷ (le 2 jump ++ (v ∷ [])))
+spelled jump v = cond (ltb jump longCode) (jump ∷ v ∷ []) (longCode ∷ (le shortWidth jump ++ (v ∷ [])))
 
 -- the entries of these changes, where `next` is the place after the last position
 unfoldable pub coded : ℕ → List Change → List ℕ
