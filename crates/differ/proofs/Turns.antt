@@ -1,16 +1,17 @@
 -- A turn of each loop of differ.
-use Prim.Native.Nat.{ℕ, _+_, _-_, _≤_}
+use Prim.Native.Nat.{ℕ, _+_, _-_, _≤_, _<_, min}
 use native.Mathlib.Omega.{arith}
 use native.Mathlib.Decide.{decLt}
 use mathlib.Core.Path.{_≡_, refl, sym, ap, _∙_}
 use mathlib.Core.Bool.{Bool, true, false, not, _||_, true≢false}
+use mathlib.Core.Logic.{_⊎_, inl, inr}
 use mathlib.Core.List.{List}
 use lib.Dec.{eqb}
 use lib.ListN.{length, getD}
 use mir.Val.{boolByte}
 use borrow.Author.Tests.{eqb-true}
-use Rattle.differ.specs.Differ.{Same, nextDiff, differsAt, diffsIn, AfterLast, Clusters}
-use Rattle.differ.specs.DifferLaws.{next-skip, diffs-none, diffs-next, diffs-alike}
+use Rattle.differ.specs.Differ.{Same, nextDiff, differsAt, diffsIn}
+use Rattle.differ.specs.DifferLaws.{next-skip, diffs-next}
 
 -- no byte is passed yet
 pub same-none : (a b : List ℕ) (at to : ℕ) → to ≤ at → Same a b at to
@@ -68,34 +69,10 @@ same-before a b at to s e j k m =
       | no h ↦ s j (omega arith) m
     ]
 
--- no differences are told
-pub cluster-none : (a b : List ℕ) (from : ℕ) → Clusters a b from (record { count = 0; next = from })
-cluster-none a b from =
-    let q : from - from ≡ 0 = omega arith in
-    record {
-      on = omega arith;
-      near = omega arith;
-      within = λ h. absurd (omega arith);
-      count = sym (ap (λ (n : ℕ). diffsIn a b from n) q ∙ diffs-none a b from);
-      differ = λ h. absurd (omega arith);
-    }
-
--- a chunk's differences, up to the last of them
-pub cluster-chunk : (a b : List ℕ) (from count r : ℕ) → from + 64 ≤ length a → from + 64 ≤ length b → count ≡ diffsIn a b from 64
-    → AfterLast a b from (from + 64) r
-    → Clusters a b from (record { count = count; next = r })
-cluster-chunk a b from count r la lb e l =
-    let o : from ≤ r = l .on in
-    let w : r ≤ from + 64 = l .within in
-    let k : ℕ = r - from in
-    let n : ℕ = from + 64 - r in
-    let p : from + k ≡ r = omega arith in
-    let q : k + n ≡ 64 = omega arith in
-    let s : Same a b (from + k) (from + (k + n)) = rw (p, q) (l .alike) in
-    record {
-      on = o;
-      near = omega arith;
-      within = λ h. (omega arith, omega arith);
-      count = e ∙ ap (λ (i : ℕ). diffsIn a b from i) (sym q) ∙ diffs-alike a b from k n s;
-      differ = l .differ;
-    }
+-- what the shorter of two lists does not reach, one of them does not
+pub shorter-of : (l m n : ℕ) → min l m < n → (l < n) ⊎ (m < n)
+shorter-of l m n h =
+    elim (decLt l n) [
+      | yes k ↦ inl k
+      | no k ↦ inr (omega arith)
+    ]

@@ -1,9 +1,9 @@
 -- Where two lists differ next, and in how many places.
-use Prim.Native.Nat.{ℕ, zero, suc, _+_, _-_, _≤_, _<_}
+use Prim.Native.Nat.{ℕ, zero, suc, _+_, _≤_, _<_}
 use mathlib.Core.Path.{_≡_}
-use mathlib.Core.Bool.{true, false}
+use mathlib.Core.Bool.{true, false, cond, _&&_}
 use mathlib.Core.List.{List, [], _∷_}
-use lib.Dec.{eqb}
+use lib.Dec.{eqb, leb}
 use lib.ListN.{length, drop, getD}
 use Rattle.differ.specs.declared.Cluster.{Cluster}
 
@@ -34,20 +34,17 @@ unfoldable pub diffsIn : List ℕ → List ℕ → ℕ → ℕ → ℕ
 diffsIn a b from zero = 0
 diffsIn a b from (suc n) = diffsIn a b from n + differsAt a b (from + n)
 
--- the place after the last difference between `from` and `to`, or `from`
-pub record AfterLast (a b : List ℕ) (from to r : ℕ) : Type 0 where
-  pub on : from ≤ r
-  pub within : r ≤ to
-  pub alike : Same a b r to
-  pub differ : from < r → getD a (r - 1) 0 ≡ getD b (r - 1) 0 → ⊥
+-- the place after the last difference among the n places from `from` on, or `from` where there is none
+unfoldable pub afterLast : List ℕ → List ℕ → ℕ → ℕ → ℕ
+afterLast a b from zero = from
+afterLast a b from (suc n) = elim (eqb (getD a (from + n) 0) (getD b (from + n) 0)) [ true ↦ afterLast a b from n | false ↦ from + n + 1 ]
 
--- differences that stand within a byte's reach of `from`: their number, and the place after the last of them
-pub record Clusters (a b : List ℕ) (from : ℕ) (c : Cluster) : Type 0 where
-  pub on : from ≤ c .next
-  pub near : c .next ≤ from + 255
-  pub within : from < c .next → (c .next ≤ length a) × (c .next ≤ length b)
-  pub count : c .count ≡ diffsIn a b from (c .next - from)
-  pub differ : from < c .next → getD a (c .next - 1) 0 ≡ getD b (c .next - 1) 0 → ⊥
+-- the differences of the chunk from `from` on: how many, and the place after the last. None are told of a chunk that a or b has not whole.
+unfoldable pub clusterAt : List ℕ → List ℕ → ℕ → Cluster
+clusterAt a b from =
+    cond (leb (from + chunk) (length a) && leb (from + chunk) (length b))
+    (record { count = diffsIn a b from chunk; next = afterLast a b from chunk })
+    (record { count = 0; next = from })
 
 -- what passing over equal bytes up to r gives: r lies on the way to `end`, and the next difference is still ahead
 pub record Skipped (a b : List ℕ) (from end r : ℕ) : Type 0 where

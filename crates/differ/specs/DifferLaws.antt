@@ -4,15 +4,17 @@ use native.Mathlib.Omega.{arith}
 use native.Mathlib.Decide.{decLt}
 use native.Mathlib.Numerals.{add-one}
 use mathlib.Core.Path.{_≡_, refl, sym, ap, _∙_}
-use mathlib.Core.Bool.{Bool, true, false}
+use mathlib.Core.Bool.{Bool, true, false, cond, _&&_, and-false}
+use mathlib.Core.Logic.{_⊎_, inl, inr}
 use mathlib.Core.List.{List, [], _∷_}
-use lib.Dec.{eqb}
+use lib.Dec.{eqb, leb}
 use lib.ListN.{length, drop, getD, length-drop}
 use lib.Seq.{getD-drop}
-use borrow.Author.Tests.{eq-eqb, ne-eqb, eqb-true, eqb-false}
+use borrow.Author.Tests.{eq-eqb, ne-eqb, eqb-true, eqb-false, leb-true, le-leb, lt-leb}
 use Rattle.span.specs.Bytes.{same}
 use Rattle.span.specs.Laws.{ext, same-true, same-false}
-use Rattle.differ.specs.Differ.{agree, nextDiff, Same, differsAt, diffsIn}
+use Rattle.differ.specs.Differ.{chunk, agree, nextDiff, Same, differsAt, diffsIn, afterLast, clusterAt}
+use Rattle.differ.specs.declared.Cluster.{Cluster}
 
 -- what the next difference is, said of places and not by a walk
 pub record NextAt (a b : List ℕ) (from r : ℕ) : Type 0 where
@@ -223,3 +225,144 @@ same-by-next a b e = go (eqb (nextDiff a b 0) (length a)) refl
           alike = λ i k m. ap (λ (l : List ℕ). getD l i 0) f;
           differ = λ k m q. omega arith;
         }))))
+
+-- what the place after the last difference is, said of places; and there is just one
+pub record AfterLast (a b : List ℕ) (from to r : ℕ) : Type 0 where
+  pub on : from ≤ r
+  pub within : r ≤ to
+  pub alike : Same a b r to
+  pub differ : from < r → getD a (r - 1) 0 ≡ getD b (r - 1) 0 → ⊥
+
+pub after-last : (a b : List ℕ) (from n : ℕ) → AfterLast a b from (from + n) (afterLast a b from n)
+unfolding afterLast Same
+after-last a b from zero = record { on = omega arith; within = omega arith; alike = λ i h k. absurd (omega arith); differ = λ h. absurd (omega arith) }
+after-last a b from (suc n) = go (eqb (getD a (from + n) 0) (getD b (from + n) 0)) refl (after-last a b from n)
+  where
+    go : (t : Bool) → eqb (getD a (from + n) 0) (getD b (from + n) 0) ≡ t → AfterLast a b from (from + n) (afterLast a b from n)
+        → AfterLast a b from (from + suc n) (elim t as (λ _. ℕ) [ true ↦ afterLast a b from n | false ↦ from + n + 1 ])
+    go true e w =
+        record {
+          on = w .on;
+          within = omega (arith, w .within);
+          alike =
+              λ i h k.
+              elim (decLt i (from + n)) [
+                | yes l ↦ w .alike i h l
+                | no l ↦
+                    let q : i ≡ from + n = omega arith in
+                    ap (λ (j : ℕ). getD a j 0) q ∙ eqb-true (getD a (from + n) 0) (getD b (from + n) 0) e ∙ ap (λ (j : ℕ). getD b j 0) (sym q)
+              ];
+          differ = w .differ;
+        }
+    go false e w =
+        let q : from + n + 1 - 1 ≡ from + n = omega arith in
+        record {
+          on = omega arith;
+          within = omega arith;
+          alike = λ i h k. absurd (omega arith);
+          differ = λ h f. eqb-false (getD a (from + n) 0) (getD b (from + n) 0) e
+              (ap (λ (j : ℕ). getD a j 0) (sym q) ∙ f ∙ ap (λ (j : ℕ). getD b j 0) q);
+        }
+
+pub after-last-one : (a b : List ℕ) (from to r s : ℕ) → AfterLast a b from to r → AfterLast a b from to s → r ≡ s
+unfolding Same
+after-last-one a b from to r s p q =
+    elim (decLt r s) [
+      | yes h ↦ absurd (q .differ (omega (arith, p .on)) (p .alike (s - 1) (omega arith) (omega (arith, q .within))))
+      | no h ↦
+          elim (decLt s r) [
+            | yes k ↦ absurd (p .differ (omega (arith, q .on)) (q .alike (r - 1) (omega arith) (omega (arith, p .within))))
+            | no k ↦ omega arith
+          ]
+    ]
+
+pub after-last-is : (a b : List ℕ) (from to r : ℕ) → AfterLast a b from to r → r ≡ afterLast a b from (to - from)
+after-last-is a b from to r w =
+    let q : from + (to - from) ≡ to = omega (arith, w .on, w .within) in
+    after-last-one a b from to r (afterLast a b from (to - from)) w (rw q at (after-last a b from (to - from)))
+
+-- where nothing differs, the place is the first
+pub diffs-zero : (a b : List ℕ) (from n : ℕ) → diffsIn a b from n ≡ 0 → Same a b from (from + n)
+unfolding diffsIn differsAt Same
+diffs-zero a b from zero e i h k = absurd (omega arith)
+diffs-zero a b from (suc n) e i h k = go (eqb (getD a (from + n) 0) (getD b (from + n) 0)) refl e (diffs-zero a b from n)
+  where
+    go : (t : Bool) → eqb (getD a (from + n) 0) (getD b (from + n) 0) ≡ t
+        → diffsIn a b from n + elim t as (λ _. ℕ) [ true ↦ 0 | false ↦ 1 ] ≡ 0
+        → (diffsIn a b from n ≡ 0 → (i : ℕ) → from ≤ i → i < from + n → getD a i 0 ≡ getD b i 0) → getD a i 0 ≡ getD b i 0
+    go true f z rest =
+        elim (decLt i (from + n)) [
+          | yes l ↦ rest (omega arith) i h l
+          | no l ↦
+              let q : i ≡ from + n = omega arith in
+              ap (λ (j : ℕ). getD a j 0) q ∙ eqb-true (getD a (from + n) 0) (getD b (from + n) 0) f ∙ ap (λ (j : ℕ). getD b j 0) (sym q)
+        ]
+    go false f z rest = absurd (omega arith)
+
+-- a cluster's differences stand within a byte's reach of `from`, and all up to the last are counted
+pub record Clusters (a b : List ℕ) (from : ℕ) (c : Cluster) : Type 0 where
+  pub on : from ≤ c .next
+  pub near : c .next ≤ from + 255
+  pub within : from < c .next → (c .next ≤ length a) × (c .next ≤ length b)
+  pub count : c .count ≡ diffsIn a b from (c .next - from)
+  pub differ : from < c .next → getD a (c .next - 1) 0 ≡ getD b (c .next - 1) 0 → ⊥
+
+pub clusters : (a b : List ℕ) (from : ℕ) → Clusters a b from (clusterAt a b from)
+unfolding clusterAt
+clusters a b from = go (leb (from + chunk) (length a)) (leb (from + chunk) (length b)) refl refl
+  where
+    none : Clusters a b from (record { count = 0; next = from })
+    none =
+        let q : from - from ≡ 0 = omega arith in
+        record {
+          on = omega arith;
+          near = omega arith;
+          within = λ h. absurd (omega arith);
+          count = sym (ap (λ (n : ℕ). diffsIn a b from n) q ∙ diffs-none a b from);
+          differ = λ h. absurd (omega arith);
+        }
+
+    go : (s t : Bool) → leb (from + chunk) (length a) ≡ s → leb (from + chunk) (length b) ≡ t
+        → Clusters a b from
+        (cond (s && t) (record { count = diffsIn a b from chunk; next = afterLast a b from chunk }) (record { count = 0; next = from }))
+    go true true e f =
+        let l : AfterLast a b from (from + chunk) (afterLast a b from chunk) = after-last a b from chunk in
+        let r : ℕ = afterLast a b from chunk in
+        let la : from + chunk ≤ length a = leb-true (from + chunk) (length a) e in
+        let lb : from + chunk ≤ length b = leb-true (from + chunk) (length b) f in
+        let o : from ≤ r = l .on in
+        let w : r ≤ from + chunk = l .within in
+        let k : ℕ = r - from in
+        let n : ℕ = from + chunk - r in
+        let p : from + k ≡ r = omega arith in
+        let q : k + n ≡ chunk = omega arith in
+        let s : Same a b (from + k) (from + (k + n)) = rw (p, q) (l .alike) in
+        record {
+          on = o;
+          near = omega arith;
+          within = λ h. (omega arith, omega arith);
+          count = ap (λ (i : ℕ). diffsIn a b from i) (sym q) ∙ diffs-alike a b from k n s;
+          differ = l .differ;
+        }
+    go true false e f = none
+    go false t e f = none
+
+-- and what a cluster comes to: in a chunk that is not whole, in one where nothing differs, and in any other
+pub cluster-short : (a b : List ℕ) (from : ℕ) → (length a < from + chunk) ⊎ (length b < from + chunk)
+    → record { count = 0; next = from } ≡ clusterAt a b from
+unfolding clusterAt
+cluster-short a b from (inl h) = rw (lt-leb (from + chunk) (length a) h)
+cluster-short a b from (inr h) = rw (lt-leb (from + chunk) (length b) h, and-false (leb (from + chunk) (length a)))
+
+module _ (a b : List ℕ) (from : ℕ) (la : from + chunk ≤ length a) (lb : from + chunk ≤ length b) where
+  pub cluster-whole : (count r : ℕ) → count ≡ diffsIn a b from chunk → r ≡ afterLast a b from chunk
+      → record { count = count; next = r } ≡ clusterAt a b from
+  unfolding clusterAt
+  cluster-whole count r e f = rw (le-leb (from + chunk) (length a) la, le-leb (from + chunk) (length b) lb) (λ i. record { count = e i; next = f i })
+
+  pub cluster-zero : (count : ℕ) → count ≡ diffsIn a b from chunk → count ≡ 0 → record { count = 0; next = from } ≡ clusterAt a b from
+  cluster-zero count e z =
+      let w : AfterLast a b from (from + chunk) from =
+      record { on = omega arith; within = omega arith; alike = diffs-zero a b from chunk (sym e ∙ z); differ = λ h. absurd (omega arith) } in
+      cluster-whole 0 from (sym z ∙ e)
+      (after-last-one a b from (from + chunk) from (afterLast a b from chunk) w (after-last a b from chunk))

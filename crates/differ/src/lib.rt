@@ -3,10 +3,10 @@
 // at one chunk.
 ghost use mathlib.Core.Path.{_≡_};
 ghost use mathlib.Core.Bool.{false};
-ghost use Prim.Native.Nat.{_+_, _≤_, min};
+ghost use Prim.Native.Nat.{_+_, _-_, _≤_, min};
 ghost use lib.ListN.{length};
 ghost use Rattle.span.specs.Bytes.{part as partOf, same as sameBytes};
-ghost use Rattle.differ.specs.Differ.{chunk, nextDiff, diffsIn, Same, Skipped, AfterLast, Clusters};
+ghost use Rattle.differ.specs.Differ.{chunk, nextDiff, diffsIn, Same, Skipped, afterLast, clusterAt};
 
 // Differences that stand close together: how many they are, and the place after the last of them.
 pub struct Cluster {
@@ -103,7 +103,7 @@ fn count_chunk(a: &[u8], b: &[u8], at: usize) -> u8
 // The place after the last difference between `from` and `to`, or `from`: for a chunk that has one, looked for from its end.
 fn after_last(a: &[u8], b: &[u8], from: usize, to: usize) -> usize
     requires { ⌜ (from ≤ to) × (to ≤ length (now a)) × (to ≤ length (now b)) ⌝ }
-    ensures { λ r. ⌜ AfterLast (now (a .entry)) (now (b .entry)) from to r ⌝ }
+    ensures { λ r. ⌜ r ≡ afterLast (now (a .entry)) (now (b .entry)) from (to - from) ⌝ }
 {
     let mut at = to;
     while from < at {
@@ -117,7 +117,7 @@ fn after_last(a: &[u8], b: &[u8], from: usize, to: usize) -> usize
 
 // The differences in the chunk from `from` on. None are told of a chunk that a or b does not have whole.
 pub fn cluster_at(a: &[u8], b: &[u8], from: usize) -> Cluster
-    ensures { λ r. ⌜ Clusters (now (a .entry)) (now (b .entry)) from r ⌝ }
+    ensures { λ r. ⌜ r ≡ clusterAt (now (a .entry)) (now (b .entry)) from ⌝ }
 {
     let end = span::shorter(a.len(), b.len());
     if end <= from {

@@ -83,9 +83,9 @@ module _ (P : ℕ) where
   judge-refuses slot a x = rw (x .numbers) (judge-exactly slot)
 
   -- "an empty part where it hands a part out"
-  pub show-hands-nothing : (patch : List ℕ) (b : ℕ) (shown : List ℕ) → Show P patch b shown
+  pub show-hands-nothing : (patch : List ℕ) (b : ℕ) (lent handed : ℕ × ℕ) (shown : List ℕ) → Show P patch b lent shown handed
       → (shown ≡ []) ↔ (NoneHolds (showRows P patch b) → ⊥)
-  show-hands-nothing patch b shown x = (
+  show-hands-nothing patch b lent handed shown x = (
     λ e none. show-some P patch b none (sym (x .bytes) ∙ e),
     λ h. x .bytes ∙ show-kept P patch b (λ z. h (show-exactly P patch b .done .0 z)),
   )

@@ -5,7 +5,7 @@
 --
 -- `writeOutcome`, `readOutcome` and `Show` are what the contracts of Write, Read and Show cite; the other words are in `Words`. Any lists
 -- are areas, bases and pages here, and any number is a block.
-use Prim.Native.Nat.{ℕ, _≤_, _<_}
+use Prim.Native.Nat.{ℕ, _+_, _≤_, _<_}
 use mathlib.Core.Path.{_≡_}
 use mathlib.Core.Bool.{true, false}
 use mathlib.Core.Logic.{_↔_, _⊎_}
@@ -13,7 +13,7 @@ use mathlib.Core.List.{List, []}
 use lib.Dec.{lit≤}
 use lib.ListN.{length}
 use Rattle.span.specs.Bytes.{zeros}
-use Rattle.layout.specs.Sizes.{pageSize}
+use Rattle.layout.specs.Sizes.{pageSize, slotAt, payloadAt}
 use Rattle.slots.specs.Slots.{emptySlot, fullSlot}
 use Rattle.payload.specs.Entries.{start, payloadStream, sound, applied}
 use Rattle.stream.specs.Calls.{pageOf}
@@ -31,7 +31,7 @@ use Rattle.promises.specs.StoreLaws.{write-stored}
 use Rattle.promises.specs.ReadLaws.{reads-empty, reads-patch, reads-unsound, reads-spelled, reads-unspelled, reads-full}
 use Rattle.promises.specs.ReadLaws.{reads-missing, reads-sound, zero-bases}
 use Rattle.promises.specs.WriteLaws.{write-length, kind-empty, kind-patch, kind-full, no-room, reads-back, others-read}
-use Rattle.promises.specs.ShowLaws.{shown-payload, nothing-shown}
+use Rattle.promises.specs.ShowLaws.{shown-payload, shown-in-place, nothing-shown}
 
 module _ (patch full : List ℕ) (b : ℕ) (base page : List ℕ) where
   abbrev pub outcome : WriteOutcome
@@ -117,12 +117,17 @@ module _ (patch full : List ℕ) (b : ℕ) (base page : List ℕ) where
     sound-slot = reads-sound pageSize patch full b base page fits below
 
 -- Show hands out the payload of a sound PATCH, and otherwise an empty part
-module _ (patch : List ℕ) (b : ℕ) (shown : List ℕ) (call : Show pageSize patch b shown) where
+module _ (patch : List ℕ) (b : ℕ) (lent handed : ℕ × ℕ) (shown : List ℕ) (call : Show pageSize patch b lent shown handed) where
   pub shows-payload : PatchFits pageSize patch b → (payload : List ℕ) → PatchOf (slotOf patch b) payload → shown ≡ payload
-  shows-payload = shown-payload pageSize patch b shown call
+  shows-payload = shown-payload pageSize patch b lent handed shown call
+
+  -- "handed out as a part of the patch area itself": it lies in the lent memory, at the payload's own place
+  pub shows-in-place : PatchFits pageSize patch b → (payload : List ℕ) → PatchOf (slotOf patch b) payload
+      → (handed .0 ≡ lent .0) × (handed .1 ≡ lent .1 + (slotAt b + payloadAt))
+  shows-in-place fits payload p = shown-in-place pageSize patch b lent handed shown call fits payload p
 
   pub shows-nothing : (shown ≡ []) ↔ ShowsNothing pageSize patch b
-  shows-nothing = nothing-shown pageSize patch b shown call
+  shows-nothing = nothing-shown pageSize patch b lent handed shown call
 
 -- a base of 0 bytes and one of 8,192 zeros are one base page
 pub zero-base : pageOf pageSize [] ≡ pageOf pageSize (zeros pageSize)

@@ -44,8 +44,10 @@ module _ (P : ℕ) where
   pub one-judge : (slot : List ℕ) (a b : Judged) → Judge slot a → Judge slot b → a ≡ b
   one-judge slot a b x y = judged-one a b (x .numbers ∙ sym (y .numbers))
 
-  pub one-show : (patch : List ℕ) (b : ℕ) (p q : List ℕ) → Show P patch b p → Show P patch b q → p ≡ q
-  one-show patch b p q x y = x .bytes ∙ sym (y .bytes)
+  -- its bytes, and where they lie
+  pub one-show : (patch : List ℕ) (b : ℕ) (lent : ℕ × ℕ) (p q : List ℕ) (to to′ : ℕ × ℕ) → Show P patch b lent p to
+      → Show P patch b lent q to′ → (p ≡ q) × (to .0 ≡ to′ .0) × (to .1 ≡ to′ .1)
+  one-show patch b lent p q to to′ x y = (x .bytes ∙ sym (y .bytes), x .memory ∙ sym (y .memory), x .place ∙ sym (y .place))
 
   pub one-read : (patch full : List ℕ) (n : ℕ) (base page : List ℕ) (a b : Reading) (p q : List ℕ)
       → Read P patch full n base page a p → Read P patch full n base page b q → (a ≡ b) × (p ≡ q)

@@ -1,5 +1,5 @@
 -- What Show hands out, from the rows of its definition to the words of the demands.
-use Prim.Native.Nat.{ℕ, zero, suc, _≤_, _<_}
+use Prim.Native.Nat.{ℕ, _+_, zero, suc, _≤_, _<_}
 use native.Mathlib.Omega.{arith}
 use native.Mathlib.Decide.{decLt}
 use mathlib.Core.Path.{_≡_, refl, sym, ap, _∙_}
@@ -35,10 +35,10 @@ module _ (P : ℕ) (patch : List ℕ) (b : ℕ) where
   is-patch : (payload : List ℕ) → PatchOf (slotOf patch b) payload → isPatch (slotOf patch b) ≡ true
   is-patch payload p = ap isPatch (p .image) ∙ patch-is payload (p .room-for) (p .some)
 
-  pub shown-payload : (shown : List ℕ) → Show P patch b shown → PatchFits P patch b → (payload : List ℕ)
+  pub shown-payload : (lent handed : ℕ × ℕ) (shown : List ℕ) → Show P patch b lent shown handed → PatchFits P patch b → (payload : List ℕ)
       → PatchOf (slotOf patch b) payload → shown ≡ payload
   unfolding slotOf payloadOf
-  shown-payload shown s fits payload p =
+  shown-payload lent handed shown s fits payload p =
       let n : ℕ = payloadLength (slotOf patch b) in
       let q : n ≡ length payload = ap payloadLength (p .image) ∙ payload-length-of payload (p .room-for) in
       let a : patchFits P (length patch) ≡ true = area-fits (fits .patch-length) (fits .not-above) in
@@ -48,6 +48,14 @@ module _ (P : ℕ) (patch : List ℕ) (b : ℕ) where
       ∙ sym (part-part payloadAt n (slotAt b) slotSize patch (omega (arith, p .room-for))
       (slot-within P (length patch) b a (fits .below)))
       ∙ patch-of (slotOf patch b) payload p .1
+
+  pub shown-in-place : (lent handed : ℕ × ℕ) (shown : List ℕ) → Show P patch b lent shown handed → PatchFits P patch b
+      → (payload : List ℕ) → PatchOf (slotOf patch b) payload → (handed .0 ≡ lent .0) × (handed .1 ≡ lent .1 + (slotAt b + payloadAt))
+  shown-in-place lent handed shown s fits payload p =
+      let a : patchFits P (length patch) ≡ true = area-fits (fits .patch-length) (fits .not-above) in
+      let q = show-done P patch b a (head-fits (fits .patch-header)) (fits .below) (is-patch payload p) in
+      let x : slotAt b + payloadAt ≡ showPlace P patch b .at = ap (λ (x : Place). x .at) q in
+      (s .memory, s .place ∙ ap (λ (n : ℕ). lent .1 + n) (sym x))
 
   -- either nothing is shown, for one of the paper's reasons, or there is a payload to show
   data Shown : Type 0 where
@@ -87,13 +95,13 @@ module _ (P : ℕ) (patch : List ℕ) (b : ℕ) where
           })
           (payloadOf s) (record { image = w .2; some = w .0; room-for = w .1 })
 
-  pub nothing-shown : (shown : List ℕ) → Show P patch b shown → (shown ≡ []) ↔ ShowsNothing P patch b
-  nothing-shown shown s = (λ e. there e shown-or-not, λ n. back n shown-or-not)
+  pub nothing-shown : (lent handed : ℕ × ℕ) (shown : List ℕ) → Show P patch b lent shown handed → (shown ≡ []) ↔ ShowsNothing P patch b
+  nothing-shown lent handed shown s = (λ e. there e shown-or-not, λ n. back n shown-or-not)
     where
       there : shown ≡ [] → Shown → ShowsNothing P patch b
       there e (none n q) = n
       there e (some fits payload p) =
-          let q : length payload ≡ 0 = ap (λ (l : List ℕ). length l) (sym (shown-payload shown s fits payload p) ∙ e) in
+          let q : length payload ≡ 0 = ap (λ (l : List ℕ). length l) (sym (shown-payload lent handed shown s fits payload p) ∙ e) in
           absurd (omega (arith, p .some))
 
       back : ShowsNothing P patch b → Shown → shown ≡ []

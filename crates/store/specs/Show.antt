@@ -34,5 +34,8 @@ showPlace P patch b =
     decided (firstOf (showRows P patch b)) (record { at = slotAt b + payloadAt; len = payloadLength (slotOf patch b) })
     (λ n. record { at = 0; len = 0 })
 
-pub record Show (P : ℕ) (patch : List ℕ) (b : ℕ) (shown : List ℕ) : Type 0 where
+-- what is handed out: its bytes, and where they lie. An address is a block of memory and an offset in it.
+pub record Show (P : ℕ) (patch : List ℕ) (b : ℕ) (lent : ℕ × ℕ) (shown : List ℕ) (handed : ℕ × ℕ) : Type 0 where
   pub bytes : shown ≡ part (showPlace P patch b .at) (showPlace P patch b .len) patch
+  pub memory : handed .0 ≡ lent .0
+  pub place : handed .1 ≡ lent .1 + showPlace P patch b .at

@@ -1,13 +1,15 @@
 -- The laws of Show: its place by what is wrong first.
-use Prim.Native.Nat.{ℕ, _+_, _≤_, _<_}
+use Prim.Native.Nat.{ℕ, zero, suc, _+_, _≤_, _<_}
 use native.Mathlib.Omega.{arith}
-use mathlib.Core.Path.{_≡_, sym, ap, _∙_}
-use mathlib.Core.Bool.{true, false, not, cond}
+use mathlib.Core.Path.{_≡_, refl, sym, ap, _∙_}
+use mathlib.Core.Bool.{Bool, true, false, not, cond, _&&_}
 use mathlib.Core.List.{List, [], _∷_}
 use lib.Dec.{leb}
-use borrow.Author.Tests.{le-leb, lt-leb}
+use borrow.Author.Tests.{le-leb, lt-leb, leb-true, leb-false}
 use lib.ListN.{length}
-use Rattle.layout.specs.Sizes.{payloadAt, slotAt}
+use Rattle.span.specs.Laws.{and-left, and-right}
+use Rattle.layout.specs.Sizes.{payloadAt, slotAt, slotSize, room}
+use Rattle.layout.specs.AreaLaws.{slot-within}
 use Rattle.layout.specs.Refusals.{_⇐_, firstOf, orElse}
 use Rattle.layout.specs.RefusalLaws.{first-append, or-some, decided-done, decided-refused}
 use Rattle.layout.specs.Groups.{ordered}
@@ -16,6 +18,7 @@ use Rattle.layout.specs.Areas.{blocksIn, patchFits}
 use Rattle.slots.specs.Slots.{isPatch, payloadLength}
 use Rattle.store.specs.Block.{slotOf}
 use Rattle.store.specs.Show.{showRows, showPlace}
+use Rattle.store.specs.declared.Place.{Place}
 
 -- the rows, one after the other
 show-rows : (P : ℕ) (patch : List ℕ) (b : ℕ)
@@ -58,3 +61,38 @@ module _ (P : ℕ) (patch : List ℕ) (b : ℕ) where
     unfolding orElse showPlace
     show-done h g = sym (decided-done _ _ (firstOf (showRows P patch b)) (show-rows P patch b
         ∙ rw (e, f, lt-leb (blocksIn (length patch)) b h, g)))
+
+-- the part lies in the patch area
+pub show-within : (P : ℕ) (patch : List ℕ) (b : ℕ) → showPlace P patch b .at + showPlace P patch b .len ≤ length patch
+unfolding isPatch
+show-within P patch b = go (patchFits P (length patch)) refl
+  where
+    none : record { at = 0; len = 0 } ≡ showPlace P patch b → showPlace P patch b .at + showPlace P patch b .len ≤ length patch
+    none e =
+        let x : 0 ≡ showPlace P patch b .at = ap (λ (p : Place). p .at) e in
+        let y : 0 ≡ showPlace P patch b .len = ap (λ (p : Place). p .len) e in
+        omega arith
+
+    slot : patchFits P (length patch) ≡ true → firstOf (patchHeadRows P patch) ≡ 0 → b < blocksIn (length patch) → (t : Bool) → isPatch (slotOf patch b) ≡ t → showPlace P patch b .at + showPlace P patch b .len ≤ length patch
+    slot e f h true g =
+        let n : ℕ = payloadLength (slotOf patch b) in
+        let q = show-done P patch b e f h g in
+        let x : slotAt b + payloadAt ≡ showPlace P patch b .at = ap (λ (p : Place). p .at) q in
+        let y : n ≡ showPlace P patch b .len = ap (λ (p : Place). p .len) q in
+        let sizes : (leb 1 n && leb n room) ≡ true = and-left (leb 1 n && leb n room) _ g in
+        let most : n ≤ room = leb-true n room (and-right (leb 1 n) (leb n room) sizes) in
+        let within : slotAt b + slotSize ≤ length patch = slot-within P (length patch) b e h in
+        omega arith
+    slot e f h false g = none (show-slot P patch b e f h g)
+
+    block : patchFits P (length patch) ≡ true → firstOf (patchHeadRows P patch) ≡ 0 → (t : Bool) → leb (blocksIn (length patch)) b ≡ t → showPlace P patch b .at + showPlace P patch b .len ≤ length patch
+    block e f true g = none (show-block P patch b e f (leb-true (blocksIn (length patch)) b g))
+    block e f false g = slot e f (leb-false (blocksIn (length patch)) b g) (isPatch (slotOf patch b)) refl
+
+    head : patchFits P (length patch) ≡ true → (k : ℕ) → firstOf (patchHeadRows P patch) ≡ k → showPlace P patch b .at + showPlace P patch b .len ≤ length patch
+    head e zero f = block e f (leb (blocksIn (length patch)) b) refl
+    head e (suc k) f = none (show-header P patch b (suc k) e f (λ q. omega arith))
+
+    go : (t : Bool) → patchFits P (length patch) ≡ t → showPlace P patch b .at + showPlace P patch b .len ≤ length patch
+    go true e = head e (firstOf (patchHeadRows P patch)) refl
+    go false e = none (show-length P patch b e)

@@ -32,10 +32,12 @@ pub fn payload_place(patch: &[u8], block: usize) -> Place
     }
 }
 
-// A block's payload, as a part of the patch area itself.
+// A block's payload, as a part of the patch area itself, where `payload_place` says.
 pub fn show(patch: &[u8], block: usize) -> &[u8]
-    ensures { λ r. ⌜ Show pageSize (now (patch .entry)) block (now r) ⌝ }
+    ensures { λ r. ⌜ Show pageSize (now (patch .entry)) block (patch .entry .ptr) (now r) (r .ptr) ⌝ }
 {
     let place = payload_place(patch, block);
-    span::part(patch, place.at, place.len)
+    let at = place.at;
+    let end = at + place.len;
+    &patch[at..end]
 }

@@ -11,8 +11,8 @@ use lib.ListN.{length, drop, getD, length-append, drop-of-length-le}
 use lib.IntN.{ℤ}
 use borrow.Author.Tests.{lt-ltb, le-ltb, eq-eqb, ne-eqb, eqb-true, eqb-false}
 use Rattle.differ.specs.declared.Cluster.{Cluster}
-use Rattle.differ.specs.Differ.{nextDiff, Same, differsAt, diffsIn, Clusters}
-use Rattle.differ.specs.DifferLaws.{NextAt, next-at, diffs-none, diffs-first, diffs-few, alike-at, unlike-at}
+use Rattle.differ.specs.Differ.{nextDiff, Same, differsAt, diffsIn, clusterAt}
+use Rattle.differ.specs.DifferLaws.{NextAt, next-at, diffs-none, diffs-first, diffs-few, alike-at, unlike-at, Clusters, clusters}
 use Rattle.layout.specs.Numbers.{le}
 use Rattle.writer.specs.Differences.{Change, diffs, spelled, coded, written, lastPlace}
 use Rattle.writer.specs.Steps.{before, widthOf, rest, Counted, Numbers}
@@ -253,11 +253,16 @@ counted-near base page next used count w c m used′ count′ u n =
     passed-near base page k next next (c .next) (omega arith) (omega arith) (m .near) (λ f. f) (λ h. (m .within h .0, m .within h .1, m .differ h)) in
     counted-on base page next used count w (c .next) (2 * some) some used′ count′ p on (omega arith) (omega arith) (omega arith) (omega arith)
 
+-- what a told cluster is
+pub told-cluster : (a b : List ℕ) (from : ℕ) (c : Cluster) → c ≡ clusterAt a b from → Clusters a b from c
+told-cluster a b from c e = subst (λ (x : Cluster). Clusters a b from x) (sym e) (clusters a b from)
+
 -- a difference, and those that stand close after it
 pub counted-cluster : (base page : List ℕ) (next used count : ℕ) → Counted base page next used count → (at : ℕ) → at ≡ nextDiff base page next
     → at < length base → at < length page
-    → (c : Cluster) → Clusters base page (at + 1) c → (width : ℕ) → width ≡ widthOf (at - next)
+    → (c : Cluster) → c ≡ clusterAt base page (at + 1) → (width : ℕ) → width ≡ widthOf (at - next)
     → Counted base page (c .next) (used + (width + 2 * c .count)) (count + (1 + c .count))
 counted-cluster base page next used count w at e l m c p width f =
-    counted-near base page (at + 1) (used + width) (count + 1) (counted-more base page next used count w at e (used + width) l m (omega arith)) c p
+    counted-near base page (at + 1) (used + width) (count + 1) (counted-more base page next used count w at e (used + width) l m (omega arith)) c
+    (told-cluster base page (at + 1) c p)
     (used + (width + 2 * c .count)) (count + (1 + c .count)) (omega arith) (omega arith)

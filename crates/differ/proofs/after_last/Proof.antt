@@ -2,6 +2,7 @@ use Prim.Native.Nat.{_≤_}
 use native.Mathlib.Omega.{arith}
 use Rattle.differ.specs.Differ.{Same}
 use Rattle.differ.proofs.Turns.{same-none, same-before}
+use Rattle.differ.specs.DifferLaws.{AfterLast, after-last-is}
 use borrow.Author.Needs.{needs}
 use Rattle.differ.proofs.after_last.Statement.{statement}
 use Rattle.differ.proofs.after_last.Tie as tie
@@ -28,7 +29,11 @@ shared-slice-read-if1-2 : tie.Need-shared-slice-read-if1-2 Inv-loop μ-loop
 shared-slice-read-if1-2 c = search needs
 
 returns : tie.Need-returns Inv-loop μ-loop
-returns c = search needs
+returns c =
+    let a = c .before .before .before .before .before .args in
+    let l = c .before .before .before .before .loop in
+    let w : AfterLast (a .a .now) (a .b .now) (a .from) (a .to) (l .at) = search needs in
+    after-last-is (a .a .now) (a .b .now) (a .from) (a .to) (l .at) w
 
 sub-at : tie.Need-sub-at Inv-loop μ-loop
 sub-at c = search needs
@@ -43,7 +48,11 @@ loop-again c =
     (search needs, search needs, same-before (a .a .now) (a .b .now) (l .at) (a .to) (l .inv .2) (c .if1 .left))
 
 returns-2 : tie.Need-returns-2 Inv-loop μ-loop
-returns-2 c = search needs
+returns-2 c =
+    let a = c .before .before .args in
+    let l = c .before .loop in
+    let w : AfterLast (a .a .now) (a .b .now) (a .from) (a .to) (l .at) = search needs in
+    after-last-is (a .a .now) (a .b .now) (a .from) (a .to) (l .at) w
 
 pub after-last-spec : {M : Type 1} → statement M
 after-last-spec =

@@ -1,9 +1,9 @@
-use Prim.Native.Nat.{_-_}
+use Prim.Native.Nat.{_+_, _-_}
 use native.Mathlib.Omega.{arith}
 use lib.ListN.{length as lengthOf}
 use mathlib.Core.Logic.{inl, inr}
 use Rattle.writer.specs.Steps.{Counted}
-use Rattle.writer.proofs.Counting.{at-on, counted-cluster, counted-all}
+use Rattle.writer.proofs.Counting.{at-on, told-cluster, counted-cluster, counted-all}
 use borrow.Author.Needs.{needs}
 use Rattle.writer.proofs.count_rest.Statement.{statement}
 use Rattle.writer.proofs.count_rest.Tie as tie
@@ -81,10 +81,11 @@ loop-less c =
     let a = c .before .before .before .before .before .before .before .before .before .before .args in
     let l = c .before .before .before .before .before .before .before .loop in
     let at = c .before .before .before .before .before .before .next-diff in
+    let more = c .before .before .before .cluster-at in
     omega (
       arith,
       at-on (a .base .now) (a .page .now) (l .next) (at .result) (at .ensures),
-      c .before .before .before .cluster-at .ensures .on,
+      told-cluster (a .base .now) (a .page .now) (at .result + 1) (more .result) (more .ensures) .on,
       c .before
           .before .before .before .if2 .left,
     )
