@@ -1,5 +1,6 @@
 -- Words one after the other, and a number's digits.
 use Prim.Native.Nat.{ℕ, zero, suc, _+_, _-_, _*_, _/_, _%_, _^_, _≤_, _<_}
+use Prim.Native.Char.{code}
 use native.Mathlib.Omega.{arith}
 use native.Mathlib.Nat.{pow-suc, one-le-pow, pow-le-pow-right, zero-lt-suc}
 use native.Mathlib.Decide.{decLt}
@@ -21,7 +22,8 @@ use Rattle.info.specs.declared.Info.{Info}
 use Rattle.info.specs.declared.Info.the-variants.{Slot, Refused}
 use Rattle.io.specs.Digits.{digits, glyph, Fewest}
 use Rattle.span.specs.Bytes.{Put}
-use Rattle.info.specs.Text.{decimalIn, decimal, numberLine, lengthWord, entriesWord, refusedWord, lastWord, kindLine, lastLine, text}
+use Rattle.span.specs.Ascii.{ascii}
+use Rattle.info.specs.Text.{decimalIn, decimal, numberLine, kindLine, lastLine, slotText, text}
 
 pub sets-join : (l : List ℕ) (at : ℕ) (xs ys : List ℕ) → sets (sets l at xs) (at + length xs) ys ≡ sets l at (xs ++ ys)
 sets-join l at [] ys =
@@ -31,18 +33,24 @@ sets-join l at (x ∷ xs) ys =
     let q : at + suc (length xs) ≡ suc at + length xs = omega arith in
     ap (λ (k : ℕ). sets (sets (set l at x) (suc at) xs) k ys) q ∙ sets-join (set l at x) (suc at) xs ys
 
-pub put-then : {out mid after : List ℕ} {at r s : ℕ} (xs ys : List ℕ) → Put out at xs r mid → Put mid r ys s after → Put out at (xs ++ ys) s after
+pub put-then : {out mid after : List ℕ} {at r s : ℕ} (xs ys : List ℕ)
+    → Put out at xs r mid → Put mid r ys s after → Put out at (xs ++ ys) s after
 put-then {out} {mid} {after} {at} {r} {s} xs ys p q =
     let n : length (xs ++ ys) ≡ length xs + length ys = length-append xs ys in
     let a : r ≡ at + length xs = p .next in
     let b : s ≡ r + length ys = q .next in
     record {
       next = omega arith;
-      bytes = q .bytes ∙ ap (λ (l : List ℕ). sets l r ys) (p .bytes) ∙ ap (λ (k : ℕ). sets (sets out at xs) k ys) a ∙ sets-join out at xs ys;
+      bytes =
+          q .bytes
+          ∙ ap (λ (l : List ℕ). sets l r ys) (p .bytes)
+          ∙ ap (λ (k : ℕ). sets (sets out at xs) k ys) a
+          ∙ sets-join out at xs ys;
     }
 
 -- one byte of a word more
-pub word-turn : (out₀ out word : List ℕ) (at i : ℕ) → i < length word → out ≡ sets out₀ at (take i word) → set out (at + i) (getD word i 0) ≡ sets out₀ at (take (i + 1) word)
+pub word-turn : (out₀ out word : List ℕ) (at i : ℕ) → i < length word → out ≡ sets out₀ at (take i word)
+    → set out (at + i) (getD word i 0) ≡ sets out₀ at (take (i + 1) word)
 word-turn out₀ out word at i h e =
     let t : List ℕ = take i word in
     let n : length t ≡ i = length-take-le i word (omega arith) in
@@ -59,7 +67,7 @@ word-whole out₀ out word at i e h =
     record { next = ap (λ (k : ℕ). at + k) e; bytes = h ∙ ap (λ (l : List ℕ). sets out₀ at l) (take-all i word (omega arith)) }
 
 -- the digits that `io` writes are those of the definition
-digit : (n : ℕ) → glyph (n % 10) ≡ 48 + n % 10
+digit : (n : ℕ) → glyph (n % 10) ≡ code "0" + n % 10
 digit n = rw (lt-ltb (n % 10) 10 (omega arith))
 
 pub digits-are : (k f n : ℕ) → k ≤ f → Fewest 10 1 n k → digits 10 k n ≡ decimalIn f n
@@ -95,39 +103,58 @@ digit-count n k h w =
       | no g ↦ omega arith
     ]
 
-pub number-put : (out after : List ℕ) (at n k r : ℕ) (room : List ℕ) → n < 2 ^ 64 → Fewest 10 1 n k → take k room ≡ digits 10 k n → k ≡ length (take k room) → Put out at (take k room) r after → (Put out at (decimal n) r after) × (r ≤ at + 20)
+pub number-put : (out after : List ℕ) (at n k r : ℕ) (room : List ℕ) → n < 2 ^ 64 → Fewest 10 1 n k
+    → take k room ≡ digits 10 k n → k ≡ length (take k room) → Put out at (take k room) r after
+    → (Put out at (decimal n) r after) × (r ≤ at + 20)
 number-put out after at n k r room h w e l p =
     let q : k ≤ 20 = digit-count n k h w in
     (subst (λ (l : List ℕ). Put out at l r after) (e ∙ digits-are k 20 n q w) p, omega (arith, p .next))
 
+-- The kind's line, by the case that the code took
+pub kind-put : {out after : List ℕ} {k k′ : Kind} {s : ℕ} → k ≡ k′
+    → Put out 0 (kindLine (kindNumber k′)) s after → Put out 0 (kindLine (kindNumber k)) s after
+kind-put {out} {after} {k} {k′} {s} e p = subst (λ (x : Kind). Put out 0 (kindLine (kindNumber x)) s after) (sym e) p
+
 -- The last position. The code reads it back from its bits, as r.
 
-pub last-none : (r q : ℤ) → r ≡ q → ltZ r (pos 0) ≡ true → lastWord ++ (45 ∷ 49 ∷ 10 ∷ []) ≡ lastLine q
+pub last-none : {out after : List ℕ} {at s : ℕ} (r q : ℤ) → r ≡ q → ltZ r (pos 0) ≡ true
+    → Put out at (ascii "last -1\n") s after → Put out at (lastLine q) s after
 unfolding lastLine
-last-none r (pos a) e h = absurd (false≢true (sym (ap (λ (z : ℤ). ltZ z (pos 0)) e ∙ le-ltb a 0 (omega arith)) ∙ h))
-last-none r (negsuc k) e h = refl
+last-none r (pos a) e h p = absurd (false≢true (sym (ap (λ (z : ℤ). ltZ z (pos 0)) e ∙ le-ltb a 0 (omega arith)) ∙ h))
+last-none r (negsuc k) e h p = p
 
-pub last-some : (r q : ℤ) → r ≡ q → ltZ r (pos 0) ≡ false → numberLine lastWord (natAbs r) ≡ lastLine q
+pub last-some : {out after : List ℕ} {at s : ℕ} (r q : ℤ) → r ≡ q → ltZ r (pos 0) ≡ false
+    → Put out at (numberLine (ascii "last ") (natAbs r)) s after → Put out at (lastLine q) s after
 unfolding lastLine
-last-some r (pos a) e h = ap (λ (z : ℤ). numberLine lastWord (natAbs z)) e
-last-some r (negsuc k) e h = absurd (true≢false (sym (ap (λ (z : ℤ). ltZ z (pos 0)) e) ∙ h))
+last-some {out} {after} {at} {s} r (pos a) e h p =
+    subst (λ (z : ℤ). Put out at (numberLine (ascii "last ") (natAbs z)) s after) e p
+last-some r (negsuc k) e h p = absurd (true≢false (sym (ap (λ (z : ℤ). ltZ z (pos 0)) e) ∙ h))
 
 -- The whole text
 
 pub refused-put : {out after : List ℕ} {i : Info} {r : Refusal} {n s : ℕ} → i ≡ Refused r → n ≡ refusalNumber r
-    → Put out 0 (numberLine refusedWord n) s after → Put out 0 (text (toldNumbers i)) s after
+    → Put out 0 (numberLine (ascii "refused ") n) s after → Put out 0 (text (toldNumbers i)) s after
 unfolding text
 refused-put {out} {after} {i} {r} {n} {s} e q p =
-    let t : text (toldNumbers (Refused r)) ≡ numberLine refusedWord (refusalNumber r) = rw (ne-eqb (refusalNumber r) 0 (refusal-some r)) in
-    subst (λ (w : List ℕ). Put out 0 w s after) (ap (λ (m : ℕ). numberLine refusedWord m) q ∙ sym t ∙ ap (λ (j : Info). text (toldNumbers j)) (sym e)) p
+    let t : text (toldNumbers (Refused r)) ≡ numberLine (ascii "refused ") (refusalNumber r) =
+    rw (ne-eqb (refusalNumber r) 0 (refusal-some r)) in
+    let u : numberLine (ascii "refused ") n ≡ text (toldNumbers i) =
+    ap (λ (m : ℕ). numberLine (ascii "refused ") m) q ∙ sym t ∙ ap (λ (j : Info). text (toldNumbers j)) (sym e) in
+    subst (λ (w : List ℕ). Put out 0 w s after) u p
 
-pub slot-put : {out m₁ m₂ m₃ after : List ℕ} {i : Info} {k : Kind} {n e : ℕ} {l l′ : ℤ} {a b d s : ℕ} → i ≡ Slot k n e l → l′ ≡ l
-    → Put out 0 (kindLine (kindNumber k)) a m₁ → Put m₁ a (numberLine lengthWord n) b m₂ → Put m₂ b (numberLine entriesWord e) d m₃
-    → Put m₃ d (lastLine l′) s after → Put out 0 (text (toldNumbers i)) s after
-unfolding text
-slot-put {out} {m₁} {m₂} {m₃} {after} {i} {k} {n} {e} {l} {l′} {a} {b} {d} {s} q z p₁ p₂ p₃ p₄ =
-    let w : Put out 0 (kindLine (kindNumber k) ++ (numberLine lengthWord n ++ (numberLine entriesWord e ++ lastLine l′))) s after =
-    put-then (kindLine (kindNumber k)) (numberLine lengthWord n ++ (numberLine entriesWord e ++ lastLine l′)) p₁
-    (put-then (numberLine lengthWord n) (numberLine entriesWord e ++ lastLine l′) p₂ (put-then (numberLine entriesWord e) (lastLine l′) p₃ p₄)) in
-    subst (λ (x : List ℕ). Put out 0 x s after)
-    (ap (λ (y : ℤ). kindLine (kindNumber k) ++ (numberLine lengthWord n ++ (numberLine entriesWord e ++ lastLine y))) z ∙ ap (λ (j : Info). text (toldNumbers j)) (sym q)) w
+pub slot-put : {out after : List ℕ} {i : Info} {k : Kind} {n e : ℕ} {l l′ : ℤ} {s : ℕ} (m₁ m₂ m₃ : List ℕ) (a b d : ℕ)
+    → i ≡ Slot k n e l → l′ ≡ l
+    → Put out 0 (kindLine (kindNumber k)) a m₁
+    → Put m₁ a (numberLine (ascii "length ") n) b m₂
+    → Put m₂ b (numberLine (ascii "entries ") e) d m₃
+    → Put m₃ d (lastLine l′) s after
+    → Put out 0 (text (toldNumbers i)) s after
+unfolding text slotText
+slot-put {out} {after} {i} {k} {n} {e} {l} {l′} {s} m₁ m₂ m₃ a b d q z p₁ p₂ p₃ p₄ =
+    let p₄′ : Put m₃ d (lastLine l) s after = subst (λ (x : ℤ). Put m₃ d (lastLine x) s after) z p₄ in
+    let rest₂ : List ℕ = numberLine (ascii "entries ") e ++ lastLine l in
+    let rest₁ : List ℕ = numberLine (ascii "length ") n ++ rest₂ in
+    let w : Put out 0 (text (toldNumbers (Slot k n e l))) s after =
+    put-then (kindLine (kindNumber k)) rest₁ p₁
+    (put-then (numberLine (ascii "length ") n) rest₂ p₂ (put-then (numberLine (ascii "entries ") e) (lastLine l) p₃ p₄′)) in
+    subst (λ (j : Info). Put out 0 (text (toldNumbers j)) s after) (sym q) w

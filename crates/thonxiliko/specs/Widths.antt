@@ -17,7 +17,8 @@ use Rattle.slots.specs.Slots.{slotNumbers, soundSlot, unsoundSlot, payloadLengt
 use Rattle.writer.specs.Differences.{Change, diffs, spelled, coded, written}
 use Rattle.payload.specs.Entries.{sound, entries, payloadStream}
 use Rattle.payload.specs.EntryLaws.{sound-few}
-use Rattle.stream.specs.Calls.{pageOf, pagesFit, ComparedNumbers, comparedNumbers, comparison, compareNumbers, Compare, AppliedNumbers, appliedNumbers, applyRows, applyNumbers, Apply}
+use Rattle.stream.specs.Calls.{pageOf, pagesFit, ComparedNumbers, comparedNumbers, comparison, compareNumbers, Compare}
+use Rattle.stream.specs.Calls.{AppliedNumbers, appliedNumbers, applyRows, applyNumbers, Apply}
 use Rattle.stream.specs.Laws.{page-length, compare-done, apply-number, apply-done, apply-not}
 use Rattle.stream.specs.Kinds.{compare-gives, accepted-fits}
 use Rattle.store.specs.Judge.{Judge, JudgedNumbers, judgedNumbers, judgeRows, judgeNumbers}
@@ -41,7 +42,10 @@ diffs-few q (x ∷ xs) [] = omega arith
 diffs-few q (x ∷ xs) (y ∷ ys) = go (eqb x y) (diffs-few (q + 1) xs ys)
   where
     go : (t : Bool) → length (diffs (q + 1) xs ys) ≤ length ys
-        → length {A = Change} (elim t as (λ _. List Change) [ true ↦ diffs (q + 1) xs ys | false ↦ record { place = q; value = y } ∷ diffs (q + 1) xs ys ]) ≤ length (y ∷ ys)
+        → length {A = Change} (elim t as (λ _. List Change) [
+          | true ↦ diffs (q + 1) xs ys
+          | false ↦ record { place = q; value = y } ∷ diffs (q + 1) xs ys
+        ]) ≤ length (y ∷ ys)
     go true h = omega arith
     go false h = omega arith
 
@@ -57,9 +61,11 @@ coded-few : (next : ℕ) (cs : List Change) → length (coded next cs) ≤ 4 * l
 unfolding coded
 coded-few next [] = omega arith
 coded-few next (c ∷ cs) =
-    let s : length (spelled (c .place - next) (c .value)) ≤ 4 = spelled-few (c .place - next) (c .value) in
-    let r : length (coded (c .place + 1) cs) ≤ 4 * length cs = coded-few (c .place + 1) cs in
-    let a : length (spelled (c .place - next) (c .value) ++ coded (c .place + 1) cs) ≡ length (spelled (c .place - next) (c .value)) + length (coded (c .place + 1) cs) = length-append (spelled (c .place - next) (c .value)) (coded (c .place + 1) cs) in
+    let first : List ℕ = spelled (c .place - next) (c .value) in
+    let rest : List ℕ = coded (c .place + 1) cs in
+    let s : length first ≤ 4 = spelled-few (c .place - next) (c .value) in
+    let r : length rest ≤ 4 * length cs = coded-few (c .place + 1) cs in
+    let a : length (first ++ rest) ≡ length first + length rest = length-append first rest in
     omega arith
 
 written-few : (base page : List ℕ) → length (written base page) ≤ 4 * length page
@@ -85,7 +91,8 @@ module _ (base page buffer : List ℕ) where
       let ds : List Change = diffs 0 (pageOf pageSize base) page in
       let f : comparedNumbers (ComparedDone k n e l) ≡ compareNumbers pageSize base page buffer = ap comparedNumbers (sym q) ∙ c .numbers in
       let z : compareNumbers pageSize base page buffer .number ≡ 0 = sym (ap (λ (x : ComparedNumbers). x .number) f) in
-      let d : comparedNumbers (ComparedDone k n e l) ≡ comparison ds = f ∙ compare-done pageSize base page buffer (sym (compare-gives pageSize base page buffer) ∙ z) in
+      let d : comparedNumbers (ComparedDone k n e l) ≡ comparison ds =
+      f ∙ compare-done pageSize base page buffer (sym (compare-gives pageSize base page buffer) ∙ z) in
       let p : length page ≡ pageSize = page-length pageSize base page (accepted-fits pageSize base page buffer z) in
       let g : n ≡ length (coded 0 ds) = ap (λ (x : ComparedNumbers). x .length) d in
       let h : e ≡ length ds = ap (λ (x : ComparedNumbers). x .entries) d in
@@ -99,7 +106,8 @@ module _ (base payload page : List ℕ) where
   apply-few : (k : ℕ) → firstOf (applyRows pageSize base payload page) ≡ k → applyNumbers pageSize base payload page .entries ≤ 252
   apply-few zero e =
       let s : sound pageSize payload ≡ true = go (pagesFit pageSize base page) (sound pageSize payload) (sym (apply-number pageSize base payload page) ∙ e) in
-      let n : applyNumbers pageSize base payload page .entries ≡ entries (payloadStream pageSize payload) = ap (λ (x : AppliedNumbers). x .entries) (apply-done pageSize base payload page e .0) in
+      let n : applyNumbers pageSize base payload page .entries ≡ entries (payloadStream pageSize payload) =
+      ap (λ (x : AppliedNumbers). x .entries) (apply-done pageSize base payload page e .0) in
       omega (arith, sound-few pageSize payload s)
     where
       go : (f s : Bool) → cond {A = ℕ} f (cond s 0 7) 1 ≡ 0 → s ≡ true
@@ -158,7 +166,8 @@ module _ (patch full : List ℕ) (b : ℕ) (base page : List ℕ) where
       rw e (omega arith)
   write-few (suc k) e = rw e (omega arith)
 
-  pub write-fits : {patch′ full′ : List ℕ} {a : Written} {k : Kind} {n : ℕ} → Write pageSize patch full b base page a patch′ full′ → a ≡ WrittenDone k n → n < 2 ^ 32
+  pub write-fits : {patch′ full′ : List ℕ} {a : Written} {k : Kind} {n : ℕ}
+      → Write pageSize patch full b base page a patch′ full′ → a ≡ WrittenDone k n → n < 2 ^ 32
   write-fits {patch′} {full′} {a} {k} {n} c q =
       let f : writtenNumbers (WrittenDone k n) ≡ writeNumbers (writeOutcome pageSize patch full b base page) = ap writtenNumbers (sym q) ∙ c .numbers in
       let g : n ≡ writeOutcome pageSize patch full b base page .length = ap (λ (x : WriteNumbers). x .length) f in

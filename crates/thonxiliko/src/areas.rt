@@ -63,7 +63,8 @@ pub extern "C" fn thx_read(
     base: &[u8],
     page: &mut [u8],
 ) -> thx_reading
-    ensures { λ r. ⌜ ThxRead pageSize (now (patch .entry)) (now (full .entry)) block (now (base .entry)) (now (page .entry)) r (now (page .exit)) ⌝ }
+    ensures { λ r. ⌜ ThxRead pageSize (now (patch .entry)) (now (full .entry)) block (now (base .entry)) (now (page .entry)) r
+        (now (page .exit)) ⌝ }
 {
     match reading::read(patch, full, block as usize, base, page) {
         Reading::Done { kind } => thx_reading {
@@ -85,7 +86,8 @@ pub extern "C" fn thx_write(
     base: &[u8],
     page: &[u8],
 ) -> thx_written
-    ensures { λ r. ⌜ ThxWrite pageSize (now (patch .entry)) (now (full .entry)) block (now (base .entry)) (now (page .entry)) r (now (patch .exit)) (now (full .exit)) ⌝ }
+    ensures { λ r. ⌜ ThxWrite pageSize (now (patch .entry)) (now (full .entry)) block (now (base .entry)) (now (page .entry)) r
+        (now (patch .exit)) (now (full .exit)) ⌝ }
 {
     match writing::write(patch, full, block as usize, base, page) {
         Written::Done { kind, length } => thx_written {

@@ -1,12 +1,12 @@
 use mathlib.Core.Path.{refl, sym, ap, _∙_}
 use lib.IntN.{ℤ}
 use mir.Syntax.{w32}
-use mir.Val.{toZ, ofZ}
+use mir.Val.{toZ, ofZ, SFits}
 use mir.ValLaws.{toZ-ofZ}
 use Rattle.slots.specs.Slots.{stateNumbers}
 use Rattle.layout.specs.Sizes.{pageSize}
 use Rattle.info.proofs.Told.{broken-told, patch-told}
-use Rattle.info.specs.Info.{info-length, info-slot, info-bare}
+use Rattle.info.specs.InfoLaws.{info-length, info-slot, info-bare}
 use borrow.Author.Needs.{needs}
 use Rattle.info.proofs.inspect.Statement.{statement}
 use Rattle.info.proofs.inspect.Tie as tie
@@ -44,24 +44,59 @@ enum-known-entries c = search needs
 
 returns-2 : tie.Need-returns-2
 returns-2 c =
-    record { numbers = sym (info-slot pageSize (c .before .before .before .before .before .args .bytes .now) (c .before .before .before .if1 .left) (sym (c .before .before .slot-state .ensures) ∙ ap stateNumbers (c .enum-told .given .1))) }
+    let state = c .before .before in
+    let bytes = state .before .before .before .args .bytes .now in
+    let is = sym (state .slot-state .ensures) ∙ ap stateNumbers (c .enum-told .given .1) in
+    record { numbers = sym (info-slot pageSize bytes (state .before .if1 .left) is) }
 
 returns-3 : tie.Need-returns-3
 returns-3 c =
-    record { numbers = sym (info-bare pageSize (c .before .before .before .before .before .args .bytes .now) (c .before .before .before .if1 .left) 0 (sym (c .before .before .slot-state .ensures) ∙ ap stateNumbers (c .enum-told2 .given .1)) refl) }
+    let state = c .before .before in
+    let bytes = state .before .before .before .args .bytes .now in
+    let is = sym (state .slot-state .ensures) ∙ ap stateNumbers (c .enum-told2 .given .1) in
+    record { numbers = sym (info-bare pageSize bytes (state .before .if1 .left) 0 is refl) }
 
 returns-4 : tie.Need-returns-4
 returns-4 c =
-    record { numbers = sym (info-bare pageSize (c .before .before .before .before .before .args .bytes .now) (c .before .before .before .if1 .left) 2 (sym (c .before .before .slot-state .ensures) ∙ ap stateNumbers (c .enum-told3 .given .1)) refl) }
+    let state = c .before .before in
+    let bytes = state .before .before .before .args .bytes .now in
+    let is = sym (state .slot-state .ensures) ∙ ap stateNumbers (c .enum-told3 .given .1) in
+    record { numbers = sym (info-bare pageSize bytes (state .before .if1 .left) 2 is refl) }
 
 returns-5 : tie.Need-returns-5
 returns-5 c =
-    record { numbers = sym (broken-told pageSize (c .before .before .before .before .before .before .before .before .before .before .args .bytes .now) (c .before .before .before .part .result .now) (c .before .before .before .before .before .n .given .0 .0) (c .before .before .check .result) (c .before .before .before .before .before .before .before .before .if1 .left) (sym (c .before .before .before .before .before .before .before .slot-state .ensures) ∙ ap stateNumbers (c .before .before .before .before .before .n .given .1)) (c .before .before .before .part .ensures) (c .before .before .check .ensures) (c .enum-told4 .given .1)) }
+    let checked = c .before .before in
+    let payload = checked .before .part in
+    let patch = checked .before .before .before in
+    let state = patch .before .before in
+    let bytes = state .before .before .before .args .bytes .now in
+    let n = patch .n .given .0 .0 in
+    let is = sym (state .slot-state .ensures) ∙ ap stateNumbers (patch .n .given .1) in
+    record {
+      numbers =
+          sym
+          (broken-told pageSize bytes (payload .result .now) n (checked .check .result) (state .before .if1 .left) is
+          (payload .ensures) (checked .check .ensures) (c .enum-told4 .given .1));
+    }
 
 returns-6 : tie.Need-returns-6
 returns-6 c =
-    let l : ℤ = c .before .entries .given .0 .1 .0 in
-    record { numbers = sym (patch-told pageSize (c .before .before .before .before .before .before .before .before .before .before .before .args .bytes .now) (c .before .before .before .before .part .result .now) (c .before .before .before .before .before .before .n .given .0 .0) (c .before .before .before .check .result) (c .before .before .before .before .before .before .before .before .before .if1 .left) (sym (c .before .before .before .before .before .before .before .before .slot-state .ensures) ∙ ap stateNumbers (c .before .before .before .before .before .before .n .given .1)) (c .before .before .before .before .part .ensures) (c .before .before .before .check .ensures) (c .before .entries .given .0 .0) l (toZ w32 (ofZ w32 l)) (c .before .entries .given .1) (toZ-ofZ w32 l (record { sfits = c .known-told2 .given .1 .0 .1 }))) }
+    let checked = c .before .before .before in
+    let payload = checked .before .part in
+    let patch = checked .before .before .before in
+    let state = patch .before .before in
+    let bytes = state .before .before .before .args .bytes .now in
+    let n = patch .n .given .0 .0 in
+    let is = sym (state .slot-state .ensures) ∙ ap stateNumbers (patch .n .given .1) in
+    let sound = c .before .entries .given in
+    let l : ℤ = sound .0 .1 .0 in
+    let fits : SFits w32 l = record { sfits = c .known-told2 .given .1 .0 .1 } in
+    record {
+      numbers =
+          sym
+          (patch-told pageSize bytes (payload .result .now) n (checked .check .result) (state .before .if1 .left) is
+          (payload .ensures) (checked .check .ensures) (sound .0 .0) l (toZ w32 (ofZ w32 l)) (sound .1) (toZ-ofZ w32 l fits));
+    }
 
 pub inspect-spec : {M : Type 1} → statement M
 inspect-spec =

@@ -1,6 +1,4 @@
 use Rattle.info.proofs.Words.{number-put}
-use mathlib.Core.List.{List}
-use Prim.Native.Nat.{ℕ}
 use borrow.Author.Needs.{needs}
 use Rattle.info.proofs.text.put_decimal.Statement.{statement}
 use Rattle.info.proofs.text.put_decimal.Tie as tie
@@ -22,11 +20,12 @@ same-length c = search needs
 
 returns : tie.Need-returns
 returns c =
-    let a = c .before .before .before .before .before .before .before .before .args in
-    let k : ℕ = c .before .before .before .before .before .decimal .result in
-    let room : List ℕ = c .before .before .before .before .before .decimal .last .1 .0 in
-    let d = c .before .before .before .before .before .decimal .ensures in
-    number-put (a .out .now) (c .before .before .put-word .last .0) (a .at) (a .n) k (c .before .before .put-word .result) room (c .before .before .before .before .before .before .before .before .fits .n .fits) (d .1 .0) (d .1 .1) (d .0 .1) (c .before .before .put-word .ensures)
+    let start = c .before .before .before .before .before .before .before .before in
+    let a = start .args in
+    let told = c .before .before .before .before .before .decimal in
+    let put = c .before .before .put-word in
+    number-put (a .out .now) (put .last .0) (a .at) (a .n) (told .result) (put .result) (told .last .1 .0) (start .fits .n .fits)
+    (told .ensures .1 .0) (told .ensures .1 .1) (told .ensures .0 .1) (put .ensures)
 
 pub put-decimal-spec : {M : Type 1} → statement M
 put-decimal-spec =

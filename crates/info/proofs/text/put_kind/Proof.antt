@@ -1,8 +1,7 @@
-use Rattle.info.specs.Text.{kindLine}
-use Rattle.layout.specs.Numbers.{kindNumber}
-use Rattle.layout.specs.declared.Kind.{Kind}
+use Rattle.span.specs.Ascii.{ascii}
 use Rattle.span.specs.Bytes.{Put}
-use mathlib.Core.Path.{sym, subst}
+use Rattle.info.proofs.Words.{kind-put}
+use Rattle.info.specs.Text.{kindLine}
 use native.Mathlib.Omega.{arith}
 use borrow.Author.Needs.{needs}
 use Rattle.info.proofs.text.put_kind.Statement.{statement}
@@ -42,8 +41,9 @@ returns : tie.Need-returns
 unfolding kindLine
 returns c =
     let a = c .before .before .before .before .before .before .before .before .args in
-    let p = c .before .before .put-word .ensures in
-    (subst (λ (k : Kind). Put (a .out .now) 0 (kindLine (kindNumber k)) (c .before .before .put-word .result) (c .before .before .put-word .last .0)) (sym (c .before .before .before .before .before .enum-told .given .1)) p, omega (arith, p .next))
+    let put = c .before .before .put-word in
+    let line : Put (a .out .now) 0 (ascii "kind empty\n") (put .result) (put .last .0) = put .ensures in
+    (kind-put (c .before .before .before .before .before .enum-told .given .1) line, omega (arith, line .next))
 
 same-length-2 : tie.Need-same-length-2
 same-length-2 c = search needs
@@ -52,8 +52,9 @@ returns-2 : tie.Need-returns-2
 unfolding kindLine
 returns-2 c =
     let a = c .before .before .before .before .before .before .before .before .args in
-    let p = c .before .before .put-word2 .ensures in
-    (subst (λ (k : Kind). Put (a .out .now) 0 (kindLine (kindNumber k)) (c .before .before .put-word2 .result) (c .before .before .put-word2 .last .0)) (sym (c .before .before .before .before .before .enum-told2 .given .1)) p, omega (arith, p .next))
+    let put = c .before .before .put-word2 in
+    let line : Put (a .out .now) 0 (ascii "kind patch\n") (put .result) (put .last .0) = put .ensures in
+    (kind-put (c .before .before .before .before .before .enum-told2 .given .1) line, omega (arith, line .next))
 
 same-length-3 : tie.Need-same-length-3
 same-length-3 c = search needs
@@ -62,8 +63,9 @@ returns-3 : tie.Need-returns-3
 unfolding kindLine
 returns-3 c =
     let a = c .before .before .before .before .before .before .before .before .args in
-    let p = c .before .before .put-word3 .ensures in
-    (subst (λ (k : Kind). Put (a .out .now) 0 (kindLine (kindNumber k)) (c .before .before .put-word3 .result) (c .before .before .put-word3 .last .0)) (sym (c .before .before .before .before .before .enum-told3 .given .1)) p, omega (arith, p .next))
+    let put = c .before .before .put-word3 in
+    let line : Put (a .out .now) 0 (ascii "kind full\n") (put .result) (put .last .0) = put .ensures in
+    (kind-put (c .before .before .before .before .before .enum-told3 .given .1) line, omega (arith, line .next))
 
 pub put-kind-spec : {M : Type 1} → statement M
 put-kind-spec =

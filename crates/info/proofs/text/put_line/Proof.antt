@@ -1,6 +1,7 @@
+use Rattle.span.specs.Ascii.{ascii}
 use Rattle.info.specs.Text.{decimal, numberLine}
 use Rattle.info.proofs.Words.{put-then}
-use mathlib.Core.List.{[], _∷_, _++_}
+use mathlib.Core.List.{_++_}
 use native.Mathlib.Omega.{arith}
 use borrow.Author.Needs.{needs}
 use Rattle.info.proofs.text.put_line.Statement.{statement}
@@ -28,7 +29,7 @@ returns c =
     let p = c .before .before .before .before .before .before .before .before .before .before .before .put-word .ensures in
     let q = c .before .before .before .before .before .before .before .put-decimal .ensures in
     let r = c .before .before .put-word2 .ensures in
-    (put-then (a .word .now) (decimal (a .n) ++ (10 ∷ [])) p (put-then (decimal (a .n)) (10 ∷ []) (q .0) r), omega (arith, p .next, q .1, r .next))
+    (put-then (a .word .now) (decimal (a .n) ++ ascii "\n") p (put-then (decimal (a .n)) (ascii "\n") (q .0) r), omega (arith, p .next, q .1, r .next))
 
 pub put-line-spec : {M : Type 1} → statement M
 put-line-spec =

@@ -1,6 +1,7 @@
 use Rattle.info.proofs.Words.{refused-put, slot-put}
 use mir.ValLaws.{toZ-ofZ}
 use mir.Syntax.{w32}
+use mir.Val.{SFits}
 use lib.IntN.{ℤ}
 use native.Mathlib.Omega.{arith}
 use borrow.Author.Needs.{needs}
@@ -48,15 +49,29 @@ same-length c = search needs
 
 returns : tie.Need-returns
 returns c =
-    (refused-put (c .before .before .before .before .before .before .before .info .given .1) (c .before .before .before .refusal-number .ensures) (c .before .before .put-line .ensures .0), omega (arith, c .before .before .put-line .ensures .1))
+    let told = c .before .before .before .before .before .before .before .info .given .1 in
+    let put = c .before .before .put-line in
+    (refused-put told (c .before .before .before .refusal-number .ensures) (put .ensures .0), omega (arith, put .ensures .1))
 
 same-length-2 : tie.Need-same-length-2
 same-length-2 c = search needs
 
 returns-2 : tie.Need-returns-2
 returns-2 c =
-    let l : ℤ = c .before .before .before .before .before .before .before .before .before .before .before .before .before .before .before .before .before .before .before .info2 .given .0 .1 .1 .1 .0 in
-    (slot-put (c .before .before .before .before .before .before .before .before .before .before .before .before .before .before .before .before .before .before .before .info2 .given .1) (toZ-ofZ w32 l (record { sfits = c .before .before .before .before .before .before .before .before .before .before .before .before .before .before .before .before .before .before .known-told2 .given .1 .1 .1 .0 .1 })) (c .before .before .before .before .before .before .before .before .before .before .before .before .before .before .before .before .put-kind .ensures .0) (c .before .before .before .before .before .before .before .before .before .before .before .put-line2 .ensures .0) (c .before .before .before .before .before .before .put-line3 .ensures .0) (c .before .before .put-last .ensures .0), omega (arith, c .before .before .put-last .ensures .1))
+    let last = c .before .before in
+    let entries = last .before .before .before .before in
+    let length = entries .before .before .before .before .before in
+    let kind = length .before .before .before .before .before in
+    let known = kind .before .before in
+    let told = known .before .info2 .given in
+    let l : ℤ = told .0 .1 .1 .1 .0 in
+    let fits : SFits w32 l = record { sfits = known .known-told2 .given .1 .1 .1 .0 .1 } in (
+      slot-put (kind .put-kind .last .0) (length .put-line2 .last .0) (entries .put-line3 .last .0)
+          (kind .put-kind .result) (length .put-line2 .result) (entries .put-line3 .result)
+          (told .1) (toZ-ofZ w32 l fits)
+          (kind .put-kind .ensures .0) (length .put-line2 .ensures .0) (entries .put-line3 .ensures .0) (last .put-last .ensures .0),
+      omega (arith, last .put-last .ensures .1),
+    )
 
 pub put-text-spec : {M : Type 1} → statement M
 put-text-spec =

@@ -19,7 +19,9 @@ same-length c = search needs
 returns : tie.Need-returns
 returns c =
     let a = c .before .before .before .before .before .before .before .args in
-    (subst (λ (i : InfoNumbers). Put (a .out .now) 0 (text i) (c .before .before .put-text .result) (c .before .before .put-text .last .0)) (c .before .before .before .inspect .ensures .numbers) (c .before .before .put-text .ensures .0), omega (arith, c .before .before .put-text .ensures .1))
+    let put = c .before .before .put-text in
+    let told = c .before .before .before .inspect .ensures .numbers in
+    (subst (λ (i : InfoNumbers). Put (a .out .now) 0 (text i) (put .result) (put .last .0)) told (put .ensures .0), omega (arith, put .ensures .1))
 
 pub report-spec : {M : Type 1} → statement M
 report-spec = tie.close (tie.spec inspect-requires put-text-requires same-length returns)

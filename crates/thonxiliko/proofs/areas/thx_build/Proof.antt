@@ -1,4 +1,4 @@
-use Rattle.thonxiliko.specs.Areas.{build-held}
+use Rattle.thonxiliko.specs.AreaLaws.{build-held}
 use Rattle.building.specs.Build.{builtNumbers}
 use mathlib.Core.Path.{sym, ap, _∙_}
 use borrow.Author.Needs.{needs}
@@ -29,7 +29,9 @@ same-length-2 c = search needs
 
 returns-2 : tie.Need-returns-2
 returns-2 c =
-    build-held (c .before .before .before .before .before .before .build .ensures) ((λ i. record { number = c .refusal-number .ensures i; block = c .before .before .refusal .given .0 .1 .0 }) ∙ ap builtNumbers (sym (c .before .before .refusal .given .1)))
+    let told = c .before .before .refusal .given in
+    build-held (c .before .before .before .before .before .before .build .ensures)
+    ((λ i. record { number = c .refusal-number .ensures i; block = told .0 .1 .0 }) ∙ ap builtNumbers (sym (told .1)))
 
 pub thx-build-spec : {M : Type 1} → statement M
 thx-build-spec =

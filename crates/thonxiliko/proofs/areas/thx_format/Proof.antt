@@ -1,4 +1,4 @@
-use Rattle.thonxiliko.specs.Areas.{format-held}
+use Rattle.thonxiliko.specs.AreaLaws.{format-held}
 use Rattle.store.specs.Format.{formattedNumber}
 use mathlib.Core.Path.{sym, ap, _∙_}
 use borrow.Author.Needs.{needs}
@@ -35,7 +35,9 @@ same-length-4 c = search needs
 
 returns-2 : tie.Need-returns-2
 returns-2 c =
-    format-held (c .before .before .before .before .before .before .before .before .format .ensures) (c .refusal-number .ensures ∙ ap formattedNumber (sym (c .before .before .refusal .given .1)))
+    let told = c .before .before .refusal .given in
+    format-held (c .before .before .before .before .before .before .before .before .format .ensures)
+    (c .refusal-number .ensures ∙ ap formattedNumber (sym (told .1)))
 
 pub thx-format-spec : {M : Type 1} → statement M
 thx-format-spec =

@@ -1,5 +1,5 @@
 use Rattle.thonxiliko.specs.Widths.{judge-fits}
-use Rattle.thonxiliko.specs.Areas.{judge-held}
+use Rattle.thonxiliko.specs.AreaLaws.{judge-held}
 use Rattle.store.specs.Judge.{judgedNumbers}
 use mathlib.Core.Path.{sym, ap, _∙_}
 use borrow.Author.Needs.{needs}
@@ -17,7 +17,8 @@ kind-number-requires c κs = search needs
 
 cast-t8 : tie.Need-cast-t8
 cast-t8 c =
-    record { fits = judge-fits (c .before .before .before .before .before .before .args .slot .now) (c .before .before .before .before .judge .ensures) (c .before .before .kind .given .1) }
+    let ensures = c .before .before .before .before .judge .ensures in
+    record { fits = judge-fits (c .before .before .before .before .before .before .args .slot .now) ensures (c .before .before .kind .given .1) }
 
 enum-known-refusal : tie.Need-enum-known-refusal
 enum-known-refusal c = search needs
@@ -27,11 +28,15 @@ refusal-number-requires c κs = search needs
 
 returns : tie.Need-returns
 returns c =
-    judge-held (c .before .before .before .before .judge .ensures) ((λ i. record { number = 0; kind = c .kind-number .ensures i; length = c .before .before .kind .given .0 .1 .0 }) ∙ ap judgedNumbers (sym (c .before .before .kind .given .1)))
+    let told = c .before .before .kind .given in
+    judge-held (c .before .before .before .before .judge .ensures)
+    ((λ i. record { number = 0; kind = c .kind-number .ensures i; length = told .0 .1 .0 }) ∙ ap judgedNumbers (sym (told .1)))
 
 returns-2 : tie.Need-returns-2
 returns-2 c =
-    judge-held (c .before .before .before .before .judge .ensures) ((λ i. record { number = c .refusal-number .ensures i; kind = 0; length = 0 }) ∙ ap judgedNumbers (sym (c .before .before .refusal .given .1)))
+    let told = c .before .before .refusal .given in
+    judge-held (c .before .before .before .before .judge .ensures)
+    ((λ i. record { number = c .refusal-number .ensures i; kind = 0; length = 0 }) ∙ ap judgedNumbers (sym (told .1)))
 
 pub thx-judge-spec : {M : Type 1} → statement M
 thx-judge-spec =

@@ -1,4 +1,4 @@
-use Rattle.thonxiliko.specs.Areas.{read-held}
+use Rattle.thonxiliko.specs.AreaLaws.{read-held}
 use Rattle.reading.specs.Read.{readingNumbers}
 use mathlib.Core.Path.{sym, ap, _∙_}
 use borrow.Author.Needs.{needs}
@@ -25,14 +25,18 @@ same-length c = search needs
 
 returns : tie.Need-returns
 returns c =
-    read-held (c .before .before .before .before .before .before .read .ensures) ((λ i. record { number = 0; kind = c .kind-number .ensures i }) ∙ ap readingNumbers (sym (c .before .before .kind .given .1)))
+    let told = c .before .before .kind .given in
+    read-held (c .before .before .before .before .before .before .read .ensures)
+    ((λ i. record { number = 0; kind = c .kind-number .ensures i }) ∙ ap readingNumbers (sym (told .1)))
 
 same-length-2 : tie.Need-same-length-2
 same-length-2 c = search needs
 
 returns-2 : tie.Need-returns-2
 returns-2 c =
-    read-held (c .before .before .before .before .before .before .read .ensures) ((λ i. record { number = c .refusal-number .ensures i; kind = 0 }) ∙ ap readingNumbers (sym (c .before .before .refusal .given .1)))
+    let told = c .before .before .refusal .given in
+    read-held (c .before .before .before .before .before .before .read .ensures)
+    ((λ i. record { number = c .refusal-number .ensures i; kind = 0 }) ∙ ap readingNumbers (sym (told .1)))
 
 pub thx-read-spec : {M : Type 1} → statement M
 thx-read-spec =

@@ -1,5 +1,5 @@
 use Rattle.thonxiliko.specs.Widths.{write-fits}
-use Rattle.thonxiliko.specs.Areas.{write-held}
+use Rattle.thonxiliko.specs.AreaLaws.{write-held}
 use Rattle.writing.specs.Write.{writtenNumbers}
 use mathlib.Core.Path.{sym, ap, _∙_}
 use borrow.Author.Needs.{needs}
@@ -18,7 +18,8 @@ kind-number-requires c κs = search needs
 cast-t17 : tie.Need-cast-t17
 cast-t17 c =
     let a = c .before .before .before .before .before .before .before .before .before .before .before .before .before .before .before .args in
-    record { fits = write-fits (a .patch .now) (a .full .now) (a .block) (a .base .now) (a .page .now) (c .before .before .before .before .before .before .before .before .write .ensures) (c .before .before .kind .given .1) }
+    let ensures = c .before .before .before .before .before .before .before .before .write .ensures in
+    record { fits = write-fits (a .patch .now) (a .full .now) (a .block) (a .base .now) (a .page .now) ensures (c .before .before .kind .given .1) }
 
 enum-known-refusal : tie.Need-enum-known-refusal
 enum-known-refusal c = search needs
@@ -34,7 +35,9 @@ same-length-2 c = search needs
 
 returns : tie.Need-returns
 returns c =
-    write-held (c .before .before .before .before .before .before .before .before .write .ensures) ((λ i. record { number = 0; kind = c .kind-number .ensures i; length = c .before .before .kind .given .0 .1 .0 }) ∙ ap writtenNumbers (sym (c .before .before .kind .given .1)))
+    let told = c .before .before .kind .given in
+    write-held (c .before .before .before .before .before .before .before .before .write .ensures)
+    ((λ i. record { number = 0; kind = c .kind-number .ensures i; length = told .0 .1 .0 }) ∙ ap writtenNumbers (sym (told .1)))
 
 same-length-3 : tie.Need-same-length-3
 same-length-3 c = search needs
@@ -44,7 +47,9 @@ same-length-4 c = search needs
 
 returns-2 : tie.Need-returns-2
 returns-2 c =
-    write-held (c .before .before .before .before .before .before .before .before .write .ensures) ((λ i. record { number = c .refusal-number .ensures i; kind = 0; length = 0 }) ∙ ap writtenNumbers (sym (c .before .before .refusal .given .1)))
+    let told = c .before .before .refusal .given in
+    write-held (c .before .before .before .before .before .before .before .before .write .ensures)
+    ((λ i. record { number = c .refusal-number .ensures i; kind = 0; length = 0 }) ∙ ap writtenNumbers (sym (told .1)))
 
 pub thx-write-spec : {M : Type 1} → statement M
 thx-write-spec =

@@ -1,4 +1,4 @@
-use Rattle.thonxiliko.specs.Maps.{look-up-held}
+use Rattle.thonxiliko.specs.MapLaws.{look-up-held}
 use Rattle.blockmap.specs.Calls.{lookedNumbers}
 use mathlib.Core.Path.{sym, ap, _∙_}
 use borrow.Author.Needs.{needs}
@@ -26,7 +26,9 @@ returns c =
 
 returns-2 : tie.Need-returns-2
 returns-2 c =
-    look-up-held (c .before .before .before .before .look-up .ensures) ((λ i. record { number = c .refusal-number .ensures i; pair = 0 }) ∙ ap lookedNumbers (sym (c .before .before .refusal .given .1)))
+    let told = c .before .before .refusal .given in
+    look-up-held (c .before .before .before .before .look-up .ensures)
+    ((λ i. record { number = c .refusal-number .ensures i; pair = 0 }) ∙ ap lookedNumbers (sym (told .1)))
 
 pub thx-look-up-spec : {M : Type 1} → statement M
 thx-look-up-spec =

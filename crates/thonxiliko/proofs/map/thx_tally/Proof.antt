@@ -1,4 +1,4 @@
-use Rattle.thonxiliko.specs.Maps.{tally-held}
+use Rattle.thonxiliko.specs.MapLaws.{tally-held}
 use Rattle.blockmap.specs.Calls.{talliedNumbers}
 use mathlib.Core.Path.{sym, ap, _∙_}
 use borrow.Author.Needs.{needs}
@@ -23,7 +23,9 @@ returns c =
 
 returns-2 : tie.Need-returns-2
 returns-2 c =
-    tally-held (c .before .before .before .before .tally .ensures) ((λ i. record { number = c .refusal-number .ensures i; patch = 0; full = 0 }) ∙ ap talliedNumbers (sym (c .before .before .refusal .given .1)))
+    let told = c .before .before .refusal .given in
+    tally-held (c .before .before .before .before .tally .ensures)
+    ((λ i. record { number = c .refusal-number .ensures i; patch = 0; full = 0 }) ∙ ap talliedNumbers (sym (told .1)))
 
 pub thx-tally-spec : {M : Type 1} → statement M
 thx-tally-spec =

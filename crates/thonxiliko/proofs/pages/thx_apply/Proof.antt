@@ -1,9 +1,10 @@
 use Rattle.thonxiliko.specs.Widths.{apply-fits}
-use Rattle.thonxiliko.specs.Pages.{apply-held}
+use Rattle.thonxiliko.specs.PageLaws.{apply-held}
 use Rattle.stream.specs.Calls.{appliedNumbers}
-use lib.IntN.{pos}
+use lib.IntN.{ℤ, pos}
 use mir.ValLaws.{toZ-ofZ}
 use mir.Syntax.{w32}
+use mir.Val.{SFits}
 use mathlib.Core.Path.{sym, ap, _∙_}
 use borrow.Author.Needs.{needs}
 use Rattle.thonxiliko.proofs.pages.thx_apply.Statement.{statement}
@@ -18,7 +19,8 @@ enum-known-entries c = search needs
 cast-t11 : tie.Need-cast-t11
 cast-t11 c =
     let a = c .before .before .before .before .before .before .before .before .before .before .args in
-    record { fits = apply-fits (a .base .now) (a .payload .now) (a .page .now) (c .before .before .before .before .before .apply .ensures) (c .before .entries .given .1) }
+    let ensures = c .before .before .before .before .before .apply .ensures in
+    record { fits = apply-fits (a .base .now) (a .payload .now) (a .page .now) ensures (c .before .entries .given .1) }
 
 enum-known-refusal : tie.Need-enum-known-refusal
 enum-known-refusal c = search needs
@@ -31,14 +33,20 @@ same-length c = search needs
 
 returns : tie.Need-returns
 returns c =
-    apply-held (c .before .before .before .before .before .apply .ensures) ((λ i. record { number = 0; entries = c .before .entries .given .0 .0; last = toZ-ofZ w32 (c .before .entries .given .0 .1 .0) (record { sfits = c .known-told .given .1 .0 .1 }) i }) ∙ ap appliedNumbers (sym (c .before .entries .given .1)))
+    let told = c .before .entries .given in
+    let l : ℤ = told .0 .1 .0 in
+    let fits : SFits w32 l = record { sfits = c .known-told .given .1 .0 .1 } in
+    apply-held (c .before .before .before .before .before .apply .ensures)
+    ((λ i. record { number = 0; entries = told .0 .0; last = toZ-ofZ w32 l fits i }) ∙ ap appliedNumbers (sym (told .1)))
 
 same-length-2 : tie.Need-same-length-2
 same-length-2 c = search needs
 
 returns-2 : tie.Need-returns-2
 returns-2 c =
-    apply-held (c .before .before .before .before .before .before .apply .ensures) ((λ i. record { number = c .refusal-number .ensures i; entries = 0; last = pos 0 }) ∙ ap appliedNumbers (sym (c .before .before .refusal .given .1)))
+    let told = c .before .before .refusal .given in
+    apply-held (c .before .before .before .before .before .before .apply .ensures)
+    ((λ i. record { number = c .refusal-number .ensures i; entries = 0; last = pos 0 }) ∙ ap appliedNumbers (sym (told .1)))
 
 pub thx-apply-spec : {M : Type 1} → statement M
 thx-apply-spec =
