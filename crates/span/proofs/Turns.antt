@@ -11,7 +11,7 @@ use lib.Bits.{bitOr, or-add-and, and-le-l, and-le-r}
 use lib.Seq.{take-suc, length-take-le, take-add}
 use borrow.Author.Tests.{eqb-true, eqb-false, eq-eqb, ne-eqb}
 use Rattle.span.specs.Bytes.{zeros, splice, same}
-use Rattle.span.specs.Laws.{zeros-length, zeros-more, splice-more, splice-join, same-more}
+use Rattle.span.specs.Laws.{zeros-length, zeros-join, zeros-more, splice-more, splice-join, same-more}
 
 -- a loop that stores a list from the front has stored one byte more
 pub stored : (dst₀ dst ys : List ℕ) (i v : ℕ) → length ys ≡ i → i < length dst₀ → dst ≡ splice dst₀ 0 ys → set dst i v ≡ splice dst₀ 0 (ys ++ (v ∷ []))
@@ -27,6 +27,17 @@ pub copied : (dst₀ dst src : List ℕ) (i : ℕ) → i < length dst₀ → i <
 copied dst₀ dst src i h k d =
     stored dst₀ dst (take i src) i (getD src i 0) (length-take-le i src (omega arith)) h d
     ∙ ap (λ (l : List ℕ). splice dst₀ 0 l) (sym (ap (λ (n : ℕ). take n src) (add-one i) ∙ take-suc src i 0 k))
+
+-- a part more has been cleared
+pub cleared-on : (dst₀ dst : List ℕ) (at n : ℕ) → at + n ≤ length dst₀ → dst ≡ splice dst₀ 0 (zeros at)
+    → splice dst at (zeros n) ≡ splice dst₀ 0 (zeros (at + n))
+cleared-on dst₀ dst at n h d =
+    let l : length (zeros at) ≡ at = zeros-length at in
+    let m : length (zeros n) ≡ n = zeros-length n in
+    ap (λ (x : List ℕ). splice x at (zeros n)) d
+    ∙ ap (λ (i : ℕ). splice (splice dst₀ 0 (zeros at)) i (zeros n)) (sym l)
+    ∙ splice-join dst₀ (zeros at) (zeros n) (omega arith)
+    ∙ ap (λ (x : List ℕ). splice dst₀ 0 x) (zeros-join at n)
 
 -- a part of the source has been moved to its place
 pub moved-on : (dst₀ dst src : List ℕ) (at n : ℕ) → at + n ≤ length dst₀ → at + n ≤ length src → dst ≡ splice dst₀ 0 (take at src)

@@ -18,8 +18,8 @@ pub fn put(dst: &mut [u8], at: usize, value: u8)
     }
 }
 
-// Every byte becomes zero.
-pub fn fill(dst: &mut [u8])
+// Every byte becomes zero, whatever stands there.
+fn fill_bytes(dst: &mut [u8])
     ensures { λ _. ⌜ now (dst .exit) ≡ zeros (length (now (dst .entry))) ⌝ }
 {
     let mut i = 0;
@@ -27,6 +27,30 @@ pub fn fill(dst: &mut [u8])
         dst[i] = 0;
         i += 1;
     }
+}
+
+// Every byte becomes zero, and none is written where all are zero already.
+fn clear(dst: &mut [u8])
+    ensures { λ _. ⌜ now (dst .exit) ≡ zeros (length (now (dst .entry))) ⌝ }
+{
+    if all_zero(dst) {
+        return;
+    }
+    fill_bytes(dst);
+}
+
+// Every byte becomes zero. What is zero already is not written, a bulk at a time: the holes of a sparse file stay holes.
+pub fn fill(dst: &mut [u8])
+    ensures { λ _. ⌜ now (dst .exit) ≡ zeros (length (now (dst .entry))) ⌝ }
+{
+    let end = dst.len();
+    let mut at = 0;
+    while BULK <= end - at {
+        let to = at + BULK;
+        clear(&mut dst[at..to]);
+        at = to;
+    }
+    clear(&mut dst[at..end]);
 }
 
 // The smaller of two lengths.
