@@ -1,47 +1,57 @@
 -- "Both sides of each edge": P1 to P12 of the paper, about the definitions that the contracts of Compare and Apply cite, at 8,192 bytes,
--- over a base of zeros. The lent buffer and the lent page are any that the calls take.
-use Prim.Native.Nat.{ℕ, _≤_}
+-- over a base of zeros: 0 bytes, or 8,192 zeros. The lent buffer and the lent page are any that the calls take.
+use Prim.Native.Nat.{ℕ, _+_, _≤_}
 use native.Mathlib.Omega.{arith}
-use mathlib.Core.Path.{_≡_, refl, ap, _∙_}
-use mathlib.Core.Bool.{true, false}
+use mathlib.Core.Path.{_≡_, refl, sym, ap, _∙_}
+use mathlib.Core.Bool.{Bool, true, false, false≢true}
 use mathlib.Core.List.{List, [], _∷_}
+use mathlib.Core.Logic.{inl, inr}
+use lib.Dec.{eqb}
 use lib.ListN.{length, set}
 use lib.IntN.{ℤ, pos, negsuc}
-use borrow.Author.Tests.{le-ltb}
+use borrow.Author.Tests.{le-ltb, eq-eqb}
 use Rattle.span.specs.Bytes.{zeros, splice}
+use Rattle.span.specs.Laws.{zeros-length}
 use Rattle.layout.specs.Sizes.{pageSize, room}
 use Rattle.layout.specs.Numbers.{le}
 use Rattle.layout.specs.Refusals.{firstOf}
 use Rattle.payload.specs.Entries.{stream, inPage, whole, sound, entries, last, put, applied, payloadStream, start}
-use Rattle.writer.specs.Differences.{diffs, spelled, coded, lastPlace}
-use Rattle.stream.specs.Calls.{pageOf, kindFor, comparison, compareNumbers, compareBuffer, ComparedNumbers, applyRows}
+use Rattle.writer.specs.Differences.{Change, diffs, spelled, coded, lastPlace}
+use Rattle.stream.specs.Calls.{pageOf, pagesFit, kindFor, comparison, compareNumbers, compareBuffer, ComparedNumbers, applyRows}
 use Rattle.stream.specs.Calls.{applyNumbers, applyPage}
-use Rattle.stream.specs.Laws.{fits-none, compare-number, compare-done, compare-written, compare-kept, apply-number, apply-done}
-use Rattle.stream.specs.Laws.{apply-not}
+use Rattle.stream.specs.Laws.{pages-fit, zeros-base, compare-number, compare-done, compare-written, compare-kept}
+use Rattle.stream.specs.Laws.{apply-number, apply-done, apply-not}
+
+-- "a base of zeros", in both its forms
+pub data ZeroBase : List ℕ → Type 0 where
+  absent : ZeroBase []
+  present : ZeroBase (zeros pageSize)
 
 -- Compare finds this answer, and leaves these bytes at the start of any buffer that is long enough
 pub record Finds (page : List ℕ) (payload : List ℕ) (count : ℕ) (at : ℤ) : Type 0 where
-  pub answer : (buffer : List ℕ) → room ≤ length buffer
-      → compareNumbers pageSize [] page buffer ≡ record { number = 0; kind = 1; length = length payload; entries = count; last = at }
-  pub bytes : (buffer : List ℕ) → room ≤ length buffer → compareBuffer pageSize [] page buffer ≡ splice buffer 0 payload
+  pub answer : (base : List ℕ) → ZeroBase base → (buffer : List ℕ) → room ≤ length buffer
+      → compareNumbers pageSize base page buffer ≡ record { number = 0; kind = 1; length = length payload; entries = count; last = at }
+  pub bytes : (base : List ℕ) → ZeroBase base → (buffer : List ℕ) → room ≤ length buffer
+      → compareBuffer pageSize base page buffer ≡ splice buffer 0 payload
 
 -- Compare finds the pages the same, and leaves the buffer alone
-pub record FindsNone (page : List ℕ) : Type 0 where
+pub record FindsNone (base page : List ℕ) : Type 0 where
   pub answer : (buffer : List ℕ) → room ≤ length buffer
-      → compareNumbers pageSize [] page buffer ≡ record { number = 0; kind = 0; length = 0; entries = 0; last = negsuc 0 }
-  pub bytes : (buffer : List ℕ) → room ≤ length buffer → compareBuffer pageSize [] page buffer ≡ buffer
+      → compareNumbers pageSize base page buffer ≡ record { number = 0; kind = 0; length = 0; entries = 0; last = negsuc 0 }
+  pub bytes : (buffer : List ℕ) → room ≤ length buffer → compareBuffer pageSize base page buffer ≡ buffer
 
 -- Apply answers this, and leaves this page
 pub record Gives (payload : List ℕ) (count : ℕ) (at : ℤ) (page : List ℕ) : Type 0 where
-  pub answer : (lent : List ℕ) → length lent ≡ pageSize
-      → applyNumbers pageSize [] payload lent ≡ record { number = 0; entries = count; last = at }
-  pub bytes : (lent : List ℕ) → length lent ≡ pageSize → applyPage pageSize [] payload lent ≡ page
+  pub answer : (base : List ℕ) → ZeroBase base → (lent : List ℕ) → length lent ≡ pageSize
+      → applyNumbers pageSize base payload lent ≡ record { number = 0; entries = count; last = at }
+  pub bytes : (base : List ℕ) → ZeroBase base → (lent : List ℕ) → length lent ≡ pageSize
+      → applyPage pageSize base payload lent ≡ page
 
 -- Apply refuses with 7, and leaves the page alone
 pub record Refuses (payload : List ℕ) : Type 0 where
-  pub answer : (lent : List ℕ) → length lent ≡ pageSize
-      → applyNumbers pageSize [] payload lent ≡ record { number = 7; entries = 0; last = pos 0 }
-  pub bytes : (lent : List ℕ) → length lent ≡ pageSize → applyPage pageSize [] payload lent ≡ lent
+  pub answer : (base : List ℕ) → ZeroBase base → (lent : List ℕ) → length lent ≡ pageSize
+      → applyNumbers pageSize base payload lent ≡ record { number = 7; entries = 0; last = pos 0 }
+  pub bytes : (base : List ℕ) → ZeroBase base → (lent : List ℕ) → length lent ≡ pageSize → applyPage pageSize base payload lent ≡ lent
 
 -- a page of zeros with one byte, or two, changed
 unfoldable pub one : ℕ → ℕ → List ℕ
@@ -73,64 +83,95 @@ pub record Edges : Type 0 where
   pub P9 : Refuses (0 ∷ [])
   -- applying the empty payload: 7
   pub P10 : Refuses []
-  -- equal pages: same, length 0, last −1
-  pub P11 : FindsNone (zeros pageSize)
+  -- equal pages: same, length 0, last −1, whatever they hold
+  pub P11 : (base page : List ℕ) → pagesFit pageSize base page ≡ true → page ≡ pageOf pageSize base → FindsNone base page
   -- applying `FF 00 00 05`: byte 0 becomes 05
   pub P12 : Gives (255 ∷ 0 ∷ 0 ∷ 5 ∷ []) 1 (pos 0) (one 0 5)
 
--- Each row computes, but for the buffer or the page that is lent.
+-- Each row computes, but for the base's form and the buffer or the page that is lent.
+
+zero-page : (base : List ℕ) → ZeroBase base → pageOf pageSize base ≡ zeros pageSize
+unfolding pageOf
+zero-page [] absent = refl
+zero-page _ present = zeros-base pageSize
+
+zero-fits : (base page : List ℕ) → ZeroBase base → length page ≡ pageSize → pagesFit pageSize base page ≡ true
+zero-fits [] page absent l = pages-fit pageSize [] page (inl refl) l
+zero-fits _ page present l = pages-fit pageSize (zeros pageSize) page (inr (zeros-length pageSize)) l
+
+-- the answer of a Compare that is not refused
+answered : (base page buffer : List ℕ) → pagesFit pageSize base page ≡ true → room ≤ length buffer
+    → compareNumbers pageSize base page buffer ≡ comparison (diffs 0 (pageOf pageSize base) page)
+answered base page buffer f h =
+    compare-done pageSize base page buffer (compare-number pageSize base page buffer ∙ rw (f, le-ltb (length buffer) room h))
 
 finds : (page payload : List ℕ) (count : ℕ) (at : ℤ) → length page ≡ pageSize
-    → comparison (diffs 0 (pageOf pageSize []) page)
-    ≡ record { number = 0; kind = 1; length = length payload; entries = count; last = at }
-    → coded 0 (diffs 0 (pageOf pageSize []) page) ≡ payload → Finds page payload count at
+    → comparison (diffs 0 (zeros pageSize) page) ≡ record { number = 0; kind = 1; length = length payload; entries = count; last = at }
+    → coded 0 (diffs 0 (zeros pageSize) page) ≡ payload → Finds page payload count at
 finds page payload count at l e f = record {
-  answer = λ buffer h. numbers buffer h;
-  bytes = λ buffer h. compare-written pageSize [] page buffer (ap (λ (x : ComparedNumbers). x .kind) (numbers buffer h))
-      ∙ ap (λ (w : List ℕ). splice buffer 0 w) f;
+  answer = numbers;
+  bytes = λ base z buffer h. compare-written pageSize base page buffer (ap (λ (x : ComparedNumbers). x .kind) (numbers base z buffer h))
+      ∙ ap (λ (b : List ℕ). splice buffer 0 (coded 0 (diffs 0 b page))) (zero-page base z) ∙ ap (λ (w : List ℕ). splice buffer 0 w) f;
 }
   where
-    numbers : (buffer : List ℕ) → room ≤ length buffer
-        → compareNumbers pageSize [] page buffer ≡ record { number = 0; kind = 1; length = length payload; entries = count; last = at }
-    numbers buffer h = compare-done pageSize [] page buffer (compare-number pageSize [] page buffer
-        ∙ rw (fits-none pageSize [] page l refl, le-ltb (length buffer) room h)) ∙ e
+    numbers : (base : List ℕ) → ZeroBase base → (buffer : List ℕ) → room ≤ length buffer
+        → compareNumbers pageSize base page buffer ≡ record { number = 0; kind = 1; length = length payload; entries = count; last = at }
+    numbers base z buffer h =
+        answered base page buffer (zero-fits base page z l) h
+        ∙ ap (λ (b : List ℕ). comparison (diffs 0 b page)) (zero-page base z) ∙ e
 
-finds-none : (page : List ℕ) → length page ≡ pageSize
-    → comparison (diffs 0 (pageOf pageSize []) page) ≡ record { number = 0; kind = 0; length = 0; entries = 0; last = negsuc 0 }
-    → FindsNone page
-finds-none page l e = record {
-  answer = λ buffer h. numbers buffer h;
-  bytes = λ buffer h. compare-kept pageSize [] page buffer 0 (ap (λ (x : ComparedNumbers). x .kind) (numbers buffer h))
+-- a page has no difference from itself
+no-diffs : (q : ℕ) (xs : List ℕ) → diffs q xs xs ≡ []
+unfolding diffs
+no-diffs q [] = refl
+no-diffs q (x ∷ xs) = go (eqb x x) (eq-eqb x x refl) (no-diffs (q + 1) xs)
+  where
+    go : (t : Bool) → t ≡ true → diffs (q + 1) xs xs ≡ []
+        → _≡_ {A = List Change} (elim t as (λ _. List Change) [ true ↦ diffs (q + 1) xs xs | false ↦ record { place = q; value = x } ∷ diffs (q + 1) xs xs ]) []
+    go true e rest = rest
+    go false e rest = absurd (false≢true e)
+
+finds-none : (base page : List ℕ) → pagesFit pageSize base page ≡ true → page ≡ pageOf pageSize base → FindsNone base page
+unfolding comparison kindFor coded lastPlace
+finds-none base page f e = record {
+  answer = numbers;
+  bytes = λ buffer h. compare-kept pageSize base page buffer 0 (ap (λ (x : ComparedNumbers). x .kind) (numbers buffer h))
       (λ q. omega arith);
 }
   where
+    none : diffs 0 (pageOf pageSize base) page ≡ []
+    none = ap (λ (p : List ℕ). diffs 0 (pageOf pageSize base) p) e ∙ no-diffs 0 (pageOf pageSize base)
+
     numbers : (buffer : List ℕ) → room ≤ length buffer
-        → compareNumbers pageSize [] page buffer ≡ record { number = 0; kind = 0; length = 0; entries = 0; last = negsuc 0 }
-    numbers buffer h = compare-done pageSize [] page buffer (compare-number pageSize [] page buffer
-        ∙ rw (fits-none pageSize [] page l refl, le-ltb (length buffer) room h)) ∙ e
+        → compareNumbers pageSize base page buffer ≡ record { number = 0; kind = 0; length = 0; entries = 0; last = negsuc 0 }
+    numbers buffer h = answered base page buffer f h ∙ ap (λ (ds : List Change). comparison ds) none
 
 gives : (payload page : List ℕ) (count : ℕ) (at : ℤ) → sound pageSize payload ≡ true → entries (payloadStream pageSize payload) ≡ count
     → last start (payloadStream pageSize payload) ≡ at
-    → applied (pageOf pageSize []) (payloadStream pageSize payload) ≡ page → Gives payload count at page
+    → applied (zeros pageSize) (payloadStream pageSize payload) ≡ page → Gives payload count at page
 gives payload page count at s e f g = record {
-  answer = λ lent h. apply-done pageSize [] payload lent (number lent h) .0 ∙ (λ i. record { number = 0; entries = e i; last = f i });
-  bytes = λ lent h. apply-done pageSize [] payload lent (number lent h) .1 ∙ g;
+  answer = λ base z lent h. apply-done pageSize base payload lent (number base z lent h) .0
+      ∙ (λ i. record { number = 0; entries = e i; last = f i });
+  bytes = λ base z lent h. apply-done pageSize base payload lent (number base z lent h) .1
+      ∙ ap (λ (b : List ℕ). applied b (payloadStream pageSize payload)) (zero-page base z) ∙ g;
 }
   where
-    number : (lent : List ℕ) → length lent ≡ pageSize → firstOf (applyRows pageSize [] payload lent) ≡ 0
-    number lent h = apply-number pageSize [] payload lent ∙ rw (fits-none pageSize [] lent h refl, s)
+    number : (base : List ℕ) → ZeroBase base → (lent : List ℕ) → length lent ≡ pageSize
+        → firstOf (applyRows pageSize base payload lent) ≡ 0
+    number base z lent h = apply-number pageSize base payload lent ∙ rw (zero-fits base lent z h, s)
 
 refuses : (payload : List ℕ) → sound pageSize payload ≡ false → Refuses payload
 refuses payload s = record {
-  answer = λ lent h. apply-not pageSize [] payload lent 6 (number lent h) .0;
-  bytes = λ lent h. apply-not pageSize [] payload lent 6 (number lent h) .1;
+  answer = λ base z lent h. apply-not pageSize base payload lent 6 (number base z lent h) .0;
+  bytes = λ base z lent h. apply-not pageSize base payload lent 6 (number base z lent h) .1;
 }
   where
-    number : (lent : List ℕ) → length lent ≡ pageSize → firstOf (applyRows pageSize [] payload lent) ≡ 7
-    number lent h = apply-number pageSize [] payload lent ∙ rw (fits-none pageSize [] lent h refl, s)
+    number : (base : List ℕ) → ZeroBase base → (lent : List ℕ) → length lent ≡ pageSize
+        → firstOf (applyRows pageSize base payload lent) ≡ 7
+    number base z lent h = apply-number pageSize base payload lent ∙ rw (zero-fits base lent z h, s)
 
 pub edges : Edges
-unfolding one two zeros pageOf diffs coded spelled le lastPlace comparison kindFor stream inPage whole sound entries last put applied
+unfolding one two zeros diffs coded spelled le lastPlace comparison kindFor stream inPage whole sound entries last put applied
 edges = record {
   P1 = (finds (one 0 7) (0 ∷ 7 ∷ []) 1 (pos 0) refl refl refl, gives (0 ∷ 7 ∷ []) (one 0 7) 1 (pos 0) refl refl refl refl);
   P2 = (finds (one 254 1) (254 ∷ 1 ∷ []) 1 (pos 254) refl refl refl, gives (254 ∷ 1 ∷ []) (one 254 1) 1 (pos 254) refl refl refl refl);
@@ -158,7 +199,7 @@ edges = record {
   P8 = refuses (255 ∷ 255 ∷ 31 ∷ 1 ∷ 0 ∷ 2 ∷ []) refl;
   P9 = refuses (0 ∷ []) refl;
   P10 = refuses [] refl;
-  P11 = finds-none (zeros pageSize) refl refl;
+  P11 = finds-none;
   P12 = gives (255 ∷ 0 ∷ 0 ∷ 5 ∷ []) (one 0 5) 1 (pos 0) refl refl refl refl;
 }
 

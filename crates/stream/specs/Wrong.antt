@@ -10,7 +10,7 @@ use Rattle.layout.specs.Sizes.{pageSize}
 use Rattle.layout.specs.declared.Refusal.the-variants.{Payload}
 use Rattle.payload.specs.Entries.{stream, inPage, put, applied, payloadStream}
 use Rattle.stream.specs.Calls.{pageOf, Apply}
-use Rattle.stream.specs.Edges.{refuses-cut}
+use Rattle.stream.specs.Edges.{absent, refuses-cut}
 use Rattle.stream.specs.declared.Applied.the-variants.{Refused as AppliedRefused}
 
 -- the page that it leaves when it refuses: the base, and the entries before the broken one
@@ -22,6 +22,6 @@ pub applying-while-checking : Apply pageSize [] (0 ∷ 7 ∷ 0 ∷ []) (zeros pa
     (whileChecking pageSize [] (0 ∷ 7 ∷ 0 ∷ [])) → ⊥
 unfolding whileChecking zeros pageOf stream inPage put applied
 applying-while-checking a =
-    let e : whileChecking pageSize [] (0 ∷ 7 ∷ 0 ∷ []) ≡ zeros pageSize = a .bytes ∙ refuses-cut .bytes (zeros pageSize) refl in
+    let e : whileChecking pageSize [] (0 ∷ 7 ∷ 0 ∷ []) ≡ zeros pageSize = a .bytes ∙ refuses-cut .bytes [] absent (zeros pageSize) refl in
     let f : _≡_ {A = ℕ} 7 0 = ap (λ (l : List ℕ). getD l 0 0) e in
     omega arith
