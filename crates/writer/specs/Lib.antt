@@ -3,3 +3,4 @@ pub mod ReadBack
 pub mod StepLaws
 pub mod Steps
 pub mod Writer
+pub mod LastPlace
