@@ -5,7 +5,8 @@ use mathlib.Core.List.{List}
 use Rattle.layout.specs.Refusals.{Row, firstOf}
 use Rattle.layout.specs.RefusalLaws.{decided-number, Exactly, exactly, no-row, row}
 use Rattle.layout.specs.Groups.{ordered}
-use Rattle.blockmap.specs.Calls.{mapRows, LookedNumbers, lookUpRows, lookUpNumbers, TalliedNumbers, tallyRows, tallyNumbers, mapGroups}
+use Rattle.blockmap.specs.Calls.{mapRows, LookedNumbers, lookUpRows, lookUpNumbers, TalliedNumbers, tallyRows, tallyNumbers}
+use Rattle.blockmap.specs.Calls.{mapGroups}
 use Rattle.layout.specs.GroupLaws.{once}
 use mathlib.Core.Bool.{true}
 

@@ -26,14 +26,18 @@ use Rattle.blockmap.specs.Pairs.{mapBytes}
 use Rattle.store.specs.Block.{slotOf, placeOf}
 use Rattle.store.specs.Frame.{frameRows}
 use Rattle.building.specs.Build.{blockFault, buildRows}
-use Rattle.building.specs.BuildLaws.{straysIn, block-unsound, block-full-none, block-full, block-payload, block-patch, block-empty, not-fits, build-frame, frame-none}
+use Rattle.building.specs.Steps.{straysIn}
+use Rattle.building.specs.BuildLaws.{block-unsound, block-full-none, block-full, block-payload, block-patch, block-empty}
+use Rattle.building.specs.BuildLaws.{not-fits, build-frame, frame-none}
 
-pub place-told : (P : ℕ) (full : List ℕ) (b at : ℕ) (r : Bool) → at ≡ pageAt P b → r ≡ same (part at P full) (zeros P) → same (placeOf P full b) (zeros P) ≡ r
+pub place-told : (P : ℕ) (full : List ℕ) (b at : ℕ) (r : Bool) → at ≡ pageAt P b → r ≡ same (part at P full) (zeros P)
+    → same (placeOf P full b) (zeros P) ≡ r
 unfolding placeOf
 place-told P full b at r e f = ap (λ (k : ℕ). same (part k P full) (zeros P)) (sym e) ∙ sym f
 
 -- one block, by what its slot was found to be
-module _ (P : ℕ) (patch full : List ℕ) (b at : ℕ) (slot : List ℕ) (r : SlotState) (e : at ≡ slotAt b) (f : slot ≡ part at slotSize patch) (g : stateNumbers r ≡ slotNumbers slot) where
+module _ (P : ℕ) (patch full : List ℕ) (b at : ℕ) (slot : List ℕ) (r : SlotState)
+    (e : at ≡ slotAt b) (f : slot ≡ part at slotSize patch) (g : stateNumbers r ≡ slotNumbers slot) where
   is : slot ≡ slotOf patch b
   unfolding slotOf
   is = f ∙ ap (λ (k : ℕ). part k slotSize patch) e
@@ -61,25 +65,29 @@ module _ (P : ℕ) (patch full : List ℕ) (b at : ℕ) (slot : List ℕ) (r : S
         ∙ ap (λ (x : List ℕ). part payloadAt n x) is
         ∙ ap (λ (k : ℕ). part payloadAt k (slotOf patch b)) (sym (told-patch (slotOf patch b) n (sym (state q)) .1))
 
+    is-sound : sound P (payloadOf (slotOf patch b)) ≡ sound P payload
+    is-sound = sym (ap (λ (p : List ℕ). sound P p) same-payload)
+
     pub told-payload : j ≡ Broken → 7 ≡ blockFault P patch full b
-    told-payload w =
-        sym (block-payload P patch full b n (state q) (sym (ap (λ (p : List ℕ). sound P p) same-payload) ∙ subst (λ (x : Checked). Judges P payload x) w judged))
+    told-payload w = sym (block-payload P patch full b n (state q) (is-sound ∙ subst (λ (x : Checked). Judges P payload x) w judged))
 
     pub told-patched : {count : ℕ} {last : ℤ} → j ≡ Sound count last → straysIn P full b ≡ blockFault P patch full b
-    told-patched w =
-        sym (block-patch P patch full b n (state q) (sym (ap (λ (p : List ℕ). sound P p) same-payload) ∙ subst (λ (x : Checked). Judges P payload x) w judged .is))
+    told-patched w = sym (block-patch P patch full b n (state q) (is-sound ∙ subst (λ (x : Checked). Judges P payload x) w judged .is))
 
 -- the frame, as the code asks for it
 module _ (P : ℕ) (patch full map : List ℕ) (n k x : ℕ) (e : n ≡ blocksIn (length patch)) (f : k ≡ mapBytes n)
     (g : x ≡ firstOf (frameRows P ((1 ⇐ false) ∷ []) ((9 ⇐ not (leb k (length map))) ∷ []) patch full)) where
   pub frame-told : firstOf (buildRows P patch full map) ≡ x
   frame-told =
-      build-frame P patch full map (leb k (length map)) (ap (λ (m : ℕ). ltb (length map) m) (sym (f ∙ ap mapBytes e)) ∙ not-fits k (length map)) ∙ sym g
+      build-frame P patch full map (leb k (length map))
+      (ap (λ (m : ℕ). ltb (length map) m) (sym (f ∙ ap mapBytes e)) ∙ not-fits k (length map))
+      ∙ sym g
 
   pub fits-told : x ≡ 0 → (patchFits P (length patch) ≡ true) × (n ≤ blocksAtMost P) × (mapBytes n ≤ length map)
   fits-told z =
       let w = frame-none P patch full (leb k (length map)) (sym g ∙ z) in
-      let fit : patchFits P (length patch) ≡ true = and-left (patchFits P (length patch)) (fullFits P (blocksIn (length patch)) (length full)) (w .0) in
+      let fit : patchFits P (length patch) ≡ true =
+      and-left (patchFits P (length patch)) (fullFits P (blocksIn (length patch)) (length full)) (w .0) in
       let most : blocksIn (length patch) ≤ blocksAtMost P = patch-fits-is P (length patch) fit .1 in
       let long : k ≤ length map = leb-true k (length map) (w .1) in
       (fit, omega arith, omega arith)

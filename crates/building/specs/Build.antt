@@ -1,5 +1,5 @@
 -- Build the block map: every slot, payload and place is checked, block by block.
-use Prim.Native.Nat.{ℕ, zero, suc, _+_}
+use Prim.Native.Nat.{ℕ}
 use mathlib.Core.Path.{_≡_}
 use mathlib.Core.Bool.{not, _&&_}
 use mathlib.Core.List.{List, [], _∷_}
@@ -10,8 +10,9 @@ use Rattle.layout.specs.Numbers.{refusalNumber}
 use Rattle.layout.specs.Refusals.{Row, _⇐_, firstOf, decided}
 use Rattle.layout.specs.Groups.{ordered, _▸_}
 use Rattle.layout.specs.Groups as group
-use Rattle.headers.specs.Headers.{headerRows}
+use Rattle.layout.specs.FirstFault.{BlockFault, firstFault}
 use Rattle.layout.specs.Areas.{blocksIn, pagesIn, lengthRows}
+use Rattle.headers.specs.Headers.{headerRows}
 use Rattle.slots.specs.Slots.{slotNumbers}
 use Rattle.blockmap.specs.Pairs.{mapBytes}
 use Rattle.blockmap.specs.Pack.{pairOf, packed}
@@ -21,33 +22,34 @@ use Rattle.building.specs.declared.Built.the-variants.{Done, Refused}
 
 -- "place in the full area not zero, slot not FULL_REF"
 unfoldable pub placeRows : ℕ → List ℕ → List ℕ → ℕ → List Row
-placeRows P s full b = (10 ⇐ not (eqb (slotNumbers s .kind) 2) && (ltb b (pagesIn P (length full)) && not (same (placeOf P full b) (zeros P)))) ∷ []
+placeRows P s full b =
+    (10 ⇐ not (eqb (slotNumbers s .kind) 2) && (ltb b (pagesIn P (length full)) && not (same (placeOf P full b) (zeros P)))) ∷ []
 
 -- what may be wrong with one block, and what is
 abbrev pub faultRows : ℕ → List ℕ → List ℕ → ℕ → List Row
 faultRows P patch full b =
     let s = slotOf patch b in
     ordered
-    ((group.slot ▸ slotRows s) ∷ (group.full ▸ fullRows P s full b) ∷ (group.payload ▸ payloadRows P s) ∷ (group.place ▸ placeRows P s full b) ∷ [])
+    ((group.slot ▸ slotRows s)
+    ∷ (group.full ▸ fullRows P s full b)
+    ∷ (group.payload ▸ payloadRows P s)
+    ∷ (group.place ▸ placeRows P s full b)
+    ∷ [])
 
 unfoldable pub blockFault : ℕ → List ℕ → List ℕ → ℕ → ℕ
 blockFault P patch full b = firstOf (faultRows P patch full b)
 
-pub record BlockFault : Type 0 where
-  pub number : ℕ
-  pub block : ℕ
-
--- "Build takes blocks in rising order and stops at the first fault": of the k blocks from b on
-unfoldable pub firstFault : ℕ → List ℕ → List ℕ → ℕ → ℕ → BlockFault
-firstFault P patch full b zero = record { number = 0; block = 0 }
-firstFault P patch full b (suc k) =
-    let rest = firstFault P patch full (b + 1) k in
-    decided (blockFault P patch full b) rest (λ n. record { number = n; block = b })
+-- "Build takes blocks in rising order and stops at the first fault"
+abbrev pub buildFault : ℕ → List ℕ → List ℕ → BlockFault
+buildFault P patch full = firstFault (blockFault P patch full) 0 (blocksIn (length patch))
 
 unfoldable pub buildRows : ℕ → List ℕ → List ℕ → List ℕ → List Row
 buildRows P patch full map =
     ordered
-    ((group.lengths ▸ lengthRows P (length patch) (length full)) ∷ (group.buffers ▸ (9 ⇐ ltb (length map) (mapBytes (blocksIn (length patch)))) ∷ []) ∷ (group.headers ▸ headerRows P patch full) ∷ [])
+    ((group.lengths ▸ lengthRows P (length patch) (length full))
+    ∷ (group.buffers ▸ (9 ⇐ ltb (length map) (mapBytes (blocksIn (length patch)))) ∷ [])
+    ∷ (group.headers ▸ headerRows P patch full)
+    ∷ [])
 
 -- the map of a store: each block's pair is its slot's kind
 unfoldable pub builtMap : List ℕ → List ℕ
@@ -60,9 +62,11 @@ pub record BuildOutcome : Type 0 where
 
 unfoldable pub buildOutcome : ℕ → List ℕ → List ℕ → List ℕ → BuildOutcome
 buildOutcome P patch full map =
-    let fault = firstFault P patch full 0 (blocksIn (length patch)) in
+    let fault = buildFault P patch full in
     decided (firstOf (buildRows P patch full map))
-    (decided (fault .number) (record { number = 0; block = 0; map = splice map 0 (builtMap patch) }) (λ n. record { number = n; block = fault .block; map = map }))
+    (decided (fault .number)
+    (record { number = 0; block = 0; map = splice map 0 (builtMap patch) })
+    (λ n. record { number = n; block = fault .block; map = map }))
     (λ n. record { number = n; block = 0; map = map })
 
 -- the paper's numbers for each case of the answer

@@ -12,11 +12,12 @@ ghost use lib.ListN.{length};
 ghost use Rattle.span.specs.Bytes.{splice};
 ghost use Rattle.layout.specs.Sizes.{pageSize, blocksAtMost};
 ghost use Rattle.layout.specs.Numbers.{kindNumber, faultNumber};
+ghost use Rattle.layout.specs.FirstFault.{firstFault};
 ghost use Rattle.layout.specs.Areas.{blocksIn, patchFits};
 ghost use Rattle.blockmap.specs.Pairs.{mapBytes};
 ghost use Rattle.blockmap.specs.Pack.{pairOf, pairIn, packedByte, packed};
-ghost use Rattle.building.specs.Build.{blockFault, firstFault, builtNumbers, Build};
-ghost use Rattle.building.specs.BuildLaws.{straysIn, faultNumbers, kindPair};
+ghost use Rattle.building.specs.Build.{blockFault, builtNumbers, Build};
+ghost use Rattle.building.specs.Steps.{straysIn, faultNumbers, kindPair};
 
 // What Build answers. With a slot, payload, full page or place that is wrong comes its block; with any other refusal, 0.
 pub enum Built {
@@ -67,7 +68,7 @@ fn block_fault(patch: &[u8], full: &[u8], block: u32) -> Fault
 // The first fault of n blocks in rising order, with its block.
 fn first_fault(patch: &[u8], full: &[u8], n: usize) -> Built
     requires { ⌜ n ≤ blocksAtMost pageSize ⌝ }
-    ensures { λ r. ⌜ builtNumbers r ≡ faultNumbers (firstFault pageSize (now (patch .entry)) (now (full .entry)) 0 n) ⌝ }
+    ensures { λ r. ⌜ builtNumbers r ≡ faultNumbers (firstFault (blockFault pageSize (now (patch .entry)) (now (full .entry))) 0 n) ⌝ }
 {
     let mut block = 0;
     while block < n {
@@ -124,7 +125,8 @@ fn map_byte(patch: &[u8], n: usize, at: usize) -> u8
 
 // The map of n blocks whose slots are sound. Later bytes of the buffer stay.
 fn write_map(patch: &[u8], n: usize, map: &mut [u8])
-    requires { ⌜ (n ≡ blocksIn (length (now patch))) × (patchFits pageSize (length (now patch)) ≡ true) × (mapBytes n ≤ length (now map)) ⌝ }
+    requires { ⌜ (n ≡ blocksIn (length (now patch))) × (patchFits pageSize (length (now patch)) ≡ true)
+        × (mapBytes n ≤ length (now map)) ⌝ }
     ensures { λ _. ⌜ now (map .exit) ≡ splice (now (map .entry)) 0 (packed (kindPair (now (patch .entry))) n) ⌝ }
 {
     let bytes = blockmap::map_bytes(n);

@@ -235,7 +235,13 @@ pub record AfterLast (a b : List ℕ) (from to r : ℕ) : Type 0 where
 
 pub after-last : (a b : List ℕ) (from n : ℕ) → AfterLast a b from (from + n) (afterLast a b from n)
 unfolding afterLast Same
-after-last a b from zero = record { on = omega arith; within = omega arith; alike = λ i h k. absurd (omega arith); differ = λ h. absurd (omega arith) }
+after-last a b from zero = record {
+  on = omega arith;
+  within = omega arith;
+  alike = λ i h k. absurd (omega arith);
+  differ = λ h. absurd
+      (omega arith);
+}
 after-last a b from (suc n) = go (eqb (getD a (from + n) 0) (getD b (from + n) 0)) refl (after-last a b from n)
   where
     go : (t : Bool) → eqb (getD a (from + n) 0) (getD b (from + n) 0) ≡ t → AfterLast a b from (from + n) (afterLast a b from n)
@@ -250,7 +256,8 @@ after-last a b from (suc n) = go (eqb (getD a (from + n) 0) (getD b (from + n) 0
                 | yes l ↦ w .alike i h l
                 | no l ↦
                     let q : i ≡ from + n = omega arith in
-                    ap (λ (j : ℕ). getD a j 0) q ∙ eqb-true (getD a (from + n) 0) (getD b (from + n) 0) e ∙ ap (λ (j : ℕ). getD b j 0) (sym q)
+                    ap (λ (j : ℕ). getD a j 0) q ∙ eqb-true (getD a (from + n) 0) (getD b (from + n) 0) e
+                    ∙ ap (λ (j : ℕ). getD b j 0) (sym q)
               ];
           differ = w .differ;
         }
@@ -358,11 +365,18 @@ module _ (a b : List ℕ) (from : ℕ) (la : from + chunk ≤ length a) (lb : fr
   pub cluster-whole : (count r : ℕ) → count ≡ diffsIn a b from chunk → r ≡ afterLast a b from chunk
       → record { count = count; next = r } ≡ clusterAt a b from
   unfolding clusterAt
-  cluster-whole count r e f = rw (le-leb (from + chunk) (length a) la, le-leb (from + chunk) (length b) lb) (λ i. record { count = e i; next = f i })
+  cluster-whole count r e f = rw (le-leb (from + chunk) (length a) la, le-leb (from + chunk) (length b) lb)
+      (λ i. record { count = e i; next = f i })
 
   pub cluster-zero : (count : ℕ) → count ≡ diffsIn a b from chunk → count ≡ 0 → record { count = 0; next = from } ≡ clusterAt a b from
   cluster-zero count e z =
       let w : AfterLast a b from (from + chunk) from =
-      record { on = omega arith; within = omega arith; alike = diffs-zero a b from chunk (sym e ∙ z); differ = λ h. absurd (omega arith) } in
+      record {
+        on = omega arith;
+        within = omega arith;
+        alike = diffs-zero a b from chunk (sym e ∙ z);
+        differ = λ h. absurd
+            (omega arith);
+      } in
       cluster-whole 0 from (sym z ∙ e)
       (after-last-one a b from (from + chunk) from (afterLast a b from chunk) w (after-last a b from chunk))

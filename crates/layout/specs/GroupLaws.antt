@@ -61,6 +61,7 @@ none-lost (y ∷ ys) e x m = go (names (y .group) ys) refl e (none-lost ys) (Lis
         → (once ys ≡ true → (x : Grouped) → List·Memᴰ x ys → rowsOf (x .group) ys ≡ x .rows)
         → (x ≡ y) ⊎ List·Memᴰ x ys → rowsOf (x .group) (y ∷ ys) ≡ x .rows
     go true p q rest c = absurd (true≢false (sym q))
-    go false p q rest (inl f) = rw (eq-eqb (rank (x .group)) (rank (y .group)) (ap (λ (z : Grouped). rank (z .group)) f)) (ap (λ (z : Grouped). z .rows) (sym f))
+    go false p q rest (inl f) = rw (eq-eqb (rank (x .group)) (rank (y .group)) (ap (λ (z : Grouped). rank (z .group)) f))
+        (ap (λ (z : Grouped). z .rows) (sym f))
     go false p q rest (inr n) =
         rw (ne-eqb (rank (x .group)) (rank (y .group)) (λ r. named (y .group) ys x n p (sym r))) (rest q x n)

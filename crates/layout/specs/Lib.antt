@@ -2,9 +2,11 @@ pub mod Sizes
 pub mod Numbers
 pub mod Refusals
 pub mod Groups
+pub mod FirstFault
 pub mod Areas
 pub mod Meaning
 pub mod AreaLaws
 pub mod GroupLaws
 pub mod NumberLaws
 pub mod RefusalLaws
+pub mod FirstFaultLaws

@@ -100,7 +100,7 @@ module _ (P : ℕ) where
       → Exactly (writeRows P patch full b base page) (writtenNumbers a .number)
   write-refuses patch full b base page a p f x = rw (x .numbers) (write-exactly P patch full b base page)
 
-  -- Build's rows are those of the frame and then each block's, in rising order. Which block it gives stands in `BuildMeans`, by the
+  -- Build's rows are those of the frame and then each block's, in rising order. Which block it gives stands in `BuildGives`, by the
   -- number of each block
   pub build-refuses : (patch full map : List ℕ) (a : Built) (after : List ℕ) → Build P patch full map a after
       → Exactly (allRows P patch full map) (builtNumbers a .number)

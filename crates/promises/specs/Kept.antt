@@ -1,5 +1,5 @@
 -- A refused outcome leaves every lent byte as it was, call by call, over the definitions.
-use Prim.Native.Nat.{ℕ, zero, suc, _+_}
+use Prim.Native.Nat.{ℕ, zero, suc}
 use native.Mathlib.Omega.{arith}
 use mathlib.Core.Path.{_≡_, refl, ap, _∙_}
 use mathlib.Core.Bool.{Bool, true, false, not, _&&_}
@@ -12,6 +12,7 @@ use Rattle.span.specs.Laws.{part-none}
 use Rattle.layout.specs.Refusals.{_⇐_, firstOf, orElse, decided}
 use Rattle.layout.specs.RefusalLaws.{decided-refused}
 use Rattle.layout.specs.Groups.{ordered}
+use Rattle.layout.specs.FirstFaultLaws.{number-among}
 use Rattle.slots.specs.Slots.{slotNumbers, payloadOf}
 use Rattle.layout.specs.Areas.{blocksIn, pagesIn}
 use Rattle.payload.specs.Entries.{sound}
@@ -24,7 +25,7 @@ use Rattle.store.specs.Format.{FormatOutcome, formatRows, formatOutcome}
 use Rattle.store.specs.Show.{showRows, showPlace}
 use Rattle.reading.specs.Read.{ReadOutcome, readRows, readOutcome}
 use Rattle.writing.specs.Write.{WriteOutcome, writeOutcome}
-use Rattle.building.specs.Build.{placeRows, blockFault, firstFault, BuildOutcome, buildRows, builtMap, buildOutcome}
+use Rattle.building.specs.Build.{placeRows, blockFault, buildFault, BuildOutcome, buildRows, builtMap, buildOutcome}
 use Rattle.store.specs.declared.Place.{Place}
 use Rattle.promises.specs.Words.{OfBlock, slot-6, payload-7, page-8, place-10}
 use Rattle.promises.specs.StoreLaws.{write-not}
@@ -99,28 +100,17 @@ block-number P patch full b =
     go false false false true = inr place-10
     go false false false false = inl refl
 
-fault-number : (P : ℕ) (patch full : List ℕ) (k b : ℕ)
-    → (firstFault P patch full b k .number ≡ 0) ⊎ OfBlock (firstFault P patch full b k .number)
-unfolding firstFault decided
-fault-number P patch full zero b = inl refl
-fault-number P patch full (suc k) b = go (blockFault P patch full b) (block-number P patch full b) (fault-number P patch full k (b + 1))
-  where
-    go : (n : ℕ) → (n ≡ 0) ⊎ OfBlock n → (firstFault P patch full (b + 1) k .number ≡ 0)
-        ⊎ OfBlock (firstFault P patch full (b + 1) k .number)
-        → (decided n (firstFault P patch full (b + 1) k) (λ n. record { number = n; block = b }) .number ≡ 0)
-        ⊎ OfBlock (decided n (firstFault P patch full (b + 1) k) (λ n. record { number = n; block = b }) .number)
-    go zero h r = r
-    go (suc n) (inl h) r = absurd (omega arith)
-    go (suc n) (inr h) r = inr h
+fault-number : (P : ℕ) (patch full : List ℕ) → (buildFault P patch full .number ≡ 0) ⊎ OfBlock (buildFault P patch full .number)
+fault-number P patch full =
+    number-among (blockFault P patch full) (λ n. (n ≡ 0) ⊎ OfBlock n) (inl refl) (block-number P patch full) 0 (blocksIn (length patch))
 
 pub build-kept : (P : ℕ) (patch full map : List ℕ) → (buildOutcome P patch full map .number ≡ 0 → ⊥)
     → (buildOutcome P patch full map .map ≡ map)
     × ((buildOutcome P patch full map .block ≡ 0) ⊎ OfBlock (buildOutcome P patch full map .number))
 unfolding buildOutcome decided
 build-kept P patch full map h =
-    let fault = firstFault P patch full 0 (blocksIn (length patch)) in
-    go (firstOf (buildRows P patch full map)) (fault .number) (fault .block) (splice map 0 (builtMap patch))
-    (fault-number P patch full (blocksIn (length patch)) 0) h
+    let fault = buildFault P patch full in
+    go (firstOf (buildRows P patch full map)) (fault .number) (fault .block) (splice map 0 (builtMap patch)) (fault-number P patch full) h
   where
     built : ℕ → ℕ → ℕ → List ℕ → BuildOutcome
     built k n b done =

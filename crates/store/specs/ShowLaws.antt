@@ -73,7 +73,8 @@ show-within P patch b = go (patchFits P (length patch)) refl
         let y : 0 ≡ showPlace P patch b .len = ap (λ (p : Place). p .len) e in
         omega arith
 
-    slot : patchFits P (length patch) ≡ true → firstOf (patchHeadRows P patch) ≡ 0 → b < blocksIn (length patch) → (t : Bool) → isPatch (slotOf patch b) ≡ t → showPlace P patch b .at + showPlace P patch b .len ≤ length patch
+    slot : patchFits P (length patch) ≡ true → firstOf (patchHeadRows P patch) ≡ 0 → b < blocksIn (length patch) → (t : Bool)
+        → isPatch (slotOf patch b) ≡ t → showPlace P patch b .at + showPlace P patch b .len ≤ length patch
     slot e f h true g =
         let n : ℕ = payloadLength (slotOf patch b) in
         let q = show-done P patch b e f h g in
@@ -85,11 +86,13 @@ show-within P patch b = go (patchFits P (length patch)) refl
         omega arith
     slot e f h false g = none (show-slot P patch b e f h g)
 
-    block : patchFits P (length patch) ≡ true → firstOf (patchHeadRows P patch) ≡ 0 → (t : Bool) → leb (blocksIn (length patch)) b ≡ t → showPlace P patch b .at + showPlace P patch b .len ≤ length patch
+    block : patchFits P (length patch) ≡ true → firstOf (patchHeadRows P patch) ≡ 0 → (t : Bool) → leb (blocksIn (length patch)) b ≡ t
+        → showPlace P patch b .at + showPlace P patch b .len ≤ length patch
     block e f true g = none (show-block P patch b e f (leb-true (blocksIn (length patch)) b g))
     block e f false g = slot e f (leb-false (blocksIn (length patch)) b g) (isPatch (slotOf patch b)) refl
 
-    head : patchFits P (length patch) ≡ true → (k : ℕ) → firstOf (patchHeadRows P patch) ≡ k → showPlace P patch b .at + showPlace P patch b .len ≤ length patch
+    head : patchFits P (length patch) ≡ true → (k : ℕ) → firstOf (patchHeadRows P patch) ≡ k
+        → showPlace P patch b .at + showPlace P patch b .len ≤ length patch
     head e zero f = block e f (leb (blocksIn (length patch)) b) refl
     head e (suc k) f = none (show-header P patch b (suc k) e f (λ q. omega arith))
 

@@ -127,7 +127,11 @@ no-diffs q [] = refl
 no-diffs q (x ∷ xs) = go (eqb x x) (eq-eqb x x refl) (no-diffs (q + 1) xs)
   where
     go : (t : Bool) → t ≡ true → diffs (q + 1) xs xs ≡ []
-        → _≡_ {A = List Change} (elim t as (λ _. List Change) [ true ↦ diffs (q + 1) xs xs | false ↦ record { place = q; value = x } ∷ diffs (q + 1) xs xs ]) []
+        → _≡_ {A = List Change} (elim t as (λ _. List Change) [
+          | true ↦ diffs (q + 1) xs xs
+          | false ↦ record { place = q; value = x }
+              ∷ diffs (q + 1) xs xs
+        ]) []
     go true e rest = rest
     go false e rest = absurd (false≢true e)
 

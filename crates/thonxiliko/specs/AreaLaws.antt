@@ -35,7 +35,8 @@ pub read-held : {P b : ℕ} {patch full base page page′ : List ℕ} {a : Readi
 read-held f e = record { numbers = e ∙ f .numbers; bytes = f .bytes }
 
 pub write-held : {P b : ℕ} {patch full base page patch′ full′ : List ℕ} {a : Written} {r : «thx_written»}
-    → Write P patch full b base page a patch′ full′ → writtenMembers r ≡ writtenNumbers a → ThxWrite P patch full b base page r patch′ full′
+    → Write P patch full b base page a patch′ full′ → writtenMembers r ≡ writtenNumbers a
+    → ThxWrite P patch full b base page r patch′ full′
 write-held f e = record { numbers = e ∙ f .numbers; patch-bytes = f .patch-bytes; full-bytes = f .full-bytes }
 
 pub build-held : {P : ℕ} {patch full map map′ : List ℕ} {a : Built} {r : «thx_built»}
@@ -46,8 +47,12 @@ build-held f e = record { numbers = e ∙ f .numbers; bytes = f .bytes }
 
 pub format-only : {P : ℕ} {patch full p q f g : List ℕ} {r s : «thx_done»}
     → ThxFormat P patch full r p f → ThxFormat P patch full s q g → (r ≡ s) × (p ≡ q) × (f ≡ g)
-format-only x y =
-    (λ i. record { number = (x .numbers ∙ sym (y .numbers)) i }, x .patch-bytes ∙ sym (y .patch-bytes), x .full-bytes ∙ sym (y .full-bytes))
+format-only x y = (
+  λ i. record { number = (x .numbers ∙ sym (y .numbers)) i },
+  x .patch-bytes ∙ sym (y .patch-bytes),
+  x .full-bytes
+      ∙ sym (y .full-bytes),
+)
 
 pub judge-only : {slot : List ℕ} {r s : «thx_judged»} → ThxJudge slot r → ThxJudge slot s → r ≡ s
 judge-only {slot} {r} {s} x y =
@@ -68,8 +73,12 @@ read-only {P} {b} {patch} {full} {base} {page} {p} {q} {r} {s} x y =
 pub write-only : {P b : ℕ} {patch full base page p q f g : List ℕ} {r s : «thx_written»}
     → ThxWrite P patch full b base page r p f → ThxWrite P patch full b base page s q g → (r ≡ s) × (p ≡ q) × (f ≡ g)
 write-only {P} {b} {patch} {full} {base} {page} {p} {q} {f} {g} {r} {s} x y =
-    let e : writtenMembers r ≡ writtenMembers s = x .numbers ∙ sym (y .numbers) in
-    (λ i. record { number = e i .number; kind = e i .kind; length = e i .length }, x .patch-bytes ∙ sym (y .patch-bytes), x .full-bytes ∙ sym (y .full-bytes))
+    let e : writtenMembers r ≡ writtenMembers s = x .numbers ∙ sym (y .numbers) in (
+      λ i. record { number = e i .number; kind = e i .kind; length = e i .length },
+      x .patch-bytes ∙ sym (y .patch-bytes),
+      x .full-bytes
+          ∙ sym (y .full-bytes),
+    )
 
 pub build-only : {P : ℕ} {patch full map m n : List ℕ} {r s : «thx_built»}
     → ThxBuild P patch full map r m → ThxBuild P patch full map s n → (r ≡ s) × (m ≡ n)

@@ -11,10 +11,12 @@ use Rattle.thonxiliko.specs.Maps.{pairMembers, ThxLookUp, talliedMembers
 
 -- a struct that holds the numbers of the answer beneath is as good as that answer
 
-pub look-up-held : {P n b : ℕ} {map : List ℕ} {a : Looked} {r : «thx_pair»} → LookUp P map n b a → pairMembers r ≡ lookedNumbers a → ThxLookUp P map n b r
+pub look-up-held : {P n b : ℕ} {map : List ℕ} {a : Looked} {r : «thx_pair»} → LookUp P map n b a → pairMembers r ≡ lookedNumbers a
+    → ThxLookUp P map n b r
 look-up-held f e = record { numbers = e ∙ f .numbers }
 
-pub tally-held : {P n : ℕ} {map : List ℕ} {a : Tallied} {r : «thx_tallied»} → Tally P map n a → talliedMembers r ≡ talliedNumbers a → ThxTally P map n r
+pub tally-held : {P n : ℕ} {map : List ℕ} {a : Tallied} {r : «thx_tallied»} → Tally P map n a → talliedMembers r ≡ talliedNumbers a
+    → ThxTally P map n r
 tally-held f e = record { numbers = e ∙ f .numbers }
 
 -- no second outcome meets a call's promise

@@ -24,8 +24,11 @@ apply-held f e = record { numbers = e ∙ f .numbers; bytes = f .bytes }
 pub compare-only : {P : ℕ} {base page buffer p q : List ℕ} {r s : «thx_compared»}
     → ThxCompare P base page buffer r p → ThxCompare P base page buffer s q → (r ≡ s) × (p ≡ q)
 compare-only {P} {base} {page} {buffer} {p} {q} {r} {s} x y =
-    let e : comparedMembers r ≡ comparedMembers s = x .numbers ∙ sym (y .numbers) in
-    (λ i. record { number = e i .number; kind = e i .kind; length = e i .length; entries = e i .entries; last = e i .last }, x .bytes ∙ sym (y .bytes))
+    let e : comparedMembers r ≡ comparedMembers s = x .numbers ∙ sym (y .numbers) in (
+      λ i. record { number = e i .number; kind = e i .kind; length = e i .length; entries = e i .entries; last = e i .last },
+      x .bytes
+          ∙ sym (y .bytes),
+    )
 
 pub apply-only : {P : ℕ} {base payload page p q : List ℕ} {r s : «thx_applied»}
     → ThxApply P base payload page r p → ThxApply P base payload page s q → (r ≡ s) × (p ≡ q)

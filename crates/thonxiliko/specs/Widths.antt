@@ -84,12 +84,14 @@ first-fits false rows e = absurd (omega arith)
 -- Compare
 
 module _ (base page buffer : List ℕ) where
-  pub compare-fits : {after : List ℕ} {a : Compared} {k : Kind} {n e : ℕ} {l : ℤ} → Compare pageSize base page buffer a after → a ≡ ComparedDone k n e l
+  pub compare-fits : {after : List ℕ} {a : Compared} {k : Kind} {n e : ℕ} {l : ℤ} → Compare pageSize base page buffer a after
+      → a ≡ ComparedDone k n e l
       → (n < 2 ^ 32) × (e < 2 ^ 32)
   unfolding comparison written
   compare-fits {after} {a} {k} {n} {e} {l} c q =
       let ds : List Change = diffs 0 (pageOf pageSize base) page in
-      let f : comparedNumbers (ComparedDone k n e l) ≡ compareNumbers pageSize base page buffer = ap comparedNumbers (sym q) ∙ c .numbers in
+      let f : comparedNumbers (ComparedDone k n e l) ≡ compareNumbers pageSize base page buffer = ap comparedNumbers (sym q)
+      ∙ c .numbers in
       let z : compareNumbers pageSize base page buffer .number ≡ 0 = sym (ap (λ (x : ComparedNumbers). x .number) f) in
       let d : comparedNumbers (ComparedDone k n e l) ≡ comparison ds =
       f ∙ compare-done pageSize base page buffer (sym (compare-gives pageSize base page buffer) ∙ z) in
@@ -105,7 +107,8 @@ module _ (base page buffer : List ℕ) where
 module _ (base payload page : List ℕ) where
   apply-few : (k : ℕ) → firstOf (applyRows pageSize base payload page) ≡ k → applyNumbers pageSize base payload page .entries ≤ 252
   apply-few zero e =
-      let s : sound pageSize payload ≡ true = go (pagesFit pageSize base page) (sound pageSize payload) (sym (apply-number pageSize base payload page) ∙ e) in
+      let s : sound pageSize payload ≡ true = go (pagesFit pageSize base page) (sound pageSize payload)
+      (sym (apply-number pageSize base payload page) ∙ e) in
       let n : applyNumbers pageSize base payload page .entries ≡ entries (payloadStream pageSize payload) =
       ap (λ (x : AppliedNumbers). x .entries) (apply-done pageSize base payload page e .0) in
       omega (arith, sound-few pageSize payload s)
@@ -115,10 +118,12 @@ module _ (base payload page : List ℕ) where
       go true false e = absurd (omega arith)
       go false s e = absurd (omega arith)
   apply-few (suc k) e =
-      let n : applyNumbers pageSize base payload page .entries ≡ 0 = ap (λ (x : AppliedNumbers). x .entries) (apply-not pageSize base payload page k e .0) in
+      let n : applyNumbers pageSize base payload page .entries
+      ≡ 0 = ap (λ (x : AppliedNumbers). x .entries) (apply-not pageSize base payload page k e .0) in
       omega arith
 
-  pub apply-fits : {after : List ℕ} {a : Applied} {e : ℕ} {l : ℤ} → Apply pageSize base payload page a after → a ≡ AppliedDone e l → e < 2 ^ 32
+  pub apply-fits : {after : List ℕ} {a : Applied} {e : ℕ} {l : ℤ} → Apply pageSize base payload page a after → a ≡ AppliedDone e l
+      → e < 2 ^ 32
   apply-fits {after} {a} {e} {l} c q =
       let f : appliedNumbers (AppliedDone e l) ≡ applyNumbers pageSize base payload page = ap appliedNumbers (sym q) ∙ c .numbers in
       let g : e ≡ applyNumbers pageSize base payload page .entries = ap (λ (x : AppliedNumbers). x .entries) f in
@@ -129,7 +134,8 @@ module _ (base payload page : List ℕ) where
 
 slot-few : (s : List ℕ) → slotNumbers s .length ≤ room
 unfolding slotNumbers isPatch
-slot-few s = go (same s emptySlot) (leb 1 (payloadLength s)) (leb (payloadLength s) room) refl (same s (patchSlot (payloadOf s))) (same s fullSlot)
+slot-few s = go (same s emptySlot) (leb 1 (payloadLength s)) (leb (payloadLength s) room) refl (same s (patchSlot (payloadOf s)))
+    (same s fullSlot)
   where
     go : (a b c : Bool) → leb (payloadLength s) room ≡ c → (d f : Bool)
         → cond a (soundSlot 0 0) (cond (b && c && d) (soundSlot 1 (payloadLength s)) (cond f (soundSlot 2 0) unsoundSlot)) .length ≤ room
@@ -158,7 +164,8 @@ module _ (slot : List ℕ) where
 -- Write
 
 module _ (patch full : List ℕ) (b : ℕ) (base page : List ℕ) where
-  write-few : (k : ℕ) → firstOf (writeRows pageSize patch full b base page) ≡ k → writeOutcome pageSize patch full b base page .length ≤ 4 * pageSize
+  write-few : (k : ℕ) → firstOf (writeRows pageSize patch full b base page) ≡ k
+      → writeOutcome pageSize patch full b base page .length ≤ 4 * pageSize
   unfolding writeOutcome writeRows ordered decided decidedStream
   write-few zero e =
       let l : length page ≡ pageSize = page-length pageSize base page (first-fits (pagesFit pageSize base page) _ e) in
@@ -169,7 +176,9 @@ module _ (patch full : List ℕ) (b : ℕ) (base page : List ℕ) where
   pub write-fits : {patch′ full′ : List ℕ} {a : Written} {k : Kind} {n : ℕ}
       → Write pageSize patch full b base page a patch′ full′ → a ≡ WrittenDone k n → n < 2 ^ 32
   write-fits {patch′} {full′} {a} {k} {n} c q =
-      let f : writtenNumbers (WrittenDone k n) ≡ writeNumbers (writeOutcome pageSize patch full b base page) = ap writtenNumbers (sym q) ∙ c .numbers in
+      let f : writtenNumbers (WrittenDone k n) ≡ writeNumbers (writeOutcome pageSize patch full b base page) = ap writtenNumbers (sym q)
+      ∙ c .numbers in
       let g : n ≡ writeOutcome pageSize patch full b base page .length = ap (λ (x : WriteNumbers). x .length) f in
-      let m : writeOutcome pageSize patch full b base page .length ≤ 4 * pageSize = write-few (firstOf (writeRows pageSize patch full b base page)) refl in
+      let m : writeOutcome pageSize patch full b base page .length ≤ 4 * pageSize = write-few
+      (firstOf (writeRows pageSize patch full b base page)) refl in
       omega arith

@@ -26,8 +26,12 @@ pages-requires c κs = search needs
 
 returns : tie.Need-returns
 returns c =
-    let a = c .before .before .before .before .before .before .before .before .before .args in
-    told-full-none pageSize (a .patch .now) (a .full .now) (a .block) (c .before .before .before .before .before .before .slot-at .result) (c .before .before .before .before .before .part .result .now) (c .before .before .before .before .slot-state .result) (c .before .before .before .before .before .before .slot-at .ensures) (c .before .before .before .before .before .part .ensures) (c .before .before .before .before .slot-state .ensures) (c .before .before .enum-told2 .given .1) (omega (arith, c .before .pages .ensures, c .if1 .taken))
+    let s = c .before .before .before .before in
+    let a = s .before .before .before .before .before .args in
+    told-full-none pageSize (a .patch .now) (a .full .now) (a .block)
+    (s .before .before .slot-at .result) (s .before .part .result .now) (s .slot-state .result)
+    (s .before .before .slot-at .ensures) (s .before .part .ensures) (s .slot-state .ensures)
+    (c .before .before .enum-told2 .given .1) (omega (arith, c .before .pages .ensures, c .if1 .taken))
 
 enum-known-n : tie.Need-enum-known-n
 enum-known-n c = search needs
@@ -55,30 +59,56 @@ place-fault-requires-2 c κs = search needs
 
 returns-2 : tie.Need-returns-2
 returns-2 c =
-    let a = c .before .before .before .before .before .before .before .args in
-    told-unsound pageSize (a .patch .now) (a .full .now) (a .block) (c .before .before .before .before .slot-at .result) (c .before .before .before .part .result .now) (c .before .before .slot-state .result) (c .before .before .before .before .slot-at .ensures) (c .before .before .before .part .ensures) (c .before .before .slot-state .ensures) (c .enum-told .given .1)
+    let s = c .before .before in
+    let a = s .before .before .before .before .before .args in
+    told-unsound pageSize (a .patch .now) (a .full .now) (a .block)
+    (s .before .before .slot-at .result) (s .before .part .result .now) (s .slot-state .result)
+    (s .before .before .slot-at .ensures) (s .before .part .ensures) (s .slot-state .ensures)
+    (c .enum-told .given .1)
 
 returns-3 : tie.Need-returns-3
 returns-3 c =
-    let a = c .before .before .before .before .before .before .before .before .before .args in
-    told-full pageSize (a .patch .now) (a .full .now) (a .block) (c .before .before .before .before .before .before .slot-at .result) (c .before .before .before .before .before .part .result .now) (c .before .before .before .before .slot-state .result) (c .before .before .before .before .before .before .slot-at .ensures) (c .before .before .before .before .before .part .ensures) (c .before .before .before .before .slot-state .ensures) (c .before .before .enum-told2 .given .1) (omega (arith, c .before .pages .ensures, c .if1 .left))
+    let s = c .before .before .before .before in
+    let a = s .before .before .before .before .before .args in
+    told-full pageSize (a .patch .now) (a .full .now) (a .block)
+    (s .before .before .slot-at .result) (s .before .part .result .now) (s .slot-state .result)
+    (s .before .before .slot-at .ensures) (s .before .part .ensures) (s .slot-state .ensures)
+    (c .before .before .enum-told2 .given .1) (omega (arith, c .before .pages .ensures, c .if1 .left))
 
 returns-4 : tie.Need-returns-4
 returns-4 c =
-    let a = c .before .before .before .before .before .before .before .before .before .before .before .before .args in
-    told-payload pageSize (a .patch .now) (a .full .now) (a .block) (c .before .before .before .before .before .before .before .before .before .slot-at .result) (c .before .before .before .before .before .before .before .before .part .result .now) (c .before .before .before .before .before .before .before .slot-state .result) (c .before .before .before .before .before .before .before .before .before .slot-at .ensures) (c .before .before .before .before .before .before .before .before .part .ensures) (c .before .before .before .before .before .before .before .slot-state .ensures) (c .before .before .before .before .before .n .given .0 .0) (c .before .before .before .part2 .result .now) (c .before .before .check .result) (c .before .before .before .before .before .n .given .1) (c .before .before .before .part2 .ensures) (c .before .before .check .ensures) (c .enum-told3 .given .1)
+    let s = c .before .before .before .before .before .before .before in
+    let k = c .before .before in
+    let a = s .before .before .before .before .before .args in
+    told-payload pageSize (a .patch .now) (a .full .now) (a .block)
+    (s .before .before .slot-at .result) (s .before .part .result .now) (s .slot-state .result)
+    (s .before .before .slot-at .ensures) (s .before .part .ensures) (s .slot-state .ensures)
+    (k .before .before .before .n .given .0 .0) (k .before .part2 .result .now) (k .check .result)
+    (k .before .before .before .n .given .1) (k .before .part2 .ensures) (k .check .ensures)
+    (c .enum-told3 .given .1)
 
 returns-5 : tie.Need-returns-5
 returns-5 c =
-    let a = c .before .before .before .before .before .before .before .before .before .before .before .before .before .args in
+    let s = c .before .before .before .before .before .before .before .before in
+    let k = c .before .before .before in
+    let a = s .before .before .before .before .before .args in
     c .place-fault .ensures
-    ∙ told-patched pageSize (a .patch .now) (a .full .now) (a .block) (c .before .before .before .before .before .before .before .before .before .before .slot-at .result) (c .before .before .before .before .before .before .before .before .before .part .result .now) (c .before .before .before .before .before .before .before .before .slot-state .result) (c .before .before .before .before .before .before .before .before .before .before .slot-at .ensures) (c .before .before .before .before .before .before .before .before .before .part .ensures) (c .before .before .before .before .before .before .before .before .slot-state .ensures) (c .before .before .before .before .before .before .n .given .0 .0) (c .before .before .before .before .part2 .result .now) (c .before .before .before .check .result) (c .before .before .before .before .before .before .n .given .1) (c .before .before .before .before .part2 .ensures) (c .before .before .before .check .ensures) (c .before .enum-told4 .given .1)
+    ∙ told-patched pageSize (a .patch .now) (a .full .now) (a .block)
+    (s .before .before .slot-at .result) (s .before .part .result .now) (s .slot-state .result)
+    (s .before .before .slot-at .ensures) (s .before .part .ensures) (s .slot-state .ensures)
+    (k .before .before .before .n .given .0 .0) (k .before .part2 .result .now) (k .check .result)
+    (k .before .before .before .n .given .1) (k .before .part2 .ensures) (k .check .ensures)
+    (c .before .enum-told4 .given .1)
 
 returns-6 : tie.Need-returns-6
 returns-6 c =
-    let a = c .before .before .before .before .before .before .before .before .args in
+    let s = c .before .before .before in
+    let a = s .before .before .before .before .before .args in
     c .place-fault2 .ensures
-    ∙ told-empty pageSize (a .patch .now) (a .full .now) (a .block) (c .before .before .before .before .before .slot-at .result) (c .before .before .before .before .part .result .now) (c .before .before .before .slot-state .result) (c .before .before .before .before .before .slot-at .ensures) (c .before .before .before .before .part .ensures) (c .before .before .before .slot-state .ensures) (c .before .enum-told5 .given .1)
+    ∙ told-empty pageSize (a .patch .now) (a .full .now) (a .block)
+    (s .before .before .slot-at .result) (s .before .part .result .now) (s .slot-state .result)
+    (s .before .before .slot-at .ensures) (s .before .part .ensures) (s .slot-state .ensures)
+    (c .before .enum-told5 .given .1)
 
 pub block-fault-spec : {M : Type 1} → statement M
 block-fault-spec =

@@ -1,4 +1,4 @@
-use Rattle.building.specs.BuildLaws.{pair-full}
+use Rattle.building.specs.MapLaws.{pair-full}
 use Rattle.blockmap.specs.Pack.{pairOf}
 use mathlib.Core.Path.{sym, ap}
 use Rattle.building.proofs.kind_of.Statement.{statement}

@@ -1,4 +1,4 @@
-use Rattle.building.specs.BuildLaws.{kindPair}
+use Rattle.building.specs.Steps.{kindPair}
 use Rattle.layout.specs.Sizes.{blocksAtMost, slotSize, slotAt, pageSize}
 use Rattle.layout.specs.Areas.{blocksIn}
 use Rattle.layout.specs.AreaLaws.{patch-fits-is, slot-within}
@@ -19,8 +19,9 @@ returns c =
 
 cast-slot-at : tie.Need-cast-slot-at
 cast-slot-at c =
-    let a = c .before .before .args in
-    let most : blocksIn (length (a .patch .now)) ≤ blocksAtMost pageSize = patch-fits-is pageSize (length (a .patch .now)) (c .before .before .pre .1) .1 in
+    let f = c .before .before in
+    let l : ℕ = length (f .args .patch .now) in
+    let most : blocksIn l ≤ blocksAtMost pageSize = patch-fits-is pageSize l (f .pre .1) .1 in
     omega arith
 
 slot-at-requires : tie.Need-slot-at-requires
@@ -31,8 +32,10 @@ add-at c = search needs
 
 shared-slice-read-kind-of : tie.Need-shared-slice-read-kind-of
 shared-slice-read-kind-of c =
-    let a = c .before .before .before .before .args in
-    let in-area : slotAt (a .block) + slotSize ≤ length (a .patch .now) = slot-within pageSize (length (a .patch .now)) (a .block) (c .before .before .before .before .pre .1) (omega arith) in
+    let f = c .before .before .before .before in
+    let b : ℕ = f .args .block in
+    let l : ℕ = length (f .args .patch .now) in
+    let in-area : slotAt b + slotSize ≤ l = slot-within pageSize l b (f .pre .1) (omega arith) in
     omega arith
 
 kind-of-requires : tie.Need-kind-of-requires
@@ -46,7 +49,10 @@ unfolding kindPair
 returns-2 c =
     let a = c .before .before .before .before .before .before .args in
     let at : c .before .before .before .slot-at .result + 0 ≡ slotAt (a .block) = omega arith in
-    c .pair-of .ensures ∙ c .before .kind-of .ensures ∙ ap (λ (k : ℕ). pairOf (getD (a .patch .now) k 0)) at ∙ sym (pair-used (kindPair (a .patch .now)) (a .n) (a .block) (omega arith))
+    c .pair-of .ensures
+    ∙ c .before .kind-of .ensures
+    ∙ ap (λ (k : ℕ). pairOf (getD (a .patch .now) k 0)) at
+    ∙ sym (pair-used (kindPair (a .patch .now)) (a .n) (a .block) (omega arith))
 
 pub pair-at-spec : {M : Type 1} → statement M
 pair-at-spec =

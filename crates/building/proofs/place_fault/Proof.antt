@@ -23,13 +23,20 @@ zero-part-requires c κs = search needs
 
 returns-2 : tie.Need-returns-2
 returns-2 c =
+    let f = c .before .before .page-at in
+    let z = c .before .zero-part in
     let a = c .before .before .before .before .before .before .args in
-    sym (clean-place pageSize (a .full .now) (a .block) (place-told pageSize (a .full .now) (a .block) (c .before .before .page-at .result) (c .before .zero-part .result) (c .before .before .page-at .ensures) (c .before .zero-part .ensures) ∙ c .if2 .taken))
+    let told = place-told pageSize (a .full .now) (a .block) (f .result) (z .result) (f .ensures) (z .ensures) in
+    sym (clean-place pageSize (a .full .now) (a .block) (told ∙ c .if2 .taken))
 
 returns-3 : tie.Need-returns-3
 returns-3 c =
+    let f = c .before .before .page-at in
+    let z = c .before .zero-part in
     let a = c .before .before .before .before .before .before .args in
-    sym (stray-place pageSize (a .full .now) (a .block) (omega (arith, c .before .before .before .before .pages .ensures, c .before .before .before .if1 .left)) (place-told pageSize (a .full .now) (a .block) (c .before .before .page-at .result) (c .before .zero-part .result) (c .before .before .page-at .ensures) (c .before .zero-part .ensures) ∙ c .if2 .left))
+    let told = place-told pageSize (a .full .now) (a .block) (f .result) (z .result) (f .ensures) (z .ensures) in
+    let page = c .before .before .before .before .pages .ensures in
+    sym (stray-place pageSize (a .full .now) (a .block) (omega (arith, page, c .before .before .before .if1 .left)) (told ∙ c .if2 .left))
 
 pub place-fault-spec : {M : Type 1} → statement M
 place-fault-spec =

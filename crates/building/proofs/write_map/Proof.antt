@@ -1,7 +1,8 @@
 use Rattle.layout.specs.Sizes.{blocksAtMost, pageSize}
 use Rattle.layout.specs.Areas.{blocksIn}
 use Rattle.layout.specs.AreaLaws.{patch-fits-is}
-use Rattle.building.specs.BuildLaws.{kindPair, map-turn}
+use Rattle.building.specs.Steps.{kindPair}
+use Rattle.building.specs.MapLaws.{map-turn}
 use Rattle.blockmap.specs.Pack.{packedFirst, packed}
 use Rattle.blockmap.specs.Pairs.{mapBytes}
 use Rattle.span.specs.Laws.{splice-none}
@@ -31,9 +32,10 @@ loop-holds c =
 map-byte-requires : tie.Need-map-byte-requires Inv-loop μ-loop
 unfolding mapBytes
 map-byte-requires c κs =
-    let a = c .before .before .before .before .before .args in
-    let most : blocksIn (length (a .patch .now)) ≤ blocksAtMost pageSize = patch-fits-is pageSize (length (a .patch .now)) (c .before .before .before .before .before .pre .1) .1 in
-    (c .before .before .before .before .before .pre .0, c .before .before .before .before .before .pre .1, omega arith)
+    let g = c .before .before .before .before .before in
+    let n : ℕ = blocksIn (length (g .args .patch .now)) in
+    let most : n ≤ blocksAtMost pageSize = patch-fits-is pageSize (length (g .args .patch .now)) (g .pre .1) .1 in
+    (g .pre .0, g .pre .1, omega arith)
 
 slice-write-map : tie.Need-slice-write-map Inv-loop μ-loop
 slice-write-map c = search needs
@@ -48,7 +50,8 @@ loop-again : tie.Need-loop-again Inv-loop μ-loop
 loop-again c =
     let a = c .before .before .before .before .before .before .args in
     let l = c .before .before .loop in
-    (omega arith, search needs, map-turn (a .map .now) (l .map) (kindPair (a .patch .now)) (a .n) (l .at) (c .map-byte .result) (omega arith) (l .inv .2) (c .map-byte .ensures))
+    let more = map-turn (a .map .now) (l .map) (kindPair (a .patch .now)) (a .n) (l .at) (c .map-byte .result) in
+    (omega arith, search needs, more (omega arith) (l .inv .2) (c .map-byte .ensures))
 
 same-length : tie.Need-same-length Inv-loop μ-loop
 same-length c = search needs
