@@ -20,8 +20,8 @@ use Rattle.payload.specs.declared.Checked.{Checked}
 use Rattle.payload.specs.declared.Checked.the-variants.{Unsound as Broken, Sound}
 use Rattle.span.specs.Laws.{and-left}
 use Rattle.layout.specs.Refusals.{_⇐_, firstOf}
-use Rattle.layout.specs.Areas.{blocksIn, pagesIn, patchFits, fullFits}
-use Rattle.layout.specs.AreaLaws.{patch-fits-is}
+use Rattle.layout.specs.Lengths.{blocksIn, pagesIn, patchFits, fullFits}
+use Rattle.layout.specs.LengthLaws.{patch-fits-is}
 use Rattle.blockmap.specs.Pairs.{mapBytes}
 use Rattle.store.specs.Block.{slotOf, placeOf}
 use Rattle.store.specs.Frame.{frameRows}

@@ -8,10 +8,10 @@ use lib.ListN.{length}
 use Rattle.span.specs.Bytes.{zeros, same, splice}
 use Rattle.layout.specs.Numbers.{refusalNumber}
 use Rattle.layout.specs.Refusals.{Row, _⇐_, firstOf, decided}
-use Rattle.layout.specs.Groups.{ordered, _▸_}
+use Rattle.layout.specs.Groups.{Grouped, ordered, _▸_}
 use Rattle.layout.specs.Groups as group
 use Rattle.layout.specs.FirstFault.{BlockFault, firstFault}
-use Rattle.layout.specs.Areas.{blocksIn, pagesIn, lengthRows}
+use Rattle.layout.specs.Lengths.{blocksIn, pagesIn, lengthRows}
 use Rattle.headers.specs.Headers.{headerRows}
 use Rattle.slots.specs.Slots.{slotNumbers}
 use Rattle.blockmap.specs.Pairs.{mapBytes}
@@ -26,15 +26,17 @@ placeRows P s full b =
     (10 ⇐ not (eqb (slotNumbers s .kind) 2) && (ltb b (pagesIn P (length full)) && not (same (placeOf P full b) (zeros P)))) ∷ []
 
 -- what may be wrong with one block, and what is
-abbrev pub faultRows : ℕ → List ℕ → List ℕ → ℕ → List Row
-faultRows P patch full b =
+abbrev pub faultGroups : ℕ → List ℕ → List ℕ → ℕ → List Grouped
+faultGroups P patch full b =
     let s = slotOf patch b in
-    ordered
-    ((group.slot ▸ slotRows s)
+    (group.slot ▸ slotRows s)
     ∷ (group.full ▸ fullRows P s full b)
     ∷ (group.payload ▸ payloadRows P s)
     ∷ (group.place ▸ placeRows P s full b)
-    ∷ [])
+    ∷ []
+
+abbrev pub faultRows : ℕ → List ℕ → List ℕ → ℕ → List Row
+faultRows P patch full b = ordered (faultGroups P patch full b)
 
 unfoldable pub blockFault : ℕ → List ℕ → List ℕ → ℕ → ℕ
 blockFault P patch full b = firstOf (faultRows P patch full b)
@@ -43,13 +45,15 @@ blockFault P patch full b = firstOf (faultRows P patch full b)
 abbrev pub buildFault : ℕ → List ℕ → List ℕ → BlockFault
 buildFault P patch full = firstFault (blockFault P patch full) 0 (blocksIn (length patch))
 
-unfoldable pub buildRows : ℕ → List ℕ → List ℕ → List ℕ → List Row
-buildRows P patch full map =
-    ordered
-    ((group.lengths ▸ lengthRows P (length patch) (length full))
+abbrev pub buildGroups : ℕ → List ℕ → List ℕ → List ℕ → List Grouped
+buildGroups P patch full map =
+    (group.lengths ▸ lengthRows P (length patch) (length full))
     ∷ (group.buffers ▸ (9 ⇐ ltb (length map) (mapBytes (blocksIn (length patch)))) ∷ [])
     ∷ (group.headers ▸ headerRows P patch full)
-    ∷ [])
+    ∷ []
+
+unfoldable pub buildRows : ℕ → List ℕ → List ℕ → List ℕ → List Row
+buildRows P patch full map = ordered (buildGroups P patch full map)
 
 -- the map of a store: each block's pair is its slot's kind
 unfoldable pub builtMap : List ℕ → List ℕ

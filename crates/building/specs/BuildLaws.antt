@@ -14,7 +14,7 @@ use Rattle.layout.specs.Refusals.{Row, _⇐_, firstOf, orElse, decided}
 use Rattle.layout.specs.RefusalLaws.{decided-done, decided-refused, or-none, row-off}
 use Rattle.layout.specs.Groups.{ordered}
 use Rattle.layout.specs.GroupLaws.{in-halves}
-use Rattle.layout.specs.Areas.{blocksIn, pagesIn}
+use Rattle.layout.specs.Lengths.{blocksIn, pagesIn}
 use Rattle.headers.specs.Headers.{headerRows}
 use Rattle.slots.specs.Slots.{slotNumbers, soundSlot, unsoundSlot, payloadOf}
 use Rattle.payload.specs.Entries.{sound}

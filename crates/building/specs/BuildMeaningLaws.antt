@@ -16,8 +16,8 @@ use Rattle.layout.specs.Numbers.{refusalNumber}
 use Rattle.layout.specs.NumberLaws.{refusal-one, refusal-some}
 use Rattle.layout.specs.Refusals.{firstOf, orElse}
 use Rattle.layout.specs.FirstFaultLaws.{none-below}
-use Rattle.layout.specs.Areas.{patchFits, fullFits, lengthRows}
-use Rattle.layout.specs.AreaLaws.{patch-fits-is, full-fits-is, patch-fits, fits-full}
+use Rattle.layout.specs.Lengths.{patchFits, fullFits, lengthRows}
+use Rattle.layout.specs.LengthLaws.{patch-fits-is, full-fits-is, patch-fits, fits-full}
 use Rattle.layout.specs.declared.Refusal.{Refusal}
 use Rattle.headers.specs.Meaning.{Headers, headers-sound, sound-headers}
 use Rattle.slots.specs.Slots.{SlotNumbers, slotNumbers, soundSlot, unsoundSlot, patchSlot, payloadOf}

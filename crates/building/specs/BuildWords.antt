@@ -6,7 +6,7 @@ use mathlib.Core.List.{List}
 use lib.ListN.{length}
 use Rattle.span.specs.Bytes.{zeros, part}
 use Rattle.layout.specs.Sizes.{blocksAtMost, patchHead, fullHead, room, slotAt, pageAt}
-use Rattle.layout.specs.Areas.{blocksIn, pagesIn}
+use Rattle.layout.specs.Lengths.{blocksIn, pagesIn}
 use Rattle.headers.specs.Headers.{patchHeader, fullHeader}
 use Rattle.slots.specs.Slots.{emptySlot, patchSlot, fullSlot}
 use Rattle.payload.specs.Entries.{start}

@@ -1,17 +1,19 @@
 -- "Each refusal is given when its condition holds and no earlier one does, and at no other time": Build.
 use Prim.Native.Nat.{ℕ}
 use mathlib.Core.Path.{_≡_, refl, sym, ap, _∙_}
+use mathlib.Core.Bool.{true}
 use mathlib.Core.List.{List, _++_}
 use lib.ListN.{length}
 use Rattle.layout.specs.Refusals.{Row, firstOf, orElse}
 use Rattle.layout.specs.RefusalLaws.{first-append, Exactly, exactly, decided-number, decided-or, Numbered, no-row, row, both}
 use Rattle.layout.specs.Groups.{ordered}
+use Rattle.layout.specs.GroupLaws.{once}
 use Rattle.layout.specs.FirstFault.{rowsFrom}
 use Rattle.layout.specs.FirstFaultLaws.{rows-numbered, first-by-rows}
-use Rattle.layout.specs.Areas.{blocksIn, lengthRows}
+use Rattle.layout.specs.Lengths.{blocksIn, lengthRows}
 use Rattle.headers.specs.HeaderLaws.{headers-numbered}
 use Rattle.store.specs.Block.{slotRows, fullRows, payloadRows}
-use Rattle.building.specs.Build.{placeRows, faultRows, blockFault, buildFault, buildRows, BuildOutcome, buildOutcome}
+use Rattle.building.specs.Build.{placeRows, faultGroups, faultRows, buildGroups, blockFault, buildFault, buildRows, BuildOutcome, buildOutcome}
 
 module _ (P : ℕ) (patch full : List ℕ) where
   fault-numbered : (b : ℕ) → Numbered (faultRows P patch full b)
@@ -50,3 +52,9 @@ module _ (P : ℕ) (patch full : List ℕ) where
       (both
       (row (row (both (headers-numbered P patch full) no-row)))
       (rows-numbered (faultRows P patch full) fault-numbered 0 (blocksIn (length patch))))
+
+pub fault-once : (P : ℕ) (patch full : List ℕ) (b : ℕ) → once (faultGroups P patch full b) ≡ true
+fault-once P patch full b = refl
+
+pub build-once : (P : ℕ) (patch full map : List ℕ) → once (buildGroups P patch full map) ≡ true
+build-once P patch full map = refl

@@ -12,7 +12,7 @@ use Rattle.span.specs.Bytes.{zeros, part, same, splice}
 use Rattle.span.specs.Laws.{part-at, splice-more, splice-in, splice-after, splice-length}
 use Rattle.layout.specs.Sizes.{slotSize, slotAt}
 use Rattle.layout.specs.FirstFaultLaws.{none-below}
-use Rattle.layout.specs.Areas.{blocksIn}
+use Rattle.layout.specs.Lengths.{blocksIn}
 use Rattle.slots.specs.Slots.{SlotNumbers, slotNumbers, soundSlot, unsoundSlot, payloadLength, isPatch}
 use Rattle.slots.specs.SlotLaws.{plainNumbers, slot-short, slot-patch, slot-other}
 use Rattle.blockmap.specs.Pairs.{mapBytes, pairAt, reservedPair, badPairs}

@@ -7,7 +7,7 @@ use lib.ListN.{length, getD}
 use Rattle.span.specs.Bytes.{zeros, same}
 use Rattle.layout.specs.Sizes.{slotAt}
 use Rattle.layout.specs.FirstFault.{BlockFault}
-use Rattle.layout.specs.Areas.{pagesIn}
+use Rattle.layout.specs.Lengths.{pagesIn}
 use Rattle.blockmap.specs.Pack.{pairOf}
 use Rattle.store.specs.Block.{placeOf}
 use Rattle.building.specs.Build.{BuildNumbers}

@@ -13,7 +13,7 @@ ghost use Rattle.span.specs.Bytes.{splice};
 ghost use Rattle.layout.specs.Sizes.{pageSize, blocksAtMost};
 ghost use Rattle.layout.specs.Numbers.{kindNumber, faultNumber};
 ghost use Rattle.layout.specs.FirstFault.{firstFault};
-ghost use Rattle.layout.specs.Areas.{blocksIn, patchFits};
+ghost use Rattle.layout.specs.Lengths.{blocksIn, patchFits};
 ghost use Rattle.blockmap.specs.Pairs.{mapBytes};
 ghost use Rattle.blockmap.specs.Pack.{pairOf, pairIn, packedByte, packed};
 ghost use Rattle.building.specs.Build.{blockFault, builtNumbers, Build};

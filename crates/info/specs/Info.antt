@@ -10,7 +10,7 @@ use Rattle.span.specs.Bytes.{part}
 use Rattle.layout.specs.Sizes.{slotSize, payloadAt}
 use Rattle.layout.specs.Numbers.{kindNumber, refusalNumber}
 use Rattle.layout.specs.Refusals.{Row, _⇐_, firstOf, decided}
-use Rattle.layout.specs.Groups.{ordered, _▸_}
+use Rattle.layout.specs.Groups.{Grouped, ordered, _▸_}
 use Rattle.layout.specs.Groups as group
 use Rattle.slots.specs.Slots.{slotNumbers}
 use Rattle.payload.specs.Entries.{start, payloadStream, sound, entries as entriesOf, last as lastOf}
@@ -22,13 +22,15 @@ unfoldable pub payloadIn : List ℕ → List ℕ
 payloadIn slot = part payloadAt (slotNumbers slot .length) slot
 
 -- "other than 512 bytes gives `refused 2`, a sound slot with an unsound payload `refused 7`"
-unfoldable pub infoRows : ℕ → List ℕ → List Row
-infoRows P bytes =
-    ordered
-    ((group.lengths ▸ (2 ⇐ not (eqb (lengthOf bytes) slotSize)) ∷ [])
+abbrev pub infoGroups : ℕ → List ℕ → List Grouped
+infoGroups P bytes =
+    (group.lengths ▸ (2 ⇐ not (eqb (lengthOf bytes) slotSize)) ∷ [])
     ∷ (group.slot ▸ (6 ⇐ not (eqb (slotNumbers bytes .number) 0)) ∷ [])
     ∷ (group.payload ▸ (7 ⇐ eqb (slotNumbers bytes .kind) 1 && not (sound P (payloadIn bytes))) ∷ [])
-    ∷ [])
+    ∷ []
+
+unfoldable pub infoRows : ℕ → List ℕ → List Row
+infoRows P bytes = ordered (infoGroups P bytes)
 
 pub record InfoNumbers : Type 0 where
   pub number : ℕ

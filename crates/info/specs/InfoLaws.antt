@@ -14,11 +14,12 @@ use Rattle.layout.specs.NumberLaws.{kind-one, refusal-one, refusal-some}
 use Rattle.layout.specs.Refusals.{firstOf, orElse}
 use Rattle.layout.specs.RefusalLaws.{decided-done, decided-refused, Exactly, exactly, decided-number, no-row, row}
 use Rattle.layout.specs.Groups.{ordered}
+use Rattle.layout.specs.GroupLaws.{once}
 use Rattle.slots.specs.Slots.{slotNumbers, soundSlot, unsoundSlot}
 use Rattle.payload.specs.Entries.{stream, start, payloadStream, sound, entries as entriesOf, last as lastOf}
 use Rattle.info.specs.declared.Info.{Info}
 use Rattle.info.specs.declared.Info.the-variants.{Slot, Refused}
-use Rattle.info.specs.Info.{payloadIn, infoRows, InfoNumbers, slotInfo, refusedInfo, infoNumbers, toldNumbers, Inspect}
+use Rattle.info.specs.Info.{payloadIn, infoGroups, infoRows, InfoNumbers, slotInfo, refusedInfo, infoNumbers, toldNumbers, Inspect}
 
 -- No second answer meets it.
 
@@ -74,3 +75,6 @@ module _ (P : ℕ) (bytes : List ℕ) where
           }
       unfolding infoNumbers infoRows ordered firstOf orElse slotInfo payloadIn
       info-patch h = decided-done _ _ (firstOf (infoRows P bytes)) (rw (eq-eqb (lengthOf bytes) slotSize l, e, h)) ∙ rw e
+
+pub info-once : (P : ℕ) (bytes : List ℕ) → once (infoGroups P bytes) ≡ true
+info-once P bytes = refl

@@ -3,9 +3,9 @@ pub mod Numbers
 pub mod Refusals
 pub mod Groups
 pub mod FirstFault
-pub mod Areas
+pub mod Lengths
 pub mod Meaning
-pub mod AreaLaws
+pub mod LengthLaws
 pub mod GroupLaws
 pub mod NumberLaws
 pub mod RefusalLaws

@@ -3,7 +3,7 @@ use crate::Layout;
 ghost use mathlib.Core.Path.{_≡_};
 ghost use mathlib.Core.Bool.{_&&_};
 ghost use Rattle.layout.specs.Sizes.{pageSize};
-ghost use Rattle.layout.specs.Areas.{blocksIn, pagesIn, patchFits, fullFits};
+ghost use Rattle.layout.specs.Lengths.{blocksIn, pagesIn, patchFits, fullFits};
 
 // n: how many slots a patch area of this length has.
 pub fn blocks(patch_length: usize) -> usize

@@ -14,7 +14,7 @@ use Rattle.layout.specs.RefusalLaws.{decided-refused}
 use Rattle.layout.specs.Groups.{ordered}
 use Rattle.layout.specs.FirstFaultLaws.{number-among}
 use Rattle.slots.specs.Slots.{slotNumbers, payloadOf}
-use Rattle.layout.specs.Areas.{blocksIn, pagesIn}
+use Rattle.layout.specs.Lengths.{blocksIn, pagesIn}
 use Rattle.payload.specs.Entries.{sound}
 use Rattle.stream.specs.Calls.{compareRows, compareNumbers, compareBuffer, applyRows, applyNumbers, applyPage}
 use Rattle.stream.specs.Laws.{compare-not, apply-not}

@@ -14,7 +14,7 @@ use Rattle.layout.specs.Sizes.{pageSize, slotAt, pageAt}
 use Rattle.layout.specs.Numbers.{le}
 use Rattle.slots.specs.Slots.{slotImage}
 use Rattle.headers.specs.Fresh.{freshPatch, freshFull}
-use Rattle.layout.specs.AreaLaws.{patch-fits, full-fits, blocks-of, pages-of}
+use Rattle.layout.specs.LengthLaws.{patch-fits, full-fits, blocks-of, pages-of}
 use Rattle.headers.specs.FreshLaws.{fresh-patch-length, fresh-full-length}
 use Rattle.writer.specs.Differences.{diffs, spelled, coded, written}
 use Rattle.stream.specs.Calls.{pageOf, kindFor}

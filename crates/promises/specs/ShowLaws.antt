@@ -12,8 +12,8 @@ use Rattle.span.specs.Laws.{part-none, part-part}
 use Rattle.layout.specs.Sizes.{blocksAtMost, patchHead, slotSize, payloadAt, slotAt}
 use Rattle.layout.specs.Refusals.{firstOf}
 use Rattle.headers.specs.Headers.{patchHeader, patchHeadRows}
-use Rattle.layout.specs.Areas.{patchFits}
-use Rattle.layout.specs.AreaLaws.{patch-fits-is, patch-fits, slot-within}
+use Rattle.layout.specs.Lengths.{patchFits}
+use Rattle.layout.specs.LengthLaws.{patch-fits-is, patch-fits, slot-within}
 use Rattle.slots.specs.Slots.{isPatch, payloadLength, payloadOf}
 use Rattle.slots.specs.Meaning.{payload-length-of, patch-is, patch-image}
 use Rattle.headers.specs.Meaning.{patch-header-length, head-none, head-like}

@@ -10,7 +10,7 @@ use Rattle.layout.specs.Refusals.{Row, firstOf, decided}
 use Rattle.layout.specs.Groups.{Grouped, ordered, _▸_}
 use Rattle.layout.specs.Groups as group
 use Rattle.headers.specs.Headers.{headerRows}
-use Rattle.layout.specs.Areas.{lengthRows}
+use Rattle.layout.specs.Lengths.{lengthRows}
 use Rattle.slots.specs.Slots.{slotNumbers, payloadOf}
 use Rattle.payload.specs.Entries.{payloadStream, applied}
 use Rattle.stream.specs.Calls.{pageOf, pageRows}

@@ -11,7 +11,7 @@ use Rattle.span.specs.Bytes.{zeros}
 use Rattle.layout.specs.Refusals.{Row, firstOf, orElse, decided}
 use Rattle.layout.specs.RefusalLaws.{first-hit, first-skip, or-skip, or-some, decided-done, decided-refused}
 use Rattle.layout.specs.GroupLaws.{in-halves}
-use Rattle.layout.specs.Areas.{blocksIn, pagesIn}
+use Rattle.layout.specs.Lengths.{blocksIn, pagesIn}
 use Rattle.slots.specs.Slots.{slotNumbers, soundSlot, unsoundSlot, payloadOf}
 use Rattle.payload.specs.Entries.{payloadStream, sound, applied}
 use Rattle.stream.specs.Calls.{pageOf, pageRows}

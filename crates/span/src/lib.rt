@@ -2,9 +2,9 @@
 // caller. The loops are shaped so that
 // the compiler turns them into wide instructions: no loop leaves early at a byte.
 ghost use mathlib.Core.Path.{_≡_};
-ghost use Prim.Native.Nat.{min};
+ghost use Prim.Native.Nat.{_+_, min};
 ghost use lib.ListN.{length, set, take};
-ghost use Rattle.span.specs.Bytes.{bulk, zeros, splice, part as partOf, same as sameBytes};
+ghost use Rattle.span.specs.Bytes.{bulk, zeros, splice, part as partOf, partFrom, same as sameBytes};
 
 // How many bytes are moved at one go.
 const BULK: usize = 4 * 1024;
@@ -112,7 +112,8 @@ pub fn all_zero(s: &[u8]) -> bool
 
 // The n bytes of s from `at` on, or as many of them as s has.
 pub fn part(s: &[u8], at: usize, n: usize) -> &[u8]
-    ensures { λ r. ⌜ now r ≡ partOf at n (now (s .entry)) ⌝ }
+    ensures bytes { λ r. ⌜ now r ≡ partOf at n (now (s .entry)) ⌝ }
+    ensures place { λ r. ⌜ (r .ptr .0 ≡ s .entry .ptr .0) × (r .ptr .1 ≡ s .entry .ptr .1 + partFrom at (length (now (s .entry)))) ⌝ }
 {
     if s.len() <= at {
         return &s[0..0];

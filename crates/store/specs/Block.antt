@@ -7,7 +7,7 @@ use lib.ListN.{length}
 use Rattle.span.specs.Bytes.{part}
 use Rattle.layout.specs.Sizes.{slotSize, slotAt, pageAt}
 use Rattle.layout.specs.Refusals.{Row, _⇐_}
-use Rattle.layout.specs.Areas.{blocksIn, pagesIn}
+use Rattle.layout.specs.Lengths.{blocksIn, pagesIn}
 use Rattle.slots.specs.Slots.{slotNumbers, payloadOf}
 use Rattle.payload.specs.Entries.{sound}
 

@@ -7,7 +7,7 @@ use Rattle.layout.specs.Numbers.{refusalNumber}
 use Rattle.layout.specs.Refusals.{Row, firstOf, decided}
 use Rattle.layout.specs.Groups.{Grouped, ordered, _▸_}
 use Rattle.layout.specs.Groups as group
-use Rattle.layout.specs.Areas.{lengthRows}
+use Rattle.layout.specs.Lengths.{lengthRows}
 use Rattle.headers.specs.Fresh.{freshPatch, freshFull}
 use Rattle.store.specs.declared.Formatted.{Formatted}
 use Rattle.store.specs.declared.Formatted.the-variants.{Done, Refused}

@@ -11,9 +11,9 @@ use lib.Seq.{take-all}
 use Rattle.layout.specs.Refusals.{firstOf, orElse}
 use Rattle.layout.specs.RefusalLaws.{decided-done, decided-refused}
 use Rattle.layout.specs.Groups.{ordered}
-use Rattle.layout.specs.Areas.{blocksIn, pagesIn, patchFits, fullFits, lengthRows}
+use Rattle.layout.specs.Lengths.{blocksIn, pagesIn, patchFits, fullFits, lengthRows}
 use Rattle.headers.specs.Fresh.{freshPatch, freshFull}
-use Rattle.layout.specs.AreaLaws.{patch-fits-is, full-fits-is}
+use Rattle.layout.specs.LengthLaws.{patch-fits-is, full-fits-is}
 use Rattle.headers.specs.FreshLaws.{fresh-patch-length, fresh-full-length}
 use Rattle.layout.specs.Sizes.{fullHead, slotAt, pageAt}
 use Rattle.span.specs.Laws.{and-left, and-right}

@@ -6,7 +6,7 @@ use Rattle.layout.specs.Refusals.{Row}
 use Rattle.layout.specs.Groups.{opening, inOrder, _▸_}
 use Rattle.layout.specs.Groups as group
 use Rattle.headers.specs.Headers.{headerRows}
-use Rattle.layout.specs.Areas.{lengthRows}
+use Rattle.layout.specs.Lengths.{lengthRows}
 
 -- 1, 2, 9 and headers: what is decided before any block is looked at
 unfoldable pub frameRows : ℕ → List Row → List Row → List ℕ → List ℕ → List Row

@@ -14,8 +14,8 @@ use lib.ListN.{length}
 use Rattle.layout.specs.Sizes.{fullHead, pageAt}
 use Rattle.layout.specs.Refusals.{_⇐_, firstOf, orElse}
 use Rattle.headers.specs.Headers.{headerRows}
-use Rattle.layout.specs.Areas.{blocksIn, pagesIn, patchFits, fullFits, lengthRows}
-use Rattle.layout.specs.AreaLaws.{full-fits-is}
+use Rattle.layout.specs.Lengths.{blocksIn, pagesIn, patchFits, fullFits, lengthRows}
+use Rattle.layout.specs.LengthLaws.{full-fits-is}
 use Rattle.store.specs.Frame.{frameRows}
 use Rattle.store.specs.Block.{Places}
 

@@ -14,8 +14,8 @@ use Rattle.layout.specs.Refusals.{firstOf}
 use Rattle.layout.specs.RefusalLaws.{decided-done, NoneHolds, first-done, Exactly, exactly, decided-number, no-row, row}
 use Rattle.layout.specs.Groups.{ordered}
 use Rattle.headers.specs.Headers.{headRows, patchHeadRows}
-use Rattle.layout.specs.Areas.{blocksIn, patchFits, lengthRows}
-use Rattle.layout.specs.AreaLaws.{slot-within}
+use Rattle.layout.specs.Lengths.{blocksIn, patchFits, lengthRows}
+use Rattle.layout.specs.LengthLaws.{slot-within}
 use Rattle.slots.specs.Slots.{isPatch, payloadLength}
 use Rattle.store.specs.Block.{slotOf}
 use Rattle.store.specs.Format.{FormatOutcome, formatRows, formatOutcome, formatGroups}

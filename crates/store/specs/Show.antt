@@ -11,7 +11,7 @@ use Rattle.layout.specs.Refusals.{Row, _⇐_, firstOf, decided}
 use Rattle.layout.specs.Groups.{Grouped, ordered, _▸_}
 use Rattle.layout.specs.Groups as group
 use Rattle.headers.specs.Headers.{patchHeadRows}
-use Rattle.layout.specs.Areas.{blocksIn, patchFits}
+use Rattle.layout.specs.Lengths.{blocksIn, patchFits}
 use Rattle.slots.specs.Slots.{isPatch, payloadLength}
 use Rattle.store.specs.Block.{slotOf}
 use Rattle.store.specs.declared.Place.{Place}

@@ -9,12 +9,12 @@ use borrow.Author.Tests.{le-leb, lt-leb, leb-true, leb-false}
 use lib.ListN.{length}
 use Rattle.span.specs.Laws.{and-left, and-right}
 use Rattle.layout.specs.Sizes.{payloadAt, slotAt, slotSize, room}
-use Rattle.layout.specs.AreaLaws.{slot-within}
+use Rattle.layout.specs.LengthLaws.{slot-within}
 use Rattle.layout.specs.Refusals.{_⇐_, firstOf, orElse}
 use Rattle.layout.specs.RefusalLaws.{first-append, or-some, decided-done, decided-refused}
 use Rattle.layout.specs.Groups.{ordered}
 use Rattle.headers.specs.Headers.{patchHeadRows}
-use Rattle.layout.specs.Areas.{blocksIn, patchFits}
+use Rattle.layout.specs.Lengths.{blocksIn, patchFits}
 use Rattle.slots.specs.Slots.{isPatch, payloadLength}
 use Rattle.store.specs.Block.{slotOf}
 use Rattle.store.specs.Show.{showRows, showPlace}

@@ -7,7 +7,7 @@ use lib.Dec.{eqb, ltb}
 use lib.ListN.{length}
 use Rattle.span.specs.Bytes.{zeros, splice}
 use Rattle.layout.specs.Sizes.{slotAt, pageAt}
-use Rattle.layout.specs.Areas.{pagesIn}
+use Rattle.layout.specs.Lengths.{pagesIn}
 use Rattle.slots.specs.Slots.{slotImage}
 
 -- Carrying out (kind, payload, page) on a block. At most two whole stores: the slot, and the block's place in the full area if there is

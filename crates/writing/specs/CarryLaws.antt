@@ -11,7 +11,7 @@ use borrow.Rule.Slice.PartMut.{midOf, putMid}
 use Rattle.span.specs.Laws.{mid-length, put-splice, put-copied, put-filled}
 use Rattle.span.specs.Bytes.{zeros, splice}
 use Rattle.layout.specs.Sizes.{slotSize, room, slotAt, pageAt}
-use Rattle.layout.specs.Areas.{pagesIn}
+use Rattle.layout.specs.Lengths.{pagesIn}
 use Rattle.slots.specs.Slots.{slotImage}
 use Rattle.slots.specs.SlotLaws.{slot-image-length}
 use Rattle.writing.specs.Carry.{carriedPatch, carriedFull}

@@ -6,7 +6,7 @@ use mathlib.Core.List.{List, [], _∷_}
 use lib.Dec.{eqb, leb}
 use lib.ListN.{length}
 use Rattle.layout.specs.Refusals.{_⇐_, firstOf, decided}
-use Rattle.layout.specs.Areas.{pagesIn}
+use Rattle.layout.specs.Lengths.{pagesIn}
 use Rattle.writing.specs.declared.Written.{Written}
 use Rattle.writing.specs.Carry.{carriedPatch, carriedFull}
 use Rattle.writing.specs.Write.{decidedStream, decidedKind, WriteOutcome, writtenNumbers, writeNumbers}

@@ -10,7 +10,7 @@ use Rattle.layout.specs.Refusals.{Row, _⇐_, firstOf, decided}
 use Rattle.layout.specs.Groups.{Grouped, ordered, _▸_}
 use Rattle.layout.specs.Groups as group
 use Rattle.headers.specs.Headers.{headerRows}
-use Rattle.layout.specs.Areas.{pagesIn, lengthRows}
+use Rattle.layout.specs.Lengths.{pagesIn, lengthRows}
 use Rattle.writer.specs.Differences.{written}
 use Rattle.stream.specs.Calls.{pageOf, pageRows, kindFor}
 use Rattle.store.specs.Block.{blockRows}

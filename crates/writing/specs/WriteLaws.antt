@@ -10,7 +10,7 @@ use borrow.Author.Tests.{le-leb, lt-leb, eqb-true}
 use Rattle.layout.specs.Refusals.{Row, _⇐_, firstOf, orElse, decided}
 use Rattle.layout.specs.RefusalLaws.{first-hit, first-skip, or-skip, or-some, decided-done, decided-refused}
 use Rattle.layout.specs.GroupLaws.{in-halves}
-use Rattle.layout.specs.Areas.{blocksIn, pagesIn}
+use Rattle.layout.specs.Lengths.{blocksIn, pagesIn}
 use Rattle.slots.specs.Slots.{emptySlot, patchSlot, fullSlot, slotImage}
 use Rattle.stream.specs.Calls.{pageOf, pageRows}
 use Rattle.store.specs.Block.{blockRows}

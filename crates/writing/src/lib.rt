@@ -12,7 +12,7 @@ ghost use lib.Dec.{eqb, leb};
 ghost use lib.ListN.{length};
 ghost use Rattle.layout.specs.Sizes.{pageSize, slotSize, slotAt};
 ghost use Rattle.layout.specs.Numbers.{kindNumber};
-ghost use Rattle.layout.specs.Areas.{pagesIn};
+ghost use Rattle.layout.specs.Lengths.{pagesIn};
 ghost use Rattle.store.specs.Block.{Places};
 ghost use Rattle.writing.specs.Parts.{BlockWrite};
 ghost use Rattle.writing.specs.Write.{Write};

@@ -30,7 +30,7 @@ returns c =
     let a = s .before .before .before .before .before .args in
     told-full-none pageSize (a .patch .now) (a .full .now) (a .block)
     (s .before .before .slot-at .result) (s .before .part .result .now) (s .slot-state .result)
-    (s .before .before .slot-at .ensures) (s .before .part .ensures) (s .slot-state .ensures)
+    (s .before .before .slot-at .ensures) (s .before .part .ensures .0) (s .slot-state .ensures)
     (c .before .before .enum-told2 .given .1) (omega (arith, c .before .pages .ensures, c .if1 .taken))
 
 enum-known-n : tie.Need-enum-known-n
@@ -63,7 +63,7 @@ returns-2 c =
     let a = s .before .before .before .before .before .args in
     told-unsound pageSize (a .patch .now) (a .full .now) (a .block)
     (s .before .before .slot-at .result) (s .before .part .result .now) (s .slot-state .result)
-    (s .before .before .slot-at .ensures) (s .before .part .ensures) (s .slot-state .ensures)
+    (s .before .before .slot-at .ensures) (s .before .part .ensures .0) (s .slot-state .ensures)
     (c .enum-told .given .1)
 
 returns-3 : tie.Need-returns-3
@@ -72,7 +72,7 @@ returns-3 c =
     let a = s .before .before .before .before .before .args in
     told-full pageSize (a .patch .now) (a .full .now) (a .block)
     (s .before .before .slot-at .result) (s .before .part .result .now) (s .slot-state .result)
-    (s .before .before .slot-at .ensures) (s .before .part .ensures) (s .slot-state .ensures)
+    (s .before .before .slot-at .ensures) (s .before .part .ensures .0) (s .slot-state .ensures)
     (c .before .before .enum-told2 .given .1) (omega (arith, c .before .pages .ensures, c .if1 .left))
 
 returns-4 : tie.Need-returns-4
@@ -82,9 +82,9 @@ returns-4 c =
     let a = s .before .before .before .before .before .args in
     told-payload pageSize (a .patch .now) (a .full .now) (a .block)
     (s .before .before .slot-at .result) (s .before .part .result .now) (s .slot-state .result)
-    (s .before .before .slot-at .ensures) (s .before .part .ensures) (s .slot-state .ensures)
+    (s .before .before .slot-at .ensures) (s .before .part .ensures .0) (s .slot-state .ensures)
     (k .before .before .before .n .given .0 .0) (k .before .part2 .result .now) (k .check .result)
-    (k .before .before .before .n .given .1) (k .before .part2 .ensures) (k .check .ensures)
+    (k .before .before .before .n .given .1) (k .before .part2 .ensures .0) (k .check .ensures)
     (c .enum-told3 .given .1)
 
 returns-5 : tie.Need-returns-5
@@ -95,9 +95,9 @@ returns-5 c =
     c .place-fault .ensures
     ∙ told-patched pageSize (a .patch .now) (a .full .now) (a .block)
     (s .before .before .slot-at .result) (s .before .part .result .now) (s .slot-state .result)
-    (s .before .before .slot-at .ensures) (s .before .part .ensures) (s .slot-state .ensures)
+    (s .before .before .slot-at .ensures) (s .before .part .ensures .0) (s .slot-state .ensures)
     (k .before .before .before .n .given .0 .0) (k .before .part2 .result .now) (k .check .result)
-    (k .before .before .before .n .given .1) (k .before .part2 .ensures) (k .check .ensures)
+    (k .before .before .before .n .given .1) (k .before .part2 .ensures .0) (k .check .ensures)
     (c .before .enum-told4 .given .1)
 
 returns-6 : tie.Need-returns-6
@@ -107,7 +107,7 @@ returns-6 c =
     c .place-fault2 .ensures
     ∙ told-empty pageSize (a .patch .now) (a .full .now) (a .block)
     (s .before .before .slot-at .result) (s .before .part .result .now) (s .slot-state .result)
-    (s .before .before .slot-at .ensures) (s .before .part .ensures) (s .slot-state .ensures)
+    (s .before .before .slot-at .ensures) (s .before .part .ensures .0) (s .slot-state .ensures)
     (c .before .enum-told5 .given .1)
 
 pub block-fault-spec : {M : Type 1} → statement M

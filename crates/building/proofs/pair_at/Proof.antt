@@ -1,7 +1,7 @@
 use Rattle.building.specs.Steps.{kindPair}
 use Rattle.layout.specs.Sizes.{blocksAtMost, slotSize, slotAt, pageSize}
-use Rattle.layout.specs.Areas.{blocksIn}
-use Rattle.layout.specs.AreaLaws.{patch-fits-is, slot-within}
+use Rattle.layout.specs.Lengths.{blocksIn}
+use Rattle.layout.specs.LengthLaws.{patch-fits-is, slot-within}
 use Rattle.blockmap.specs.PackLaws.{pair-used, pair-unused}
 use Rattle.blockmap.specs.Pack.{pairOf}
 use lib.ListN.{length, getD}

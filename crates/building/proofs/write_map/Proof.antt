@@ -1,6 +1,6 @@
 use Rattle.layout.specs.Sizes.{blocksAtMost, pageSize}
-use Rattle.layout.specs.Areas.{blocksIn}
-use Rattle.layout.specs.AreaLaws.{patch-fits-is}
+use Rattle.layout.specs.Lengths.{blocksIn}
+use Rattle.layout.specs.LengthLaws.{patch-fits-is}
 use Rattle.building.specs.Steps.{kindPair}
 use Rattle.building.specs.MapLaws.{map-turn}
 use Rattle.blockmap.specs.Pack.{packedFirst, packed}

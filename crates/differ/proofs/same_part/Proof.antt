@@ -21,8 +21,8 @@ returns c =
     let p = c .before .before .part in
     let q = c .before .part2 in
     c .same .ensures
-    ∙ ap (λ (l : List ℕ). same l (q .result .now)) (p .ensures)
-    ∙ ap (λ (l : List ℕ). same (part (a .at) (a .n) (a .a .now)) l) (q .ensures)
+    ∙ ap (λ (l : List ℕ). same l (q .result .now)) (p .ensures .0)
+    ∙ ap (λ (l : List ℕ). same (part (a .at) (a .n) (a .a .now)) l) (q .ensures .0)
 
 pub same-part-spec : {M : Type 1} → statement M
 same-part-spec = tie.close (tie.spec part-requires part-requires-2 same-requires returns)

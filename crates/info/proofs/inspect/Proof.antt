@@ -76,7 +76,7 @@ returns-5 c =
       numbers =
           sym
           (broken-told pageSize bytes (payload .result .now) n (checked .check .result) (state .before .if1 .left) is
-          (payload .ensures) (checked .check .ensures) (c .enum-told4 .given .1));
+          (payload .ensures .0) (checked .check .ensures) (c .enum-told4 .given .1));
     }
 
 returns-6 : tie.Need-returns-6
@@ -95,7 +95,7 @@ returns-6 c =
       numbers =
           sym
           (patch-told pageSize bytes (payload .result .now) n (checked .check .result) (state .before .if1 .left) is
-          (payload .ensures) (checked .check .ensures) (sound .0 .0) l (toZ w32 (ofZ w32 l)) (sound .1) (toZ-ofZ w32 l fits));
+          (payload .ensures .0) (checked .check .ensures) (sound .0 .0) l (toZ w32 (ofZ w32 l)) (sound .1) (toZ-ofZ w32 l fits));
     }
 
 pub inspect-spec : {M : Type 1} → statement M

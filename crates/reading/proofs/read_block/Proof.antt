@@ -5,7 +5,7 @@ use Rattle.stream.specs.Laws.{base-some}
 use Rattle.stream.specs.Calls.{pageOf}
 use Rattle.slots.specs.Slots.{slotNumbers, soundSlot, stateNumbers, payloadOf}
 use Rattle.slots.specs.SlotLaws.{told-patch}
-use Rattle.layout.specs.Areas.{pagesIn}
+use Rattle.layout.specs.Lengths.{pagesIn}
 use Rattle.span.specs.Laws.{part-length}
 use Rattle.span.specs.Bytes.{part}
 use Rattle.store.specs.Block.{slotOf, placeOf}
@@ -58,7 +58,7 @@ returns c =
     let at = c .before .before .before .before .before .before .before .before .before .before .before in
     let a = at .args in
     let s : List ℕ = slotOf (a .patch .now) (a .block) in
-    let same-slot : c .before .before .before .before .before .part .result .now ≡ s = c .before .before .before .before .before .part .ensures
+    let same-slot : c .before .before .before .before .before .part .result .now ≡ s = c .before .before .before .before .before .part .ensures .0
     ∙ ap (λ (k : ℕ). part k slotSize (a .patch .now)) (c .before .before .before .before .before .before .slot-at .ensures) in
     let numbers : stateNumbers (c .before .before .before .before .slot-state .result) ≡ slotNumbers s = c .before .before .before .before .slot-state
     .ensures ∙ ap (λ (l : List ℕ). slotNumbers l) same-slot in
@@ -83,7 +83,7 @@ returns-2 c =
     let at = c .before .before .before .before .before .before .before .before .before in
     let a = at .args in
     let s : List ℕ = slotOf (a .patch .now) (a .block) in
-    let same-slot : c .before .before .before .part .result .now ≡ s = c .before .before .before .part .ensures
+    let same-slot : c .before .before .before .part .result .now ≡ s = c .before .before .before .part .ensures .0
     ∙ ap (λ (k : ℕ). part k slotSize (a .patch .now)) (c .before .before .before .before .slot-at .ensures) in
     let numbers : stateNumbers (c .before .before .slot-state .result) ≡ slotNumbers s = c .before .before .slot-state .ensures
     ∙ ap (λ (l : List ℕ). slotNumbers l) same-slot in
@@ -102,7 +102,7 @@ returns-3 c =
     let a = at .args in
     let s : List ℕ = slotOf (a .patch .now) (a .block) in
     let same-slot : c .before .before .before .before .before .before .before .part .result .now ≡ s = c .before .before .before .before .before .before
-    .before .part .ensures ∙ ap (λ (k : ℕ). part k slotSize (a .patch .now))
+    .before .part .ensures .0 ∙ ap (λ (k : ℕ). part k slotSize (a .patch .now))
     (c .before .before .before .before .before .before .before .before .slot-at .ensures) in
     let numbers : stateNumbers (c .before .before .before .before .before .before .slot-state .result) ≡ slotNumbers s = c .before .before .before .before
     .before .before .slot-state .ensures ∙ ap (λ (l : List ℕ). slotNumbers l) same-slot in
@@ -129,7 +129,7 @@ returns-4 c =
     let a = at .args in
     let s : List ℕ = slotOf (a .patch .now) (a .block) in
     let same-slot : c .before .before .before .before .before .before .before .before .before .part .result .now
-    ≡ s = c .before .before .before .before .before .before .before .before .before .part .ensures
+    ≡ s = c .before .before .before .before .before .before .before .before .before .part .ensures .0
     ∙ ap (λ (k : ℕ). part k slotSize (a .patch .now)) (c .before .before .before .before .before .before .before .before .before .before .slot-at
     .ensures) in
     let numbers : stateNumbers (c .before .before .before .before .before .before .before .before .slot-state .result)
@@ -137,7 +137,7 @@ returns-4 c =
     ∙ ap (λ (l : List ℕ). slotNumbers l) same-slot in
     let n : ℕ = c .before .before .before .before .before .before .n .given .0 .0 in
     let told : slotNumbers s ≡ soundSlot 1 n = sym numbers ∙ ap stateNumbers (c .before .before .before .before .before .before .n .given .1) in
-    let payload : c .before .before .before .before .part2 .result .now ≡ payloadOf s = c .before .before .before .before .part2 .ensures
+    let payload : c .before .before .before .before .part2 .result .now ≡ payloadOf s = c .before .before .before .before .part2 .ensures .0
     ∙ ap (λ (l : List ℕ). part payloadAt n l) same-slot ∙ ap (λ (k : ℕ). part payloadAt k s) (sym (told-patch s n (sym told) .1)) in
     let lb : length (a .base .now) ≡ pageSize = at .pre .0 .0 in
     patch-read pageSize (a .patch .now) (a .full .now) (a .block) (a .base .now) (a .page .now) n (c .before .before .before .before .part2 .result .now)
@@ -154,7 +154,7 @@ returns-5 c =
     let a = at .args in
     let s : List ℕ = slotOf (a .patch .now) (a .block) in
     let same-slot : c .before .before .before .before .before .before .before .before .before .before .before .part .result .now
-    ≡ s = c .before .before .before .before .before .before .before .before .before .before .before .part .ensures
+    ≡ s = c .before .before .before .before .before .before .before .before .before .before .before .part .ensures .0
     ∙ ap (λ (k : ℕ). part k slotSize (a .patch .now)) (c .before .before .before .before .before .before .before .before .before .before .before .before
     .slot-at .ensures) in
     let numbers : stateNumbers (c .before .before .before .before .before .before .before .before .before .before .slot-state .result)
@@ -170,7 +170,7 @@ returns-5 c =
     slot-full pageSize (a .patch .now) (a .full .now) (a .block) (a .base .now) (a .page .now) (sym numbers
     ∙ ap stateNumbers (c .before .before .before .before .before .before .before .before .enum-told3 .given .1)) below in
     let p : c .before .before .before .part3 .result .now ≡ part (pageAt pageSize (a .block)) pageSize (a .full .now) = c .before .before .before .part3
-    .ensures ∙ ap (λ (k : ℕ). part k pageSize (a .full .now)) (c .before .before .before .before .page-at .ensures) in
+    .ensures .0 ∙ ap (λ (k : ℕ). part k pageSize (a .full .now)) (c .before .before .before .before .page-at .ensures) in
     let l : length (c .before .before .before .part3 .result .now) ≡ pageSize = ap (λ (x : List ℕ). length x) p
     ∙ part-length (pageAt pageSize (a .block)) pageSize (a .full .now) (at .pre .1 (a .block) below) in
     record {

@@ -1,7 +1,8 @@
 use borrow.Author.Needs.{needs}
 use Prim.Native.Nat.{ℕ, _+_, _-_, min}
 use native.Mathlib.Omega.{arith}
-use mathlib.Core.Path.{_≡_, sym, ap, _∙_}
+use mathlib.Core.Path.{_≡_, refl, sym, ap, _∙_}
+use borrow.Author.Tests.{le-leb, lt-leb}
 use lib.ListN.{length, take, drop}
 use Rattle.span.specs.Bytes.{part}
 use Rattle.span.specs.Laws.{part-past, part-clamped}
@@ -19,8 +20,10 @@ part-result-end c = search needs
 
 returns : tie.Need-returns
 returns c =
-    let a = c .before .before .before .args in
-    sym (part-past (a .at) (a .n) (a .s .now) (omega arith))
+    let a = c .before .before .before .args in (
+      sym (part-past (a .at) (a .n) (a .s .now) (omega arith)),
+      (refl, rw (le-leb (length (a .s .now)) (a .at) (omega arith)) (omega arith)),
+    )
 
 sub-shorter : tie.Need-sub-shorter
 sub-shorter c = search needs
@@ -44,8 +47,10 @@ returns-2 : tie.Need-returns-2
 unfolding part
 returns-2 c =
     let a = c .before .before .before .before .args in
-    let e : a .at + c .before .shorter .result - a .at ≡ min (a .n) (length (a .s .now) - a .at) = omega arith in
-    ap (λ (k : ℕ). take k (drop (a .at) (a .s .now))) e ∙ part-clamped (a .at) (a .n) (a .s .now)
+    let e : a .at + c .before .shorter .result - a .at ≡ min (a .n) (length (a .s .now) - a .at) = omega arith in (
+      ap (λ (k : ℕ). take k (drop (a .at) (a .s .now))) e ∙ part-clamped (a .at) (a .n) (a .s .now),
+      (refl, rw (lt-leb (length (a .s .now)) (a .at) (omega arith)) (omega arith)),
+    )
 
 pub part-spec : {M : Type 1} → statement M
 part-spec =

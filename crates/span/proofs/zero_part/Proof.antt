@@ -17,7 +17,7 @@ returns c =
     let p : List ℕ = part (a .at) (a .n) (a .s .now) in
     sym
     (same-false p (zeros (a .n))
-    (λ e. c .if1 .taken (ap (λ (l : List ℕ). length l) (c .before .part .ensures ∙ e) ∙ zeros-length (a .n))))
+    (λ e. c .if1 .taken (ap (λ (l : List ℕ). length l) (c .before .part .ensures .0 ∙ e) ∙ zeros-length (a .n))))
 
 all-zero-requires : tie.Need-all-zero-requires
 all-zero-requires c κs = search needs
@@ -26,7 +26,7 @@ returns-2 : tie.Need-returns-2
 returns-2 c =
     let a = c .before .before .before .before .args in
     let p = c .before .before .part in
-    c .all-zero .ensures ∙ ap (λ (k : ℕ). same (p .result .now) (zeros k)) (c .before .if1 .left) ∙ ap (λ (l : List ℕ). same l (zeros (a .n))) (p .ensures)
+    c .all-zero .ensures ∙ ap (λ (k : ℕ). same (p .result .now) (zeros k)) (c .before .if1 .left) ∙ ap (λ (l : List ℕ). same l (zeros (a .n))) (p .ensures .0)
 
 pub zero-part-spec : {M : Type 1} → statement M
 zero-part-spec = tie.close (tie.spec part-requires returns all-zero-requires returns-2)

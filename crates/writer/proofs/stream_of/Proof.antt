@@ -16,7 +16,7 @@ part-requires c κs = search needs
 encode-requires : tie.Need-encode-requires
 encode-requires c κs =
     let a = c .before .before .before .before .before .args in
-    let e : length (c .before .part .result .now) ≡ length (part 0 65536 (a .page .now)) = ap (λ (l : List ℕ). length l) (c .before .part .ensures) in
+    let e : length (c .before .part .result .now) ≡ length (part 0 65536 (a .page .now)) = ap (λ (l : List ℕ). length l) (c .before .part .ensures .0) in
     omega (arith, part-short 0 65536 (a .page .now))
 
 same-length : tie.Need-same-length
@@ -26,7 +26,7 @@ returns : tie.Need-returns
 returns c =
     let a = c .before .before .before .before .before .before .before .before .args in
     subst (λ (l : List ℕ). Differs (a .base .now) l (a .room .now) (c .before .before .encode .result) (c .before .before .encode .last .1 .1 .0))
-    (c .before .before .before .before .part .ensures) (c .before .before .encode .ensures)
+    (c .before .before .before .before .part .ensures .0) (c .before .before .encode .ensures)
 
 pub stream-of-spec : {M : Type 1} → statement M
 stream-of-spec = tie.close (tie.spec part-requires encode-requires same-length returns)

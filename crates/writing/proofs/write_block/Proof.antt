@@ -3,7 +3,7 @@ use Rattle.writing.specs.Parts.{blockOutcome}
 use Rattle.writing.specs.Write.{decidedKind, decidedStream, WriteNumbers}
 use Rattle.writing.specs.Carry.{carriedPatch, carriedFull}
 use Rattle.writing.specs.WriteLaws.{block-missing, block-done}
-use Rattle.layout.specs.Areas.{pagesIn}
+use Rattle.layout.specs.Lengths.{pagesIn}
 use Rattle.layout.specs.Numbers.{kindNumber}
 use Rattle.layout.specs.Sizes.{pageSize}
 use lib.ListN.{length}

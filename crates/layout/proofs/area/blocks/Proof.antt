@@ -1,4 +1,4 @@
-use Rattle.layout.specs.Areas.{blocksIn}
+use Rattle.layout.specs.Lengths.{blocksIn}
 use native.Mathlib.Omega.{arith}
 use Rattle.layout.proofs.area.blocks.Statement.{statement}
 use Rattle.layout.proofs.area.blocks.Tie as tie

@@ -1,5 +1,5 @@
-use Rattle.layout.specs.Areas.{patchFits, fullFits, blocksIn}
-use Rattle.layout.specs.AreaLaws.{patch-fits-is}
+use Rattle.layout.specs.Lengths.{patchFits, fullFits, blocksIn}
+use Rattle.layout.specs.LengthLaws.{patch-fits-is}
 use Rattle.layout.specs.Sizes.{pageSize, blocksAtMost}
 use mathlib.Core.Bool.{true, false}
 use mathlib.Core.Path.{_≡_, sym, ap, _∙_}

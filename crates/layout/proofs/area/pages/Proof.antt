@@ -1,4 +1,4 @@
-use Rattle.layout.specs.Areas.{pagesIn}
+use Rattle.layout.specs.Lengths.{pagesIn}
 use native.Mathlib.Omega.{arith}
 use Rattle.layout.proofs.area.pages.Statement.{statement}
 use Rattle.layout.proofs.area.pages.Tie as tie

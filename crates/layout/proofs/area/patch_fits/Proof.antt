@@ -4,7 +4,7 @@ use lib.Dec.{eqb, leb}
 use mathlib.Core.Bool.{Bool, true, false, _&&_, and-true, and-false}
 use mathlib.Core.Path.{_≡_, sym, ap, _∙_}
 use Prim.Native.Nat.{ℕ}
-use Rattle.layout.specs.Areas.{patchFits, blocksIn}
+use Rattle.layout.specs.Lengths.{patchFits, blocksIn}
 use native.Mathlib.Omega.{arith}
 use borrow.Author.Needs.{needs}
 use Rattle.layout.proofs.area.patch_fits.Statement.{statement}

@@ -7,8 +7,8 @@ use Rattle.slots.specs.Slots.{isPatch, payloadLength}
 use Rattle.slots.specs.SlotLaws.{length-none, length-some}
 use Rattle.layout.specs.Refusals.{firstOf}
 use Rattle.headers.specs.Headers.{patchHeadRows}
-use Rattle.layout.specs.Areas.{blocksIn, patchFits}
-use Rattle.layout.specs.AreaLaws.{patch-fits-is}
+use Rattle.layout.specs.Lengths.{blocksIn, patchFits}
+use Rattle.layout.specs.LengthLaws.{patch-fits-is}
 use Rattle.layout.specs.Numbers.{faultNumber, refusalNumber}
 use Rattle.layout.specs.NumberLaws.{refusal-some}
 use Rattle.layout.specs.Sizes.{pageSize, slotSize, slotAt, payloadAt, blocksAtMost}
@@ -86,7 +86,7 @@ unfolding slotOf
 judged c =
     let a = c .before .before .before .before .before .before .before .before .before .before .before .args in
     let f = c .before .before .before .before .before .before .before .before .before .patch-fits in
-    let same-slot : c .before .part .result .now ≡ slotOf (a .patch .now) (a .block) = c .before .part .ensures
+    let same-slot : c .before .part .result .now ≡ slotOf (a .patch .now) (a .block) = c .before .part .ensures .0
     ∙ ap (λ (k : ℕ). part k slotSize (a .patch .now)) (c .before .before .slot-at .ensures) in (
       on (f .result) (f .ensures) (c .before .before .before .before .before .before .before .before .if1 .left),
       sym (c .before .before .before .before .before .before .before .patch-fault .ensures)

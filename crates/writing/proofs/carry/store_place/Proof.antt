@@ -1,5 +1,5 @@
 use Rattle.writing.specs.CarryLaws.{nothing-stored, zeros-stored, page-stored}
-use Rattle.layout.specs.Areas.{pagesIn}
+use Rattle.layout.specs.Lengths.{pagesIn}
 use Rattle.layout.specs.Numbers.{kindNumber}
 use Rattle.layout.specs.Sizes.{pageSize, pageAt}
 use lib.ListN.{length}

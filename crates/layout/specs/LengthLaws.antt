@@ -8,7 +8,7 @@ use mathlib.Core.Path.{_≡_, refl, ap, _∙_}
 use lib.Dec.{eqb, leb}
 use borrow.Author.Tests.{eqb-true, leb-true, eq-eqb, ne-eqb, le-leb}
 use Rattle.layout.specs.Sizes.{blocksAtMost, fullHead, slotSize, slotAt, pageAt}
-use Rattle.layout.specs.Areas.{blocksIn, pagesIn, patchFits, fullFits}
+use Rattle.layout.specs.Lengths.{blocksIn, pagesIn, patchFits, fullFits}
 
 -- what sound lengths are: 512 + 512·n bytes with n not above the most, and 0 or 4,096 + P·m bytes with m not above n
 pub patch-fits-is : (P l : ℕ) → patchFits P l ≡ true → (l ≡ slotAt (blocksIn l)) × (blocksIn l ≤ blocksAtMost P)
