@@ -15,7 +15,8 @@ use Rattle.slots.specs.SlotLaws.{told-patch}
 use Rattle.slots.specs.declared.SlotState.{SlotState}
 use Rattle.slots.specs.declared.SlotState.the-variants.{Empty, Patch, Full, Unsound}
 use Rattle.payload.specs.Entries.{sound}
-use Rattle.payload.specs.Steps.{Judges}
+use Rattle.payload.specs.Steps.{checkedNumbers, checkNumbers}
+use Rattle.payload.specs.StepLaws.{Judges, judged}
 use Rattle.payload.specs.declared.Checked.{Checked}
 use Rattle.payload.specs.declared.Checked.the-variants.{Unsound as Broken, Sound}
 use Rattle.span.specs.Laws.{and-left}
@@ -57,7 +58,7 @@ module _ (P : ℕ) (patch full : List ℕ) (b at : ℕ) (slot : List ℕ) (r : S
   pub told-empty : r ≡ Empty → straysIn P full b ≡ blockFault P patch full b
   told-empty q = sym (block-empty P patch full b (state q))
 
-  module _ (n : ℕ) (payload : List ℕ) (j : Checked) (q : r ≡ Patch n) (h : payload ≡ part payloadAt n slot) (judged : Judges P payload j) where
+  module _ (n : ℕ) (payload : List ℕ) (j : Checked) (q : r ≡ Patch n) (h : payload ≡ part payloadAt n slot) (numbers : checkedNumbers j ≡ checkNumbers P payload) where
     same-payload : payload ≡ payloadOf (slotOf patch b)
     unfolding payloadOf
     same-payload =
@@ -69,10 +70,10 @@ module _ (P : ℕ) (patch full : List ℕ) (b at : ℕ) (slot : List ℕ) (r : S
     is-sound = sym (ap (λ (p : List ℕ). sound P p) same-payload)
 
     pub told-payload : j ≡ Broken → 7 ≡ blockFault P patch full b
-    told-payload w = sym (block-payload P patch full b n (state q) (is-sound ∙ subst (λ (x : Checked). Judges P payload x) w judged))
+    told-payload w = sym (block-payload P patch full b n (state q) (is-sound ∙ subst (λ (x : Checked). Judges P payload x) w (judged P payload j numbers)))
 
     pub told-patched : {count : ℕ} {last : ℤ} → j ≡ Sound count last → straysIn P full b ≡ blockFault P patch full b
-    told-patched w = sym (block-patch P patch full b n (state q) (is-sound ∙ subst (λ (x : Checked). Judges P payload x) w judged .is))
+    told-patched w = sym (block-patch P patch full b n (state q) (is-sound ∙ subst (λ (x : Checked). Judges P payload x) w (judged P payload j numbers) .is))
 
 -- the frame, as the code asks for it
 module _ (P : ℕ) (patch full map : List ℕ) (n k x : ℕ) (e : n ≡ blocksIn (length patch)) (f : k ≡ mapBytes n)

@@ -117,13 +117,15 @@ pub record Fields : Type 0 where
   pub patch-flags : number (part 10 2 (patchHeader 8192)) ≡ 0
   pub patch-page : number (part 12 4 (patchHeader 8192)) ≡ 8192
   pub patch-slot : number (part 16 4 (patchHeader 8192)) ≡ 512
+  pub patch-rest : part 20 492 (patchHeader 8192) ≡ zeros 492
   pub full-magic : part 0 8 (fullHeader 8192) ≡ 0x50 ∷ 0x42 ∷ 0x4B ∷ 0x46 ∷ 0x55 ∷ 0x4C ∷ 0x4C ∷ 0 ∷ []
   pub full-version : number (part 8 2 (fullHeader 8192)) ≡ 1
   pub full-flags : number (part 10 2 (fullHeader 8192)) ≡ 0
   pub full-page : number (part 12 4 (fullHeader 8192)) ≡ 8192
+  pub full-rest : part 16 4080 (fullHeader 8192) ≡ zeros 4080
 
 pub fields : Fields
-unfolding part number patchHeader fullHeader header patchFields fullFields le
+unfolding part zeros number patchHeader fullHeader header patchFields fullFields le
 fields =
     record {
       patch-magic = refl;
@@ -131,8 +133,10 @@ fields =
       patch-flags = refl;
       patch-page = refl;
       patch-slot = refl;
+      patch-rest = refl;
       full-magic = refl;
       full-version = refl;
       full-flags = refl;
       full-page = refl;
+      full-rest = refl;
     }

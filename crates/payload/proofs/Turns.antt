@@ -15,7 +15,8 @@ use mir.ValLaws.{toZ-ofZ}
 use borrow.Author.Tests.{le-leb, lt-leb, ltb-true}
 use Rattle.layout.specs.Sizes.{room}
 use Rattle.payload.specs.Entries.{Stream, done, cut, out, code, inPage, stream, start, payloadStream, whole, sound, entries, last, put, applied}
-use Rattle.payload.specs.Steps.{Follows, Entered, SoundAs}
+use Rattle.payload.specs.Steps.{Follows, Entered}
+use Rattle.payload.specs.StepLaws.{SoundAs}
 use Rattle.payload.specs.declared.Step.{Step}
 
 -- A step's answer, once a `match` has told which it is.

@@ -1,11 +1,11 @@
 -- What the pieces of the reader owe their callers: the step, and the check of a whole payload.
 use Prim.Native.Nat.{ℕ, _-_, _<_, _≤_, min}
 use mathlib.Core.Path.{_≡_}
-use mathlib.Core.Bool.{Bool, true, false}
+use mathlib.Core.Bool.{Bool, true, false, cond}
 use mathlib.Core.List.{List}
 use mathlib.Core.Logic.{_⊎_}
 use lib.ListN.{length, drop}
-use lib.IntN.{ℤ}
+use lib.IntN.{ℤ, pos}
 use Rattle.payload.specs.Entries.{Stream, done, cut, out, entry, code, inPage, stream, start, payloadStream, sound}
 use Rattle.payload.specs.Entries.{entries as entriesOf, last as lastOf}
 use Rattle.payload.specs.declared.Step.{Step}
@@ -39,13 +39,19 @@ abbrev pub landing : Bool → ℤ → ℕ → ℕ → Step
 landing true q v next = Entry q v next
 landing false q v next = Broken
 
--- The check of a whole payload
+-- The check of a whole payload: the paper's numbers for each case of its answer, 7 where the payload is not sound
 
-pub record SoundAs (n : ℕ) (payload : List ℕ) (count : ℕ) (at : ℤ) : Type 0 where
-  pub is : sound n payload ≡ true
-  pub entries : count ≡ entriesOf (payloadStream n payload)
-  pub last : at ≡ lastOf start (payloadStream n payload)
+pub record CheckedNumbers : Type 0 where
+  pub number : ℕ
+  pub entries : ℕ
+  pub last : ℤ
 
-abbrev pub Judges : ℕ → List ℕ → Checked → Type 0
-Judges n payload Unsound = sound n payload ≡ false
-Judges n payload (Sound count at) = SoundAs n payload count at
+abbrev pub checkedNumbers : Checked → CheckedNumbers
+checkedNumbers Unsound = record { number = 7; entries = 0; last = pos 0 }
+checkedNumbers (Sound count at) = record { number = 0; entries = count; last = at }
+
+unfoldable pub checkNumbers : ℕ → List ℕ → CheckedNumbers
+checkNumbers n payload =
+    cond (sound n payload)
+    (record { number = 0; entries = entriesOf (payloadStream n payload); last = lastOf start (payloadStream n payload) })
+    (record { number = 7; entries = 0; last = pos 0 })

@@ -5,7 +5,7 @@ use layout::Layout;
 ghost use mathlib.Core.Path.{_≡_};
 ghost use lib.ListN.{length};
 ghost use Rattle.payload.specs.Entries.{longCode, shortEntry, longEntry, payloadStream, applied};
-ghost use Rattle.payload.specs.Steps.{farthest, reach, Judges};
+ghost use Rattle.payload.specs.Steps.{farthest, reach, checkedNumbers, checkNumbers};
 
 // What stands next in a payload: nothing more, no whole entry that stays in the page, or an entry's place and value, and where the
 // payload goes on after it.
@@ -49,7 +49,7 @@ impl Code {
 
 // Whether a payload is sound in a page of this size, its number of entries and its last position.
 pub fn check(payload: &[u8], size: usize) -> Checked
-    ensures { λ r. ⌜ Judges (reach size) (now (payload .entry)) r ⌝ }
+    ensures { λ r. ⌜ checkedNumbers r ≡ checkNumbers (reach size) (now (payload .entry)) ⌝ }
 {
     if payload.len() == 0 {
         return Checked::Unsound;

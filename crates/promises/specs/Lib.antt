@@ -18,6 +18,7 @@ pub mod RunLaws
 pub mod DemandThree
 pub mod Answers
 pub mod Determined
+pub mod Leaves
 pub mod Kept
 pub mod DemandOne
 pub mod Sample

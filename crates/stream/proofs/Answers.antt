@@ -19,7 +19,8 @@ use Rattle.layout.specs.declared.Kind.the-variants.{Patch}
 use Rattle.layout.specs.declared.Refusal.the-variants.{Page, Payload, Buffer}
 use Rattle.payload.specs.Entries.{payloadStream, sound, entries, last, applied}
 use Rattle.writer.specs.Differences.{diffs, coded, written}
-use Rattle.payload.specs.Steps.{farthest, reach, SoundAs}
+use Rattle.payload.specs.Steps.{farthest, reach}
+use Rattle.payload.specs.StepLaws.{SoundAs}
 use Rattle.writer.specs.Steps.{near, Differs}
 use Rattle.stream.specs.Steps.{Applies, application, Compares}
 use Rattle.stream.specs.Calls.{pageOf, pagesFit, applyRows, Apply, appliedNumbers, kindFor, compareRows, comparison, compareNumbers, compareBuffer}

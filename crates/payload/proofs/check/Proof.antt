@@ -8,6 +8,7 @@ use Rattle.payload.specs.declared.Step.the-variants.{End, Broken, Entry}
 use Rattle.payload.specs.Entries.{stream, code}
 use Rattle.payload.specs.Steps.{reach, Follows}
 use Rattle.payload.proofs.Turns.{told, place-back, Passed, passed-none, passed-more, passed-all, passed-broken, unsound-empty, unsound-long}
+use Rattle.payload.specs.StepLaws.{unsound-told, sound-told}
 use borrow.Author.Needs.{needs}
 use Rattle.payload.proofs.check.Statement.{statement}
 use Rattle.payload.proofs.check.Tie as tie
@@ -21,12 +22,12 @@ abbrev μ-loop : tie.MeasureT-loop
 returns : tie.Need-returns Inv-loop μ-loop
 returns c =
     let a = c .before .before .args in
-    unsound-empty (reach (a .size)) (a .payload .now) (c .if1 .taken)
+    unsound-told (reach (a .size)) (a .payload .now) (unsound-empty (reach (a .size)) (a .payload .now) (c .if1 .taken))
 
 returns-2 : tie.Need-returns-2 Inv-loop μ-loop
 returns-2 c =
     let a = c .before .before .before .args in
-    unsound-long (reach (a .size)) (a .payload .now) (c .if2 .taken)
+    unsound-told (reach (a .size)) (a .payload .now) (unsound-long (reach (a .size)) (a .payload .now) (c .if2 .taken))
 
 loop-holds : tie.Need-loop-holds Inv-loop μ-loop
 loop-holds c =
@@ -47,7 +48,8 @@ returns-3 c =
     End =
     told (reach (a .size)) (a .payload .now) (l .place) (stream (reach (a .size)) (toZ w32 (l .last)) code (drop (l .place) (a .payload .now)))
     (c .before .before .step .result) End (c .enum-told .given .1) (c .before .before .step .ensures) in
-    passed-all (reach (a .size)) (a .payload .now) (l .place) (toZ w32 (l .last)) (l .entries) (l .inv) (omega arith) (omega arith) f
+    sound-told (reach (a .size)) (a .payload .now) (l .entries) (toZ w32 (l .last))
+    (passed-all (reach (a .size)) (a .payload .now) (l .place) (toZ w32 (l .last)) (l .entries) (l .inv) (omega arith) (omega arith) f)
 
 enum-told-2 : tie.Need-enum-told-2 Inv-loop μ-loop
 enum-told-2 c = search needs
@@ -60,7 +62,8 @@ returns-4 c =
     Broken =
     told (reach (a .size)) (a .payload .now) (l .place) (stream (reach (a .size)) (toZ w32 (l .last)) code (drop (l .place) (a .payload .now)))
     (c .before .before .step .result) Broken (c .enum-told2 .given .1) (c .before .before .step .ensures) in
-    passed-broken (reach (a .size)) (a .payload .now) (l .place) (toZ w32 (l .last)) (l .entries) (l .inv) f
+    unsound-told (reach (a .size)) (a .payload .now)
+    (passed-broken (reach (a .size)) (a .payload .now) (l .place) (toZ w32 (l .last)) (l .entries) (l .inv) f)
 
 enum-known-at : tie.Need-enum-known-at Inv-loop μ-loop
 enum-known-at c = search needs

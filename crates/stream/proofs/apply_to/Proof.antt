@@ -6,7 +6,8 @@ use lib.ListN.{length}
 use Prim.Native.Nat.{ℕ}
 use mathlib.Core.Path.{subst}
 use Rattle.payload.specs.declared.Checked.{Checked}
-use Rattle.payload.specs.Steps.{reach, Judges, SoundAs}
+use Rattle.payload.specs.Steps.{reach}
+use Rattle.payload.specs.StepLaws.{Judges, SoundAs, judged}
 use Rattle.stream.proofs.Answers.{applies-unsound, applies-sound}
 use borrow.Author.Needs.{needs}
 use Rattle.stream.proofs.apply_to.Statement.{statement}
@@ -32,7 +33,8 @@ returns c =
     let a = c .before .before .before .before .before .before .args in
     let k : ℕ = reach (length (a .page .now)) in
     applies-unsound k (a .base .now) (a .payload .now) (a .page .now)
-    (subst (λ (r : Checked). Judges k (a .payload .now) r) (c .enum-told .given .1) (c .before .before .check .ensures))
+    (subst (λ (r : Checked). Judges k (a .payload .now) r) (c .enum-told .given .1)
+    (judged k (a .payload .now) (c .before .before .check .result) (c .before .before .check .ensures)))
 
 same-length : tie.Need-same-length
 same-length c = search needs
@@ -43,9 +45,10 @@ returns-2 c =
     let k : ℕ = reach (length (a .page .now)) in
     let e : ℕ = c .before .before .before .before .before .before .before .before .before .entries .given .0 .0 in
     let l : ℤ = c .before .before .before .before .before .before .before .before .before .entries .given .0 .1 .0 in
+    let checked = c .before .before .before .before .before .before .before .before .before .before .before .check in
     let s : SoundAs k (a .payload .now) e l = subst (λ (r : Checked). Judges k (a .payload .now) r)
     (c .before .before .before .before .before .before .before .before .before .entries .given .1)
-    (c .before .before .before .before .before .before .before .before .before .before .before .check .ensures) in
+    (judged k (a .payload .now) (checked .result) (checked .ensures)) in
     applies-sound (a .base .now) (a .payload .now) (a .page .now) (c .before .before .before .before .before .before .copy .last .0)
     (c .before .before .overlay .last .0) e l (toZ w32 (ofZ w32 l))
     (toZ-ofZ w32 l (record { sfits = c .before .before .before .before .before .before .before .before .known-told .given .1 .0 .1 })) s
