@@ -1,85 +1,109 @@
-// Runs the edges and the refusal orders of the paper: reads a case a line from standard input, makes its call, and prints what the
-// call answered and every lent byte that it changed. The cases and what must be printed were written by hand from the paper.
-mod calls;
-mod delta;
-mod fields;
-mod make;
-mod say;
+// Runs the edges and the refusal orders of the paper for the calls that are lent no areas: reads a case a line from standard input,
+// makes its call, and prints what the call answered and every lent byte that it changed. The cases and what must be printed were
+// written by hand from the paper.
+mod answers;
 
-use calls::Lengths;
-use fields::field;
+use cases::delta::delta;
+use cases::fields;
+use cases::fields::field;
+use cases::make::buffer;
+use cases::say;
 
-// The calls that are lent no areas.
-fn run_alone(call: &[u8], line: &[u8]) {
-    if differ::same(call, b"compare") {
-        calls::compare(line);
+// The calls by their first letters.
+const COMPARE: u8 = b'c';
+
+const APPLY: u8 = b'a';
+
+const JUDGE: u8 = b'j';
+
+const SLOTINFO: u8 = b's';
+
+const LOOK_UP: u8 = b'l';
+
+const TALLY: u8 = b't';
+
+// slotinfo | name | slot
+fn slotinfo(slot: &[u8]) {
+    let mut out = [0u8; info::text::LONGEST];
+    let n = info::text::report(&mut out, slot);
+    say::text(b"\n");
+    say::text(span::part(&out, 0, n));
+}
+
+// The calls on a slot: slotinfo, and judge | name | slot.
+fn on_slot(call: u8, slot: &[u8]) {
+    if call == JUDGE {
+        answers::judged(store::judge::judge(slot));
     }
-    if differ::same(call, b"apply") {
-        calls::apply(line);
-    }
-    if differ::same(call, b"judge") {
-        calls::judge(line);
-    }
-    if differ::same(call, b"slotinfo") {
-        calls::slotinfo(line);
-    }
-    if differ::same(call, b"look up") {
-        calls::look_up(line);
-    }
-    if differ::same(call, b"tally") {
-        calls::tally(line);
+    if call == SLOTINFO {
+        slotinfo(slot);
     }
 }
 
-// The calls on areas, which stay from line to line.
-fn run_areas(
-    call: &[u8],
-    line: &[u8],
-    patch: &mut [u8],
-    full: &mut [u8],
-    lengths: Lengths,
-) -> Lengths {
-    if differ::same(call, b"format") {
-        return calls::format(line, patch, full, lengths);
+// The calls on a map: look up | name | map | n | block, and tally | name | map | n.
+fn on_map(call: u8, line: &[u8], map: &[u8]) {
+    let n = fields::number(field(line, 3));
+    if call == LOOK_UP {
+        answers::looked(blockmap::look_up(map, n, fields::number(field(line, 4))));
     }
-    if differ::same(call, b"show") {
-        return calls::show(line, patch, full, lengths);
+    if call == TALLY {
+        answers::tallied(blockmap::tally(map, n));
     }
-    if differ::same(call, b"read") {
-        return calls::read(line, patch, full, lengths);
+}
+
+// compare | name | base | page | buffer
+fn compare(line: &[u8], base: &[u8], page: &[u8]) {
+    let lent = buffer(field(line, 4));
+    let was = lent.bytes;
+    let mut bytes = lent.bytes;
+    let room: &mut [u8] = &mut bytes;
+    let n = lent.length;
+    answers::compared(stream::compare(base, page, &mut room[0..n]));
+    delta(b"buffer", &was, room);
+}
+
+// apply | name | base | payload | page
+fn apply(line: &[u8], base: &[u8], payload: &[u8]) {
+    let lent = buffer(field(line, 4));
+    let was = lent.bytes;
+    let mut bytes = lent.bytes;
+    let page: &mut [u8] = &mut bytes;
+    let n = lent.length;
+    answers::applied(stream::apply(base, payload, &mut page[0..n]));
+    delta(b"page", &was, page);
+}
+
+// The calls on a page. What they change is lent to them.
+fn on_page(call: u8, line: &[u8], base: &[u8]) {
+    let second = buffer(field(line, 3));
+    let bytes = second.bytes;
+    let other = span::part(&bytes, 0, second.length);
+    if call == COMPARE {
+        compare(line, base, other);
     }
-    if differ::same(call, b"write") {
-        return calls::write(line, patch, full, lengths);
+    if call == APPLY {
+        apply(line, base, other);
     }
-    if differ::same(call, b"build") {
-        return calls::build(line, patch, full, lengths);
-    }
-    run_alone(call, line);
-    lengths
 }
 
 // One case.
-fn run(line: &[u8], patch: &mut [u8], full: &mut [u8], lengths: Lengths) -> Lengths {
-    let call = field(line, 0);
-    say::text(call);
-    say::text(b" ");
-    say::name(field(line, 1));
-    let here = run_areas(call, line, patch, full, lengths);
-    say::end();
-    here
+fn run(line: &[u8]) {
+    let call = say::case(line);
+    let first = buffer(field(line, 2));
+    let bytes = first.bytes;
+    let part = span::part(&bytes, 0, first.length);
+    on_slot(call, part);
+    on_map(call, line, part);
+    on_page(call, line, part);
+    say::text(b"\n");
 }
 
 fn run_all(text: &[u8]) {
-    let mut a = [0u8; calls::PATCH_ROOM];
-    let patch: &mut [u8] = &mut a;
-    let mut b = [0u8; calls::FULL_ROOM];
-    let full: &mut [u8] = &mut b;
-    let mut lengths = Lengths { patch: 0, full: 0 };
     let mut at = 0;
     while at < text.len() {
-        let n = fields::run_to(text, at, fields::LINE_END);
-        lengths = run(span::part(text, at, n), patch, full, lengths);
-        at += n + 1;
+        let line = fields::line_at(text, at);
+        run(line);
+        at += line.len() + 1;
     }
 }
 

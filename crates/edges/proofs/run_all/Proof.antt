@@ -5,25 +5,16 @@ use Rattle.edges.proofs.run_all.Statement.{statement}
 use Rattle.edges.proofs.run_all.Tie as tie
 
 abbrev Inv-loop : tie.InvT-loop
-Inv-loop text patch₀ full₀ lengths₀ at₀ patch full lengths at = Unit {0}
+Inv-loop text at₀ at = Unit {0}
 
 abbrev μ-loop : tie.MeasureT-loop
-μ-loop text patch₀ full₀ lengths₀ at₀ patch full lengths at = length text - at
-
-slice-aggregate-patch : tie.Need-slice-aggregate-patch Inv-loop μ-loop
-slice-aggregate-patch c = search needs
-
-slice-aggregate-full : tie.Need-slice-aggregate-full Inv-loop μ-loop
-slice-aggregate-full c = search needs
+μ-loop text at₀ at = length text - at
 
 loop-holds : tie.Need-loop-holds Inv-loop μ-loop
 loop-holds c = search needs
 
-run-to-requires : tie.Need-run-to-requires Inv-loop μ-loop
-run-to-requires c κs = search needs
-
-part-requires : tie.Need-part-requires Inv-loop μ-loop
-part-requires c κs = search needs
+line-at-requires : tie.Need-line-at-requires Inv-loop μ-loop
+line-at-requires c κs = search needs
 
 run-requires : tie.Need-run-requires Inv-loop μ-loop
 run-requires c κs = search needs
@@ -49,11 +40,8 @@ run-all-spec =
     (tie.spec
     Inv-loop
     μ-loop
-    slice-aggregate-patch
-    slice-aggregate-full
     loop-holds
-    run-to-requires
-    part-requires
+    line-at-requires
     run-requires
     add-at
     add-at-2

@@ -1,0 +1,68 @@
+// What the program prints of its calls' answers.
+use building::Built;
+use cases::say;
+use reading::Reading;
+use store::Formatted;
+use writing::Written;
+
+pub(crate) fn formatted(answer: Formatted) {
+    match answer {
+        Formatted::Done => {
+            say::number(0);
+        }
+        Formatted::Refused(r) => {
+            say::refused(r);
+        }
+    }
+}
+
+pub(crate) fn reading(answer: Reading) {
+    match answer {
+        Reading::Done { kind } => {
+            say::done(kind);
+        }
+        Reading::Refused(r) => {
+            say::refused(r);
+        }
+    }
+}
+
+pub(crate) fn written(answer: Written) {
+    match answer {
+        Written::Done { kind, length } => {
+            say::done(kind);
+            say::number(length as u64);
+        }
+        Written::Refused(r) => {
+            say::refused(r);
+        }
+    }
+}
+
+pub(crate) fn built(answer: Built) {
+    match answer {
+        Built::Done => {
+            say::number(0);
+            say::number(0);
+        }
+        Built::Refused { refusal, block } => {
+            say::refused(refusal);
+            say::number(block as u64);
+        }
+    }
+}
+
+fn wide(byte: u8) -> u64 {
+    byte as u64
+}
+
+// The first bytes, at most eight, in hexadecimal.
+pub(crate) fn first_bytes(bytes: &[u8]) {
+    say::text(b" ");
+    let end = span::shorter(bytes.len(), 8);
+    let mut i = 0;
+    while i < end {
+        io::print_hex(libc::STDOUT_FILENO, wide(bytes[i]), 2);
+        i += 1;
+    }
+}
