@@ -92,12 +92,12 @@ fn every_flipped_bit_comes_to_one_thing() {
 fn the_counts_tell_right_from_wrong() {
     let (store, blocks) = ground();
     let block = blocks[first(&store, Kind::Patch)].clone();
-    let mut small = Store::fresh(&[block.clone()], 1).expect("a store");
+    let mut small = Store::fresh(std::slice::from_ref(&block), 1).expect("a store");
     thonxiliko::write(&mut small.patch, &mut small.full, 0, &block.base, &block.page)
         .expect("a sound store");
     let place = |table: flips::Table| table[Part::ZeroPlace as usize];
 
-    let right = place(flips::count(&small, &[block.clone()]));
+    let right = place(flips::count(&small, std::slice::from_ref(&block)));
     assert_eq!((right.stray_right, right.stray_wrong), (right.bits, 0));
     let mut other = block;
     other.page[PAGE_SIZE - 1] ^= 1;
