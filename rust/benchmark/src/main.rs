@@ -1,7 +1,8 @@
 //! Prints how long each call takes, as tables in Markdown. With `--once` every contender gets one turn,
-//! to see that all of it works.
+//! to see that all of it works; with `--format` only Format of large areas is measured.
 
 mod calls;
+mod formats;
 mod limits;
 mod pages;
 mod segments;
@@ -78,13 +79,13 @@ fn print_targets(calls: &[calls::Row], segments: &[segments::Row]) {
     }
 }
 
-fn main() -> ExitCode {
-    let words: Vec<String> = std::env::args().skip(1).collect();
-    let once = words == ["--once"];
-    if !once && !words.is_empty() {
-        eprintln!("usage: benchmark [--once]");
-        return ExitCode::from(2);
-    }
+/// Format of large areas alone, which takes seconds and not minutes.
+fn print_formats() {
+    println!("{METHOD}");
+    print_segments(&formats::rows(formats::EFFORT, formats::BLOCKS));
+}
+
+fn print_all(once: bool) {
     println!("{METHOD}");
     println!("### Each call, warm buffers\n");
     let calls = calls::rows(if once { ONCE } else { calls::EFFORT });
@@ -94,7 +95,24 @@ fn main() -> ExitCode {
         if once { (ONCE, 1_024) } else { (segments::EFFORT, thonxiliko::MAX_BLOCKS) };
     let segments = segments::rows(effort, blocks);
     print_segments(&segments);
+    println!("\n### Format of large areas\n");
+    let (effort, blocks) = if once { (ONCE, 1_024) } else { (formats::EFFORT, formats::BLOCKS) };
+    print_segments(&formats::rows(effort, blocks));
     println!("\n### Targets\n");
     print_targets(&calls, &segments);
+}
+
+fn main() -> ExitCode {
+    let words: Vec<String> = std::env::args().skip(1).collect();
+    let words: Vec<&str> = words.iter().map(String::as_str).collect();
+    match words[..] {
+        [] => print_all(false),
+        ["--once"] => print_all(true),
+        ["--format"] => print_formats(),
+        _ => {
+            eprintln!("usage: benchmark [--once | --format]");
+            return ExitCode::from(2);
+        }
+    }
     ExitCode::SUCCESS
 }

@@ -20,28 +20,50 @@ const BETTER: f64 = 0.99;
 
 /// One way to do the work, and its best time so far.
 pub struct Contender<'c> {
-    work: Box<dyn FnMut() + 'c>,
+    /// Does the work so many times, and gives the nanoseconds that one of them took.
+    timed: Box<dyn FnMut(u32) -> f64 + 'c>,
     /// How often a sample does the work; 0 until that has been found out.
     repeats: u32,
     pub best: f64,
 }
 
 impl<'c> Contender<'c> {
-    pub fn new(work: impl FnMut() + 'c) -> Contender<'c> {
-        Contender { work: Box::new(work), repeats: 0, best: f64::MAX }
+    pub fn new(mut work: impl FnMut() + 'c) -> Contender<'c> {
+        Contender::by(move |repeats| {
+            let start = Instant::now();
+            for _ in 0..repeats {
+                work();
+            }
+            start.elapsed().as_nanos() as f64 / f64::from(repeats)
+        })
     }
 
-    fn time(&mut self, repeats: u32) -> f64 {
-        let start = Instant::now();
-        for _ in 0..repeats {
-            (self.work)();
-        }
-        start.elapsed().as_nanos() as f64 / f64::from(repeats)
+    /// Work on something that is made for it each time anew. Only the work is timed.
+    pub fn prepared<T>(
+        mut prepare: impl FnMut() -> T + 'c,
+        mut work: impl FnMut(&mut T) + 'c,
+    ) -> Contender<'c> {
+        Contender::by(move |repeats| {
+            let mut sum = 0.0;
+            for _ in 0..repeats {
+                let mut lent = prepare();
+                let start = Instant::now();
+                work(&mut lent);
+                sum += start.elapsed().as_nanos() as f64;
+            }
+            sum / f64::from(repeats)
+        })
+    }
+
+    fn by(timed: impl FnMut(u32) -> f64 + 'c) -> Contender<'c> {
+        Contender { timed: Box::new(timed), repeats: 0, best: f64::MAX }
     }
 
     fn find_repeats(&mut self) {
         self.repeats = 1;
-        while self.repeats < 1 << 20 && self.time(self.repeats) * f64::from(self.repeats) < SAMPLE {
+        while self.repeats < 1 << 20
+            && (self.timed)(self.repeats) * f64::from(self.repeats) < SAMPLE
+        {
             self.repeats *= 2;
         }
     }
@@ -52,9 +74,9 @@ impl<'c> Contender<'c> {
             self.find_repeats();
         }
         if self.best < WARMED {
-            (self.work)();
+            (self.timed)(1);
         }
-        let time = self.time(self.repeats);
+        let time = (self.timed)(self.repeats);
         let better = time < BETTER * self.best;
         self.best = self.best.min(time);
         better

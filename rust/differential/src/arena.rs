@@ -3,7 +3,9 @@
 //! A buffer is placed flush with one of them, so that a call that reads or writes past that end is
 //! killed on the spot; the other side is watched by a row of known bytes.
 
+use std::fs::File;
 use std::os::raw::{c_int, c_long, c_void};
+use std::os::unix::io::AsRawFd;
 use std::ptr;
 
 extern "C" {
@@ -23,6 +25,7 @@ extern "C" {
 const PROT_NONE: c_int = 0;
 const PROT_READ: c_int = 1;
 const PROT_WRITE: c_int = 2;
+const MAP_SHARED: c_int = 0x01;
 const MAP_PRIVATE: c_int = 0x02;
 const MAP_ANONYMOUS: c_int = 0x20;
 const MAP_NORESERVE: c_int = 0x4000;
@@ -32,7 +35,7 @@ const GUARD: usize = 65_536;
 const WATCHED: usize = 64;
 const WATCH_BYTE: u8 = 0xC5;
 
-/// Zeroed memory that takes no room until it is written.
+/// Zeroed memory that takes no room until it is written, or a file's bytes as memory.
 pub struct Mapping {
     start: *mut u8,
     length: usize,
@@ -40,18 +43,22 @@ pub struct Mapping {
 
 impl Mapping {
     pub fn new(length: usize) -> Mapping {
-        // SAFETY: an anonymous mapping at an address of the system's choice; checked below.
-        let start = unsafe {
-            mmap(
-                ptr::null_mut(),
-                length,
-                PROT_READ | PROT_WRITE,
-                MAP_PRIVATE | MAP_ANONYMOUS | MAP_NORESERVE,
-                -1,
-                0,
-            )
-        };
-        assert!(start as isize != -1, "no address space for {length} bytes");
+        Mapping::made(length, MAP_PRIVATE | MAP_ANONYMOUS | MAP_NORESERVE, -1)
+    }
+
+    /// The first bytes of a file, which must have as many: what is written here goes to the file. The
+    /// file must not be cut or written to by others as long as the mapping stands.
+    pub fn of_file(file: &File, length: usize) -> Mapping {
+        let has = file.metadata().expect("an open file").len();
+        assert!(length as u64 <= has, "{length} bytes of a file of {has}");
+        Mapping::made(length, MAP_SHARED, file.as_raw_fd())
+    }
+
+    fn made(length: usize, flags: c_int, file: c_int) -> Mapping {
+        // SAFETY: a new mapping at an address of the system's choice; checked below.
+        let start =
+            unsafe { mmap(ptr::null_mut(), length, PROT_READ | PROT_WRITE, flags, file, 0) };
+        assert!(start as isize != -1, "no mapping of {length} bytes");
         Mapping { start: start.cast(), length }
     }
 

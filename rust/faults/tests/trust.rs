@@ -1,0 +1,215 @@
+//! What docs/TRUST.md says of damaged stores is so. The promises are written here by hand, and the
+//! tables in the document must be those that the program prints.
+
+use std::sync::Mutex;
+
+use faults::cases::{self, Case, Given, Others, Page};
+use faults::flips::{self, Counts, Part, PARTS};
+use faults::shipped::{self, Block};
+use faults::store::{place, slot, Store};
+use faults::{checksum, tables};
+use thonxiliko::{Kind, Refusal, PAGE_SIZE, SLOT_SIZE};
+
+fn ground() -> (Store, Vec<Block>) {
+    let blocks = shipped::blocks(&shipped::folder()).expect("the shipped pages");
+    (Store::of(&blocks).expect("a store"), blocks)
+}
+
+/// The counts of the whole store, made once for all tests.
+fn table() -> flips::Table {
+    static TABLE: Mutex<Option<flips::Table>> = Mutex::new(None);
+    let mut table = TABLE.lock().expect("no test failed while it counted");
+    *table.get_or_insert_with(|| {
+        let (store, blocks) = ground();
+        flips::count(&store, &blocks)
+    })
+}
+
+/// The first block of a kind.
+fn first(store: &Store, kind: Kind) -> usize {
+    let kinds = store.kinds().expect("a sound store");
+    kinds.iter().position(|other| *other == kind).expect("a block of each kind")
+}
+
+fn read(store: &Store, block: usize) -> (Result<Kind, Refusal>, Vec<u8>) {
+    let mut page = vec![0xAB; PAGE_SIZE];
+    (store.read(block, &mut page), page)
+}
+
+#[test]
+fn the_undamaged_store_is_sound() {
+    let (store, blocks) = ground();
+    assert_eq!(store.build(), Ok(()));
+    for (at, block) in blocks.iter().enumerate() {
+        let (kind, page) = read(&store, at);
+        assert!(kind.is_ok() && page == block.page, "block {at}");
+    }
+}
+
+/// The checksum here is the server's: it fits every page that a server wrote, and no other block.
+#[test]
+fn the_checksum_is_postgresqls() {
+    let (_, blocks) = ground();
+    for Block { number, base, page } in &blocks {
+        for page in [base, page].into_iter().filter(|page| !page.is_empty()) {
+            assert!(checksum::taken(page, *number));
+            assert!(!checksum::taken(page, number + 1));
+            let mut other = page.clone();
+            other[100] ^= 1;
+            assert!(!checksum::taken(&other, *number));
+        }
+    }
+}
+
+#[test]
+fn every_flipped_bit_comes_to_one_thing() {
+    let (store, _) = ground();
+    let table = table();
+    let of = |part: Part| table[part as usize];
+    let mut all = Counts::default();
+    for part in PARTS {
+        assert!(of(part).bits > 0 && of(part).add_up(), "{part:?}: {:?}", of(part));
+        all.add(&of(part));
+    }
+    assert_eq!(all.bits, 8 * (store.patch.len() + store.full.len()) as u64);
+
+    // Noticed, every bit.
+    for header in [Part::PatchHeader, Part::FullHeader] {
+        assert_eq!(of(header).header + of(header).version, of(header).bits);
+    }
+    assert_eq!(of(Part::PatchTail).slot, of(Part::PatchTail).bits);
+    assert_eq!(of(Part::FullSlot).refused_by_build(), of(Part::FullSlot).bits);
+    assert_eq!(of(Part::ZeroPlace).stray_right, of(Part::ZeroPlace).bits);
+
+    // Not noticed: most of the payloads, every bit of a full page, an EMPTY slot that becomes FULL_REF.
+    assert!(of(Part::Payload).other_page > of(Part::Payload).bits / 2);
+    assert_eq!(of(Part::FullPage).other_page, of(Part::FullPage).bits);
+    assert_eq!((of(Part::EmptySlot).other_page, of(Part::EmptySlot).taken), (1, 1));
+}
+
+/// The counts can tell: held against another page than the one that was written, no flip gives the page.
+#[test]
+fn the_counts_tell_right_from_wrong() {
+    let (store, blocks) = ground();
+    let block = blocks[first(&store, Kind::Patch)].clone();
+    let mut small = Store::fresh(std::slice::from_ref(&block), 1).expect("a store");
+    thonxiliko::write(&mut small.patch, &mut small.full, 0, &block.base, &block.page)
+        .expect("a sound store");
+    let place = |table: flips::Table| table[Part::ZeroPlace as usize];
+
+    let right = place(flips::count(&small, std::slice::from_ref(&block)));
+    assert_eq!((right.stray_right, right.stray_wrong), (right.bits, 0));
+    let mut other = block;
+    other.page[PAGE_SIZE - 1] ^= 1;
+    let wrong = place(flips::count(&small, &[other]));
+    assert_eq!((wrong.stray_right, wrong.stray_wrong), (0, wrong.bits));
+}
+
+#[test]
+fn a_patch_slot_of_zeros_reads_as_its_base() {
+    let (mut store, blocks) = ground();
+    let block = first(&store, Kind::Patch);
+    store.patch[slot(block)].fill(0);
+    assert_eq!(read(&store, block), (Ok(Kind::Empty), blocks[block].base.clone()));
+    assert_ne!(blocks[block].base, blocks[block].page);
+    assert_eq!(store.build(), Ok(()));
+    // The base page is a page of the server's own: its checksum fits.
+    assert!(checksum::taken(&blocks[block].base, blocks[block].number));
+}
+
+#[test]
+fn a_lost_full_page_is_zeros_and_a_stray_one_is_noticed_by_build() {
+    let (store, blocks) = ground();
+    let block = first(&store, Kind::Full);
+    let mut lost = store.clone();
+    lost.full[place(block)].fill(0);
+    assert_eq!(read(&lost, block), (Ok(Kind::Full), vec![0; PAGE_SIZE]));
+    assert_eq!(lost.build(), Ok(()));
+
+    let mut stray = store;
+    stray.patch[slot(block)].fill(0);
+    assert_eq!(read(&stray, block), (Ok(Kind::Empty), blocks[block].base.clone()));
+    let fault = stray.build().unwrap_err();
+    assert_eq!((fault.refusal, fault.block), (Refusal::StrayPage, Some(block as u64)));
+}
+
+#[test]
+fn a_cut_area_is_refused_with_2_unless_whole_slots_are_cut() {
+    let (store, blocks) = ground();
+    let last = blocks.len() - 1;
+    for cut in 1..SLOT_SIZE {
+        let mut damaged = store.clone();
+        damaged.patch.truncate(store.patch.len() - cut);
+        assert_eq!(read(&damaged, 0).0, Err(Refusal::AreaLength), "{cut} bytes");
+        assert_eq!(damaged.build().unwrap_err().refusal, Refusal::AreaLength);
+    }
+    let mut shorter = store.clone();
+    shorter.patch.truncate(store.patch.len() - SLOT_SIZE);
+    assert_eq!(shorter.build(), Ok(()));
+    assert_eq!(read(&shorter, last).0, Err(Refusal::Block));
+    for cut in [1, 511, 4_096, PAGE_SIZE - 1] {
+        let mut damaged = store.clone();
+        damaged.full.truncate(store.full.len() - cut);
+        assert_eq!(read(&damaged, 0).0, Err(Refusal::AreaLength), "{cut} bytes");
+        assert_eq!(damaged.build().unwrap_err().refusal, Refusal::AreaLength);
+    }
+}
+
+#[test]
+fn another_base_is_not_noticed() {
+    let (store, blocks) = ground();
+    for kind in [Kind::Empty, Kind::Patch, Kind::Full] {
+        let block = first(&store, kind);
+        let mut damaged = store.clone();
+        damaged.bases[block] = cases::later_base(&blocks[block]);
+        assert_eq!(damaged.build(), Ok(()));
+        let (given, page) = read(&damaged, block);
+        assert_eq!(given, Ok(kind));
+        // A full page needs no base; what the others give depends on it.
+        assert_eq!(page == blocks[block].page, kind == Kind::Full);
+    }
+}
+
+/// Cases of the table that nothing above has by hand.
+#[test]
+fn swapped_and_doubled_slots_are_not_noticed() {
+    let (store, blocks) = ground();
+    let all = cases::all(&store, &blocks);
+    let case = |what: &str| -> &Case {
+        all.iter().find(|case| case.what == what).unwrap_or_else(|| panic!("no case '{what}'"))
+    };
+    for what in ["two PATCH slots swapped", "a PATCH slot also over an EMPTY one"] {
+        let case = case(what);
+        assert_eq!((case.build, case.others), ((0, None), Others::Written), "{what}");
+        for (_, given) in &case.reads {
+            let never = Given::Page { kind: Kind::Patch, page: Page::Never, taken: false };
+            assert_eq!(*given, never, "{what}");
+        }
+    }
+    let older = case("a PATCH slot as it was before the last write");
+    assert_eq!(older.build, (0, None));
+    let taken = Given::Page { kind: Kind::Patch, page: Page::Earlier, taken: true };
+    assert_eq!(older.reads[0].1, taken);
+}
+
+/// The document's figures are those of this tree.
+#[test]
+fn the_document_has_the_tables_that_are_printed() {
+    let path = shipped::folder().join("../../docs/TRUST.md");
+    let document = std::fs::read_to_string(path).expect("docs/TRUST.md");
+    let (store, blocks) = ground();
+    let table = table();
+    let printed = [
+        tables::kinds(&store.kinds().expect("a sound store"), store.pages()),
+        tables::flips(&table),
+        tables::in_words(&table),
+        tables::cases(&cases::all(&store, &blocks)),
+    ];
+    for text in printed {
+        let missing = text.lines().find(|line| !document.lines().any(|other| other == *line));
+        assert!(
+            document.contains(&text),
+            "docs/TRUST.md is not what 'cargo run -p faults' prints, from here on: {missing:?}"
+        );
+    }
+}
