@@ -19,6 +19,7 @@ pub mod DemandThree
 pub mod Answers
 pub mod Determined
 pub mod Leaves
+pub mod OrdersWrong
 pub mod Kept
 pub mod DemandOne
 pub mod Sample

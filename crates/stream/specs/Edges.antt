@@ -1,15 +1,14 @@
 -- "Both sides of each edge": P1 to P12 of the paper, about the definitions that the contracts of Compare and Apply cite, at 8,192 bytes,
 -- over a base of zeros: 0 bytes, or 8,192 zeros. The lent buffer and the lent page are any that the calls take.
-use Prim.Native.Nat.{ℕ, _+_, _≤_}
+use Prim.Native.Nat.{ℕ, _≤_}
 use native.Mathlib.Omega.{arith}
-use mathlib.Core.Path.{_≡_, refl, sym, ap, _∙_}
-use mathlib.Core.Bool.{Bool, true, false, false≢true}
+use mathlib.Core.Path.{_≡_, refl, ap, _∙_}
+use mathlib.Core.Bool.{true, false}
 use mathlib.Core.List.{List, [], _∷_}
 use mathlib.Core.Logic.{inl, inr}
-use lib.Dec.{eqb}
 use lib.ListN.{length, set}
 use lib.IntN.{ℤ, pos, negsuc}
-use borrow.Author.Tests.{le-ltb, eq-eqb}
+use borrow.Author.Tests.{le-ltb}
 use Rattle.span.specs.Bytes.{zeros, splice}
 use Rattle.span.specs.Laws.{zeros-length}
 use Rattle.layout.specs.Sizes.{pageSize, room}
@@ -20,6 +19,7 @@ use Rattle.writer.specs.Differences.{Change, diffs, spelled, coded, lastPlace}
 use Rattle.stream.specs.Calls.{pageOf, pagesFit, kindFor, comparison, compareNumbers, compareBuffer, ComparedNumbers, applyRows}
 use Rattle.stream.specs.Calls.{applyNumbers, applyPage}
 use Rattle.stream.specs.Laws.{pages-fit, zeros-base, compare-number, compare-done, compare-written, compare-kept}
+use Rattle.stream.specs.Kinds.{diffs-none}
 use Rattle.stream.specs.Laws.{apply-number, apply-done, apply-not}
 
 -- "a base of zeros", in both its forms
@@ -120,21 +120,6 @@ finds page payload count at l e f = record {
         answered base page buffer (zero-fits base page z l) h
         ∙ ap (λ (b : List ℕ). comparison (diffs 0 b page)) (zero-page base z) ∙ e
 
--- a page has no difference from itself
-no-diffs : (q : ℕ) (xs : List ℕ) → diffs q xs xs ≡ []
-unfolding diffs
-no-diffs q [] = refl
-no-diffs q (x ∷ xs) = go (eqb x x) (eq-eqb x x refl) (no-diffs (q + 1) xs)
-  where
-    go : (t : Bool) → t ≡ true → diffs (q + 1) xs xs ≡ []
-        → _≡_ {A = List Change} (elim t as (λ _. List Change) [
-          | true ↦ diffs (q + 1) xs xs
-          | false ↦ record { place = q; value = x }
-              ∷ diffs (q + 1) xs xs
-        ]) []
-    go true e rest = rest
-    go false e rest = absurd (false≢true e)
-
 finds-none : (base page : List ℕ) → pagesFit pageSize base page ≡ true → page ≡ pageOf pageSize base → FindsNone base page
 unfolding comparison kindFor coded lastPlace
 finds-none base page f e = record {
@@ -144,7 +129,7 @@ finds-none base page f e = record {
 }
   where
     none : diffs 0 (pageOf pageSize base) page ≡ []
-    none = ap (λ (p : List ℕ). diffs 0 (pageOf pageSize base) p) e ∙ no-diffs 0 (pageOf pageSize base)
+    none = ap (λ (p : List ℕ). diffs 0 (pageOf pageSize base) p) e ∙ diffs-none 0 (pageOf pageSize base)
 
     numbers : (buffer : List ℕ) → room ≤ length buffer
         → compareNumbers pageSize base page buffer ≡ record { number = 0; kind = 0; length = 0; entries = 0; last = negsuc 0 }

@@ -9,6 +9,7 @@ use mathlib.Core.List.{List, [], _∷_, _++_}
 use mathlib.Core.Logic.{_↔_}
 use lib.Dec.{eqb, ltb}
 use lib.ListN.{length, take}
+use lib.IntN.{pos}
 use borrow.Author.Tests.{eq-eqb, eqb-true, ltb-false}
 use Rattle.span.specs.Bytes.{part}
 use Rattle.span.specs.Laws.{part-splice}
@@ -16,8 +17,10 @@ use Rattle.layout.specs.Sizes.{room}
 use Rattle.layout.specs.Numbers.{le}
 use Rattle.layout.specs.Refusals.{firstOf}
 use Rattle.layout.specs.RefusalLaws.{decided-number}
-use Rattle.payload.specs.Entries.{sound, entries, last}
-use Rattle.writer.specs.Differences.{Change, diffs, spelled, coded, written}
+use Rattle.payload.specs.Entries.{start, sound, entries, last}
+use Rattle.writer.specs.Differences.{Change, diffs, spelled, coded, written, lastPlace}
+use Rattle.writer.specs.Writer.{diffs-rising}
+use Rattle.writer.specs.LastPlace.{LastDiffers, last-none, last-differs}
 use Rattle.stream.specs.Calls.{pageOf, pagesFit, kindFor, comparison, compareRows, compareNumbers, compareBuffer, ComparedNumbers}
 use Rattle.stream.specs.Calls.{applyRows, applyNumbers, applyPage}
 use Rattle.stream.specs.Laws.{page-length, present-length, kind-none, kind-large, kind-patch, patch-fits, compare-number}
@@ -26,7 +29,8 @@ use Rattle.writer.specs.ReadBack.{Back, read-back}
 
 -- By the stream
 
-diffs-none : (q : ℕ) (xs : List ℕ) → diffs q xs xs ≡ []
+-- a page has no difference from itself
+pub diffs-none : (q : ℕ) (xs : List ℕ) → diffs q xs xs ≡ []
 unfolding diffs
 diffs-none q [] = refl
 diffs-none q (x ∷ xs) =
@@ -175,6 +179,25 @@ module _ (P : ℕ) (base page buffer : List ℕ) where
         let k : (kindFor (length (written (pageOf P base) page)) ≡ 0) ↔ (length (written (pageOf P base) page) ≡ 0) = kind-0
         (length (written (pageOf P base) page)) in
         (λ e. s .0 (k .0 (sym compare-kind ∙ e)), λ e. compare-kind ∙ k .1 (s .1 e))
+
+    -- the last differing position, and −1 just where the pages are equal
+    compare-last : compareNumbers P base page buffer .last ≡ lastPlace start (diffs 0 (pageOf P base) page)
+    unfolding comparison
+    compare-last = ap (λ (x : ComparedNumbers). x .last) numbers
+
+    pub compare-last-at : (i : ℕ) → (compareNumbers P base page buffer .last ≡ pos i) ↔ LastDiffers (pageOf P base) page i
+    compare-last-at i =
+        let d : (lastPlace start (diffs 0 (pageOf P base) page) ≡ pos i) ↔ LastDiffers (pageOf P base) page i =
+        last-differs (pageOf P base) page base-is i in
+        (λ e. d .0 (sym compare-last ∙ e), λ w. compare-last ∙ d .1 w)
+
+    pub compare-last-none : (compareNumbers P base page buffer .last ≡ start) ↔ (pageOf P base ≡ page)
+    compare-last-none =
+        let d : (lastPlace start (diffs 0 (pageOf P base) page) ≡ start) ↔ (diffs 0 (pageOf P base) page ≡ []) =
+        last-none 0 (diffs 0 (pageOf P base) page) (diffs-rising 0 (pageOf P base) page) in (
+          λ e. none-same 0 (pageOf P base) page base-is (ap (λ (ds : List Change). length ds) (d .0 (sym compare-last ∙ e))),
+          λ e. compare-last ∙ d .1 (ap (λ (l : List ℕ). diffs 0 l page) e ∙ diffs-none 0 page),
+        )
 
     pub compare-patch : (compareNumbers P base page buffer .kind ≡ 1)
         ↔ ((1 ≤ length (written (pageOf P base) page)) × (length (written (pageOf P base) page) ≤ room))

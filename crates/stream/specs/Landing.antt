@@ -21,6 +21,7 @@ use Rattle.payload.specs.EntryLaws.{short-in, long-in}
 use Rattle.payload.specs.Spelling.{Form, short, long, Spelt, takes, bytes, joined, Coded, Inside, Stays, Spelled, Bytes, inside-page}
 use Rattle.payload.specs.Spelling.{two-bytes, spelled-sound, sound-spelled}
 use Rattle.writer.specs.Writer.{In, Rising, Below, placed}
+use Rattle.writer.specs.LastPlace.{LastOf, last-some}
 use Rattle.writer.specs.ReadBack.{before-next, moved, pokes}
 use Rattle.stream.specs.Only.{applied-one}
 use Rattle.stream.specs.declared.Applied.{Applied}
@@ -139,6 +140,8 @@ pokes-named (d ∷ cs) base next c r b (inr m) =
 pub record Landed (P : ℕ) (base : List ℕ) (es : List Spelt) (answer : Applied) (after : List ℕ) : Type 0 where
   -- "the number of entries it applied and the last position"
   pub numbers : answer ≡ Done (length es) (lastPlace start (placed 0 es))
+  -- the last position is the place of the last entry
+  pub last-at : (i : ℕ) → (lastPlace start (placed 0 es) ≡ pos i) ↔ LastOf (placed 0 es) i
   -- each value at its entry's place, in order
   pub page : after ≡ pokes (pageOf P base) (placed 0 es)
   -- byte by byte: the places rise, each has its entry's value, and every other place the base's byte
@@ -163,6 +166,7 @@ module _ (P : ℕ) (base payload page : List ℕ) (answer : Applied) (after : Li
         numbers =
             applied-one answer (Done (length es) (lastPlace start (placed 0 es)))
             (call .numbers ∙ d .0 ∙ (λ i. record { number = 0; entries = l .count i; last = l .last start i }));
+        last-at = last-some 0 (placed 0 es) (placed-rising es 0);
         page = q;
         rising = placed-rising es 0;
         named =
