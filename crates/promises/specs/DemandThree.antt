@@ -6,7 +6,7 @@
 -- The words are in `RunWords`: `after P s ws` are both areas after the run ws from s, and `accepted P s ws` those of its writes that were
 -- accepted when their turn came. Nothing is assumed of a run: its blocks, bases and pages are any, of any lengths.
 use Prim.Native.Nat.{ℕ, _≤_, _<_}
-use mathlib.Core.Path.{_≡_, ap}
+use mathlib.Core.Path.{_≡_, ap, subst}
 use mathlib.Core.Logic.{_↔_}
 use mathlib.Core.Option.{none, some}
 use mathlib.Core.List.{List}
@@ -20,7 +20,8 @@ use Rattle.building.specs.Build.{BuildOutcome, buildOutcome}
 use Rattle.promises.specs.Words.{blocks, PagesFit}
 use Rattle.promises.specs.Runs.{NoRepeats}
 use Rattle.promises.specs.RunWords.{Areas, Lent, after, accepted, lastTo, JustLasts, OverBases, FreshAreas}
-use Rattle.promises.specs.RunLaws.{lasts-accepted, lasts-leave, lasts-list, reads-none, reads-last, build-accepts, two-runs}
+use Rattle.promises.specs.RunLaws.{lasts-accepted, lasts-leave, lasts-list, reads-none, reads-last, build-accepts, fresh-one}
+use Rattle.promises.specs.RunLaws.{two-runs}
 
 -- Read of a block of both areas
 abbrev pub readAt : Areas → ℕ → List ℕ → List ℕ → ReadOutcome
@@ -57,10 +58,18 @@ module _ (s : Areas) (fresh : FreshAreas pageSize s) (ws : List Lent) where
       → buildOutcome pageSize (after pageSize s ws .patch) (after pageSize s ws .full) map .number ≡ 0
   builds map long = ap (λ (o : BuildOutcome). o .number) (build-accepts pageSize s fresh (lit≤ tt) ws map long)
 
--- (b) Two runs from fresh areas of the same lengths, over the same bases
+-- Two sets of fresh areas of the same lengths
 
 module _ (s t : Areas) (s-fresh : FreshAreas pageSize s) (t-fresh : FreshAreas pageSize t)
     (patch-lengths : length (s .patch) ≡ length (t .patch)) (full-lengths : length (s .full) ≡ length (t .full)) (ws vs : List Lent) where
+  -- (a) "the bytes of fresh areas of the same lengths": the run is made from s, the list of last accepted writes from t
+  pub fresh-lasts-leave-the-same : (ls : List Lent) → JustLasts pageSize s ws ls
+      → (accepted pageSize t ls ≡ ls) × (after pageSize t ls ≡ after pageSize s ws)
+  fresh-lasts-leave-the-same ls l =
+      subst (λ (x : Areas). (accepted pageSize x ls ≡ ls) × (after pageSize x ls ≡ after pageSize s ws))
+      (fresh-one pageSize s t s-fresh t-fresh patch-lengths full-lengths) (lasts-leave-the-same s s-fresh ws ls l)
+
+  -- (b) Two runs over the same bases:
   -- equal bytes give equal outcomes of Read at every block
   pub same-bytes-read-same : after pageSize s ws ≡ after pageSize t vs
       → (b : ℕ) (base page : List ℕ) → readAt (after pageSize s ws) b base page ≡ readAt (after pageSize t vs) b base page

@@ -270,7 +270,7 @@ module _ (P : ℕ) where
 
 -- Fresh areas of the same lengths are the same bytes
 
-fresh-one : (P : ℕ) (s t : Areas) → FreshAreas P s → FreshAreas P t → length (s .patch) ≡ length (t .patch)
+pub fresh-one : (P : ℕ) (s t : Areas) → FreshAreas P s → FreshAreas P t → length (s .patch) ≡ length (t .patch)
     → length (s .full) ≡ length (t .full) → s ≡ t
 fresh-one P s t h k p f =
     fresh-is P s h ∙ (λ i. record { patch = freshPatch P (p i); full = freshFull P (f i) }) ∙ sym (fresh-is P t k)

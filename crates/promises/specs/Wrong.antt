@@ -8,6 +8,7 @@ use native.Mathlib.Omega.{arith}
 use mathlib.Core.Path.{_≡_, refl, sym, ap, _∙_}
 use mathlib.Core.Bool.{cond, _||_}
 use mathlib.Core.Logic.{inl, inr}
+use mathlib.Core.Option.{some}
 use mathlib.Core.List.{List, [], _∷_, List·Memᴰ, List·Memᴰ·head, List·Memᴰ·tail, List·Memᴰ·cases-cons, List·Memᴰ·eq-of-singleton}
 use lib.Dec.{eqb, lit≤, lit<}
 use lib.ListN.{length, getD, replicate}
@@ -30,7 +31,7 @@ use Rattle.promises.specs.Tables.{write-table}
 use Rattle.promises.specs.StoreLaws.{imageOf, contentOf, write-done, write-not}
 use Rattle.promises.specs.WriteLaws.{write-length, others-read}
 use Rattle.promises.specs.Runs.{run, lastSuch, later, last-in}
-use Rattle.promises.specs.RunWords.{Areas, Lent, outcome, next, after, accepted, lastTo, JustLasts}
+use Rattle.promises.specs.RunWords.{Areas, Lent, outcome, next, after, accepted, lastTo, JustLasts, FreshAreas}
 use Rattle.promises.specs.RunStore.{Cell, cellAt, cell-here}
 use Rattle.promises.specs.FreshLaws.{fresh-lengths, fresh-headers, fresh-cell}
 use Rattle.promises.specs.RunLaws.{kept, run-fits}
@@ -63,22 +64,40 @@ other wrong s w h a e x =
 abbrev areas : WriteOutcome → Areas
 areas o = record { patch = o .patch; full = o .full }
 
--- the areas after a run of a wrong Write
+-- the areas after a first write, to block 0
+abbrev pub T : List ℕ → Areas
+T x = next pageSize sample (to 0 x)
+
+-- The words of demand 3 for a run of a given program: the areas that it leaves, and the writes that it said were done
+
 unfoldable pub afterBy : Program → Areas → List Lent → Areas
-afterBy wrong s ws = run (λ (s : Areas) (w : Lent). areas (wrong s w)) s ws
+afterBy program s ws = run (λ (s : Areas) (w : Lent). areas (program s w)) s ws
+
+unfoldable pub acceptedBy : Program → Areas → List Lent → List Lent
+acceptedBy program s [] = []
+acceptedBy program s (w ∷ ws) =
+    let rest = acceptedBy program (areas (program s w)) ws in
+    cond (eqb (program s w .number) 0) (w ∷ rest) rest
+
+-- (c): after its own run each block reads as its last accepted page
+abbrev pub ReadsAsLast : Program → Type 0
+ReadsAsLast program =
+    (s : Areas) → FreshAreas pageSize s → (ws : List Lent) (b : ℕ) → b < blocks (s .patch)
+    → (w : Lent) → lastTo b (acceptedBy program s ws) ≡ some w
+    → (base page : List ℕ) → PagesFit pageSize base page → pageOf pageSize base ≡ pageOf pageSize (w .base)
+    → readAt (afterBy program s ws) b base page .page ≡ w .page
 
 -- A Write that only refuses
 
-unfoldable pub onlyRefuses : Program
-onlyRefuses s w = record { number = 8; kind = 0; length = 0; patch = s .patch; full = s .full }
+unfoldable pub onlyRefuses : ℕ → Program
+onlyRefuses n s w = record { number = n; kind = 0; length = 0; patch = s .patch; full = s .full }
 
-pub not-only-refuses : Breaks onlyRefuses sample (to 0 one)
+-- whichever number it refuses with
+pub not-only-refuses : (n : ℕ) → (n ≡ 0 → ⊥) → Breaks (onlyRefuses n) sample (to 0 one)
 unfolding onlyRefuses after
-not-only-refuses =
-    other onlyRefuses sample (to 0 one)
-    (λ e.
-    let z : outcome pageSize sample (to 0 one) .number ≡ 8 = ap (λ (o : WriteOutcome). o .number) e in
-    omega (arith, takes [] (to 0 one) (lit< tt) one-fits))
+not-only-refuses n h =
+    other (onlyRefuses n) sample (to 0 one)
+    (λ e. h (sym (ap (λ (o : WriteOutcome). o .number) e) ∙ takes [] (to 0 one) (lit< tt) one-fits))
 
 -- One that answers done and stores nothing
 
@@ -94,7 +113,7 @@ nothing-breaks b h e = changes b h (ap areas e)
 pub not-nothing : Breaks storesNothing sample (to 0 one)
 not-nothing = other storesNothing sample (to 0 one) (nothing-breaks 0 (lit< tt))
 
--- One that stores block 0 and pretends later: it breaks the predicate at block 1, and its run leaves other areas than those of demand 3
+-- One that stores block 0 and pretends later: it breaks the predicate at block 1, and (c) of demand 3 after its own run
 
 unfoldable pub onlyBlock0 : Program
 onlyBlock0 s w = cond (eqb (w .block) 0) (outcome pageSize s w) (storesNothing s w)
@@ -103,13 +122,19 @@ pub not-only-block-0 : Breaks onlyBlock0 sample (to 1 one)
 unfolding onlyBlock0
 not-only-block-0 = other onlyBlock0 sample (to 1 one) (nothing-breaks 1 (lit< tt))
 
-pub not-only-block-0-run : afterBy onlyBlock0 sample (to 0 one ∷ to 1 one ∷ []) ≡ after pageSize sample (to 0 one ∷ to 1 one ∷ []) → ⊥
-unfolding afterBy run after onlyBlock0 storesNothing
-not-only-block-0-run e =
+pub not-only-block-0-run : ReadsAsLast onlyBlock0 → ⊥
+unfolding afterBy run acceptedBy onlyBlock0 storesNothing after lastTo lastSuch later
+not-only-block-0-run claim =
+    let run-of : List Lent = to 0 one ∷ to 1 one ∷ [] in
+    let both : acceptedBy onlyBlock0 sample run-of ≡ run-of =
+    rw (
+      eq-eqb (outcome pageSize sample (to 0 one) .number) 0 (takes [] (to 0 one) (lit< tt) one-fits),
+      eq-eqb (outcome pageSize (T one) (to 1 one) .number) 0 (takes (to 0 one ∷ []) (to 1 one) (lit< tt) one-fits),
+    ) in
+    let last-is : lastTo 1 (acceptedBy onlyBlock0 sample run-of) ≡ some (to 1 one) = rw both in
     let z : _≡_ {A = ℕ} 7 0 =
     same-bytes (7 ∷ []) []
-    (sym (reads (to 0 one ∷ []) 1 (lit< tt) one one-fits)
-    ∙ ap (λ (s : Areas). readAt s 1 [] two .page) (sym e)
+    (sym (claim sample sample-fresh run-of 1 (rw (two-blocks []) (lit< tt)) (to 1 one) last-is [] two two-fits refl)
     ∙ ap (λ (o : ReadOutcome). o .page) (others-read pageSize (sample .patch) (sample .full) 0 [] one 1 (λ q. omega arith) [] two)
     ∙ reads-zeros 1 (lit< tt)) 0 in
     omega arith
@@ -192,10 +217,6 @@ unfolding accepted after afterBy run
 not-refused-stores-run = (rw (refuses [] (to 2 one) (lit≤ tt) one-fits), λ e. changes 0 (lit< tt) (sym refused-leaves ∙ e))
 
 -- A Read that always gives the base
-
--- the areas after a first write, to block 0
-abbrev pub T : List ℕ → Areas
-T x = next pageSize sample (to 0 x)
 
 unfoldable pub alwaysBase : Areas → ℕ → List ℕ → List ℕ → ReadOutcome
 alwaysBase s b base into = record { number = 0; kind = 0; page = pageOf pageSize base }
