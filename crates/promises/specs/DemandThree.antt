@@ -10,7 +10,7 @@ use Prim.Native.Nat.{ℕ, _≤_, _<_}
 use mathlib.Core.Path.{_≡_, ap, subst}
 use mathlib.Core.Logic.{_↔_}
 use mathlib.Core.Option.{some}
-use mathlib.Core.List.{List, map, List·Memᴰ}
+use mathlib.Core.List.{List, map}
 use lib.Dec.{lit≤}
 use lib.ListN.{length}
 use Rattle.layout.specs.Sizes.{pageSize}
@@ -22,7 +22,7 @@ use Rattle.promises.specs.Runs.{NoRepeats, write}
 use Rattle.promises.specs.RunWords.{Areas, readAt, Lent, Operation, after, accepted, lastTo, JustLasts, decision, Decided, KeepsBases}
 use Rattle.promises.specs.RunWords.{OverBases, FreshAreas}
 use Rattle.promises.specs.FreshLaws.{fresh-one}
-use Rattle.promises.specs.RunLaws.{own-base, keeps-over, lasts-leave-same, lasts-list, reads-last, reads-base, build-accepts}
+use Rattle.promises.specs.RunLaws.{last-decided, keeps-over, lasts-leave-same, lasts-list, reads-last, reads-base, build-accepts}
 use Rattle.promises.specs.RunLaws.{two-runs}
 
 module _ (s : Areas) (fresh : FreshAreas pageSize s) (os : List Operation) where
@@ -46,17 +46,18 @@ module _ (s : Areas) (fresh : FreshAreas pageSize s) (os : List Operation) where
   lasts-exist = lasts-list pageSize s fresh os
 
   -- (c) Each block below n reads, with number 0, as its last accepted write's page, over any base page that this write was decided over,
-  -- or as its base where no write stands
+  -- or as its base where no write stands. A write is decided over a base page if its kind and its payload are Compare's over it;
   pub reads-as-last : (b : ℕ) → b < blocks (s .patch) → (w : Lent) → lastTo b (accepted pageSize s os) ≡ some (write w)
       → (base page : List ℕ) → PagesFit pageSize base page → Decided pageSize (pageOf pageSize base) w
       → readAt pageSize (after pageSize s os) b base page ≡ record { number = 0; kind = decision pageSize w .kind; page = w .page }
   reads-as-last b n w e base page f d = reads-last pageSize s fresh (lit≤ tt) os b n base page f w e d
 
-  -- an accepted write was decided over its own base page
-  pub decided-over-its-base : (w : Lent) → List·Memᴰ (write w) (accepted pageSize s os)
-      → Decided pageSize (pageOf pageSize (w .base)) w
-  decided-over-its-base w i = own-base pageSize s os w i
+  -- so over any base that stands for the page which that write had as its base
+  pub decided-over-its-base : (b : ℕ) (w : Lent) → lastTo b (accepted pageSize s os) ≡ some (write w)
+      → (base : List ℕ) → pageOf pageSize base ≡ pageOf pageSize (w .base) → Decided pageSize (pageOf pageSize base) w
+  decided-over-its-base b w e base q = rw q (last-decided pageSize s os b w e)
 
+  -- and over any base where no write stands
   pub reads-as-base : (b : ℕ) → b < blocks (s .patch) → ((w : Lent) → lastTo b (accepted pageSize s os) ≡ some (write w) → ⊥)
       → (base page : List ℕ) → PagesFit pageSize base page
       → readAt pageSize (after pageSize s os) b base page ≡ record { number = 0; kind = 0; page = pageOf pageSize base }

@@ -3,7 +3,7 @@ use Prim.Native.Nat.{ℕ, _≤_, _<_}
 use mathlib.Core.Path.{_≡_, refl, sym, ap, _∙_, subst}
 use mathlib.Core.Logic.{inl, _↔_}
 use mathlib.Core.Option.{some}
-use mathlib.Core.List.{List, [], map, List·Memᴰ}
+use mathlib.Core.List.{List, [], map}
 use lib.ListN.{length}
 use Rattle.span.specs.Bytes.{zeros, splice}
 use Rattle.span.specs.Laws.{zeros-length}
@@ -23,7 +23,7 @@ use Rattle.promises.specs.DecisionLaws.{blank-page, compared-fit, fit-ki
 use Rattle.promises.specs.Runs.{NoRepeats, write, Fresh, standing, Lasts, lasts, OverAt, Over, ReadSame}
 use Rattle.promises.specs.LastLaws.{last-in}
 use Rattle.promises.specs.StandingLaws.{stands, lasts-are, lasts-apart, run-frame, standing-is, run-left, write-left, blank-left}
-use Rattle.promises.specs.StandingLaws.{taken-accepted, lasts-leave}
+use Rattle.promises.specs.StandingLaws.{lasts-leave}
 use Rattle.promises.specs.SameLaws.{same-iff-read-same}
 use Rattle.promises.specs.RunWords.{Areas, readAt, Lent, Operation, after, accepted, lastTo, JustLasts, decision, Decided, KeepsBases}
 use Rattle.promises.specs.RunWords.{OverBases, FreshAreas}
@@ -44,15 +44,16 @@ module _ (P : ℕ) (s : Areas) (os : List Operation) where
   unfolding Lasts
   just-lasts ls = (λ h w. rw (last-is (w .block)) (h w), λ h w. rw (← last-is (w .block)) (h w))
 
-  pub own-base : (w : Lent) → List·Memᴰ (write w) (accepted P s os) → Decided P (pageOf P (w .base)) w
-  own-base w i = decided-over P (frameOf s) w (taken-accepted (store P) (store-laws P) s os (write w) i)
+  -- a write that is the last accepted one to a block was decided over its own base page
+  pub last-decided : (b : ℕ) (w : Lent) → lastTo b (accepted P s os) ≡ some (write w) → Decided P (pageOf P (w .base)) w
+  last-decided b w e = decided-over P (frameOf s) w (stands (store P) os (last-is b ∙ e) .0)
 
   pub keeps-over : (bases : ℕ → List ℕ) → KeepsBases P bases s os → OverBases P bases s os
   unfolding lastTo
   keeps-over bases h b n w e =
       let i = last-in _ (accepted P s os) e .0 in
       let q : w .block ≡ b = stands (store P) os (last-is b ∙ e) .1 in
-      rw (h w i ∙ ap (λ (c : ℕ). pageOf P (bases c)) q) at (own-base w i)
+      rw (h w i ∙ ap (λ (c : ℕ). pageOf P (bases c)) q) at (last-decided b w e)
 
   over-bases : (bases : ℕ → List ℕ) → OverBases P bases s os → Over (store P) (reading P) (λ b. pageOf P (bases b)) (frameOf s) os
   unfolding Over OverAt

@@ -141,55 +141,59 @@ module _ (A : AnyCells) where
   cut-lasts-leave n os ls l =
       lasts-leave cutStore cut-laws (replicate n blank) (cut-fresh n) os ls (rw (length-replicate n blank) l)
 
-  -- (b) "only the blocks it covers may have another base after it; two runs are compared where their bases agree at the end"
+  -- "only the blocks it covers may have another base after it": the bases that a run begins with, and those at its end
+  abbrev pub cutBases : ℕ → (ℕ → Page) → List PutOrCut → (ℕ → Page) → Type 0
+  cutBases n start os end = Bases cutStore cutReading n start (cutTaken n os) end
+
   module _ (n : ℕ) (start end start′ end′ : ℕ → Page) (os os′ : List PutOrCut)
-      (bases : Bases cutStore cutReading n start (cutTaken n os) end) (bases′ : Bases cutStore cutReading n start′ (cutTaken n os′) end′)
-    where
-      over : Over cutStore cutReading end (length (replicate n blank)) os
-      over = bases-over cutStore cutReading cut-laws (replicate n blank) start end os (rw (length-replicate n blank) bases)
+      (bases : cutBases n start os end) (bases′ : cutBases n start′ os′ end′) where
+    over : Over cutStore cutReading end (length (replicate n blank)) os
+    over = bases-over cutStore cutReading cut-laws (replicate n blank) start end os (rw (length-replicate n blank) bases)
 
-      over′ : Over cutStore cutReading end′ (length (replicate n blank)) os′
-      over′ = bases-over cutStore cutReading cut-laws (replicate n blank) start′ end′ os′ (rw (length-replicate n blank) bases′)
+    over′ : Over cutStore cutReading end′ (length (replicate n blank)) os′
+    over′ = bases-over cutStore cutReading cut-laws (replicate n blank) start′ end′ os′ (rw (length-replicate n blank) bases′)
 
-      -- (c) a block reads as the write that stands there, or as its base where none was made or a cut came after it
-      pub cut-reads : (b : ℕ) → b < n
-          → reads (end b) (getD (cutRun n os) b blank) ≡ shown cutStore cutReading (end b) (standing cutStore n b os)
-      unfolding Over
-      cut-reads b h =
-          let k : b < length (replicate n blank) = rw (length-replicate n blank) h in
-          rw (length-replicate n blank) at
-          (run-reads cutStore cutReading cut-laws cut-reading-laws (replicate n blank) (cut-fresh n) b k (end b) tt os (over b k))
+    -- (b) "two runs are compared where their bases agree at the end": such a block holds the same just if it reads the same
+    pub cut-same-at : (b : ℕ) → b < n → end b ≡ end′ b
+        → (getD (cutRun n os) b blank ≡ getD (cutRun n os′) b blank)
+        ↔ (reads (end b) (getD (cutRun n os) b blank) ≡ reads (end b) (getD (cutRun n os′) b blank))
+    unfolding Over
+    cut-same-at b h e =
+        let k : b < length (replicate n blank) = rw (length-replicate n blank) h in
+        same-at cutStore cutReading cut-laws cut-reading-laws (replicate n blank) (cut-fresh n) b k (end b) tt os os′ (over b k)
+        (rw e (over′ b k))
 
-      pub cut-same-at : (b : ℕ) → b < n → end b ≡ end′ b
-          → (getD (cutRun n os) b blank ≡ getD (cutRun n os′) b blank)
-          ↔ (reads (end b) (getD (cutRun n os) b blank) ≡ reads (end b) (getD (cutRun n os′) b blank))
-      unfolding Over
-      cut-same-at b h e =
-          let k : b < length (replicate n blank) = rw (length-replicate n blank) h in
-          same-at cutStore cutReading cut-laws cut-reading-laws (replicate n blank) (cut-fresh n) b k (end b) tt os os′ (over b k)
-          (rw e (over′ b k))
+    -- and where all of them agree the runs leave the same just if every block reads the same
+    pub cut-same-iff : ((b : ℕ) → end b ≡ end′ b)
+        → (cutRun n os ≡ cutRun n os′)
+        ↔ ((b : ℕ) → b < n → reads (end b) (getD (cutRun n os) b blank) ≡ reads (end b) (getD (cutRun n os′) b blank))
+    unfolding ReadSame Over
+    cut-same-iff e =
+        rw (length-replicate n blank) at
+        (same-iff-read-same cutStore cutReading cut-laws cut-reading-laws (replicate n blank) (cut-fresh n) end (λ b h. tt) os os′ over
+        (λ b h. rw (e b) (over′ b h)))
 
-      pub cut-same-iff : ((b : ℕ) → end b ≡ end′ b)
-          → (cutRun n os ≡ cutRun n os′)
-          ↔ ((b : ℕ) → b < n → reads (end b) (getD (cutRun n os) b blank) ≡ reads (end b) (getD (cutRun n os′) b blank))
-      unfolding ReadSame Over
-      cut-same-iff e =
-          rw (length-replicate n blank) at
-          (same-iff-read-same cutStore cutReading cut-laws cut-reading-laws (replicate n blank) (cut-fresh n) end (λ b h. tt) os os′ over
-          (λ b h. rw (e b) (over′ b h)))
+    -- (c) a block reads as the write that stands there, or as its base where none was made or a cut came after it
+    pub cut-reads : (b : ℕ) → b < n
+        → reads (end b) (getD (cutRun n os) b blank) ≡ shown cutStore cutReading (end b) (standing cutStore n b os)
+    unfolding Over
+    cut-reads b h =
+        let k : b < length (replicate n blank) = rw (length-replicate n blank) h in
+        rw (length-replicate n blank) at
+        (run-reads cutStore cutReading cut-laws cut-reading-laws (replicate n blank) (cut-fresh n) b k (end b) tt os (over b k))
 
   -- An example, computed: of two blocks a cut at 1 wipes the second, a cut at 2 nothing, and a cut at 3 is refused
   module _ (x y : Cell) (p q : Page) where
-    abbrev pub first : Put
-    first = record { block = 0; cell = x; page = p }
+    abbrev pub firstPut : Put
+    firstPut = record { block = 0; cell = x; page = p }
 
     abbrev pub cutExample : List PutOrCut
-    cutExample = write first ∷ write (record { block = 1; cell = y; page = q }) ∷ wipe 1 ∷ wipe 2 ∷ wipe 3 ∷ []
+    cutExample = write firstPut ∷ write (record { block = 1; cell = y; page = q }) ∷ wipe 1 ∷ wipe 2 ∷ wipe 3 ∷ []
 
     pub cut-example : cutRun 2 cutExample ≡ x ∷ blank ∷ []
     unfolding run
     cut-example = refl
 
-    pub cut-example-stands : (standing cutStore 2 0 cutExample ≡ some (write first)) × (standing cutStore 2 1 cutExample ≡ some (wipe 1))
+    pub cut-example-stands : (standing cutStore 2 0 cutExample ≡ some (write firstPut)) × (standing cutStore 2 1 cutExample ≡ some (wipe 1))
     unfolding standing lastSuch touches concerns later
     cut-example-stands = (refl, refl)

@@ -5,7 +5,7 @@ use mathlib.Core.Path.{_≡_, refl, sym, ap, _∙_}
 use mathlib.Core.Logic.{_↔_, _⊎_, inl, inr}
 use mathlib.Core.Bool.{Bool, true, false, _&&_, cond}
 use mathlib.Core.Option.{Option, none, some, Option·map, Option·none-ne-some}
-use mathlib.Core.List.{List, [], _∷_, map, List·Memᴰ, List·Memᴰ·head, List·Memᴰ·tail, List·Memᴰ·cases-cons, List·Memᴰ·not-nil}
+use mathlib.Core.List.{List, [], _∷_, map, List·Memᴰ, List·Memᴰ·head, List·Memᴰ·tail, List·Memᴰ·not-nil}
 use lib.Dec.{eqb}
 use borrow.Author.Tests.{eqb-true, eqb-false, eq-eqb}
 use Rattle.span.specs.Laws.{and-left, and-right}
@@ -88,20 +88,6 @@ module _ (S : Store) where
     unfolding run
     run-frame s [] = refl
     run-frame s (o ∷ os) = run-frame (step s o) os ∙ L .frame-kept s o
-
-    -- what is taken when its turn comes is accepted
-    pub taken-accepted : (s : State) (os : Ops S) (o : Op Write Wipe) → List·Memᴰ o (taking takes step s os) → accepts (frame s) o ≡ true
-    unfolding taking
-    taken-accepted s [] o i = absurd (List·Memᴰ·not-nil i)
-    taken-accepted s (p ∷ os) o i = go (takes s p) refl i (λ j. rw (L .frame-kept s p) at (taken-accepted (step s p) os o j))
-      where
-        rest : Ops S
-        rest = taking takes step (step s p) os
-
-        go : (t : Bool) → takes s p ≡ t → List·Memᴰ o (cond t (p ∷ rest) rest) → (List·Memᴰ o rest → accepts (frame s) o ≡ true)
-            → accepts (frame s) o ≡ true
-        go true e j below = elim (List·Memᴰ·cases-cons j) [ inl q ↦ rw q (sym (L .by-frame s p) ∙ e) | inr k ↦ below k ]
-        go false e j below = below j
 
     -- what stands is the last, of the operations that were taken when their turn came, that has to do with the block
     pub standing-is : (b : ℕ) (s : State) (os : Ops S)
