@@ -58,7 +58,8 @@ module _ (P : ℕ) (patch full : List ℕ) (b at : ℕ) (slot : List ℕ) (r : S
   pub told-empty : r ≡ Empty → straysIn P full b ≡ blockFault P patch full b
   told-empty q = sym (block-empty P patch full b (state q))
 
-  module _ (n : ℕ) (payload : List ℕ) (j : Checked) (q : r ≡ Patch n) (h : payload ≡ part payloadAt n slot) (numbers : checkedNumbers j ≡ checkNumbers P payload) where
+  module _ (n : ℕ) (payload : List ℕ) (j : Checked) (q : r ≡ Patch n) (h : payload ≡ part payloadAt n slot)
+      (numbers : checkedNumbers j ≡ checkNumbers P payload) where
     same-payload : payload ≡ payloadOf (slotOf patch b)
     unfolding payloadOf
     same-payload =

@@ -13,7 +13,8 @@ use Rattle.layout.specs.FirstFaultLaws.{rows-numbered, first-by-rows}
 use Rattle.layout.specs.Lengths.{blocksIn, lengthRows}
 use Rattle.headers.specs.HeaderLaws.{headers-numbered}
 use Rattle.store.specs.Block.{slotRows, fullRows, payloadRows}
-use Rattle.building.specs.Build.{placeRows, faultGroups, faultRows, buildGroups, blockFault, buildFault, buildRows, BuildOutcome, buildOutcome}
+use Rattle.building.specs.Build.{placeRows, faultGroups, faultRows, buildGroups, blockFault, buildFault, buildRows, BuildOutcome}
+use Rattle.building.specs.Build.{buildOutcome}
 
 module _ (P : ℕ) (patch full : List ℕ) where
   fault-numbered : (b : ℕ) → Numbered (faultRows P patch full b)

@@ -36,7 +36,8 @@ module _ (n : ℕ) (payload : List ℕ) where
   unfolding checkNumbers
   unsound-told e = rw e
 
-  pub sound-told : (count : ℕ) (at : ℤ) → SoundAs n payload count at → record { number = 0; entries = count; last = at } ≡ checkNumbers n payload
+  pub sound-told : (count : ℕ) (at : ℤ) → SoundAs n payload count at → record { number = 0; entries = count; last = at }
+      ≡ checkNumbers n payload
   unfolding checkNumbers
   sound-told count at s = rw (s .is) (λ i. record { number = 0; entries = s .entries i; last = s .last i })
 
@@ -64,7 +65,8 @@ checked-one (Sound m q) Unsound e = absurd (omega (arith, ap (λ (x : CheckedNum
 checked-one (Sound m q) (Sound k r) e = λ i. Sound (e i .entries) (e i .last)
 
 -- and a stream begins in one way
-pub step-one : (n : ℕ) (payload : List ℕ) (place : ℕ) (s : Stream) (a b : Step) → Follows n payload place s a → Follows n payload place s b → a ≡ b
+pub step-one : (n : ℕ) (payload : List ℕ) (place : ℕ) (s : Stream) (a b : Step) → Follows n payload place s a
+    → Follows n payload place s b → a ≡ b
 step-one n payload place s End End x y = refl
 step-one n payload place s End Broken x (inl y) = let z : _≡_ {A = ℕ} 0 1 = cc in absurd (omega arith)
 step-one n payload place s End Broken x (inr y) = let z : _≡_ {A = ℕ} 0 1 = cc in absurd (omega arith)

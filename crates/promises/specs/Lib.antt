@@ -1,4 +1,8 @@
 pub mod Runs
+pub mod LastLaws
+pub mod StandingLaws
+pub mod SameLaws
+pub mod RunsCut
 pub mod Words
 pub mod SlotLaws
 pub mod Cells
@@ -9,9 +13,13 @@ pub mod ReadLaws
 pub mod WriteLaws
 pub mod ShowLaws
 pub mod DemandTwo
+pub mod Decisions
+pub mod DecisionLaws
 pub mod RunWords
 pub mod RunStore
+pub mod RunStoreLaws
 pub mod RunReads
+pub mod RunReadLaws
 pub mod FreshLaws
 pub mod RunBuild
 pub mod RunLaws

@@ -1,6 +1,5 @@
 -- Statements about runs that are false: each is a part of demand 3 with one thing changed or left out, and a run over the areas and pages
--- of
--- `Sample` shows it so.
+-- of `Sample` shows it so.
 use Prim.Native.Nat.{ℕ, _<_}
 use native.Mathlib.Omega.{arith}
 use native.Mathlib.Decide.{decLt}
@@ -8,7 +7,7 @@ use mathlib.Core.Path.{_≡_, refl, sym, ap, _∙_}
 use mathlib.Core.Logic.{_↔_, inr}
 use mathlib.Core.Bool.{Bool, true, false, cond}
 use mathlib.Core.Option.{Option, none, some, Option·some-injective, Option·none-ne-some}
-use mathlib.Core.List.{List, [], _∷_, List·Memᴰ, List·Memᴰ·head, List·Memᴰ·eq-of-singleton}
+use mathlib.Core.List.{List, [], _∷_, map, List·Memᴰ, List·Memᴰ·head, List·Memᴰ·eq-of-singleton}
 use lib.Dec.{eqb, lit≤, lit<}
 use lib.ListN.{replicate}
 use Rattle.span.specs.Bytes.{zeros, splice}
@@ -23,59 +22,62 @@ use Rattle.promises.specs.Words.{blocks, PagesFit}
 use Rattle.promises.specs.StoreLaws.{write-done}
 use Rattle.promises.specs.ReadLaws.{reads-patch}
 use Rattle.promises.specs.WriteLaws.{others-read}
-use Rattle.promises.specs.Runs.{lastSuch}
-use Rattle.promises.specs.RunWords.{Areas, Lent, next, after, accepted, lastTo, FreshAreas}
-use Rattle.promises.specs.RunLaws.{run-fits, reads-none}
-use Rattle.promises.specs.DemandThree.{readAt}
+use Rattle.promises.specs.Runs.{run, write, concerns}
+use Rattle.promises.specs.StandingLaws.{same-write}
+use Rattle.promises.specs.RunWords.{Areas, readAt, Lent, cuts, Operation, after, accepted, next, FreshAreas}
+use Rattle.promises.specs.RunLaws.{run-fits}
 use Rattle.promises.specs.Sample.{sample, sample-fresh, two-blocks, takes, page, same-bytes, one, two, many, one-fits, two-fits}
-use Rattle.promises.specs.Sample.{many-fits, stream-one, large-ones, large-twos, to, both-taken, slot-of, changes, same-page}
+use Rattle.promises.specs.Sample.{many-fits, stream-one, large-ones, large-twos, to, puts, both-taken, slot-of, changes, same-page}
+use Rattle.promises.specs.Sample.{nothing-stands}
 
--- the first of some writes that went to block b
-unfoldable pub firstTo : ℕ → List Lent → Option Lent
+-- the first of some operations that has to do with block b
+unfoldable pub firstTo : ℕ → List Operation → Option Operation
 firstTo b [] = none
-firstTo b (w ∷ ws) = cond (eqb (w .block) b) (some w) (firstTo b ws)
+firstTo b (o ∷ os) = cond (concerns (λ (w : Lent). w .block) cuts b o) (some o) (firstTo b os)
 
 -- each block's first accepted write, in place of its last
-pub not-first : ((s : Areas) → FreshAreas pageSize s → (ws ls : List Lent)
-    → ((w : Lent) → List·Memᴰ w ls ↔ (firstTo (w .block) (accepted pageSize s ws) ≡ some w)) → after pageSize s ls ≡ after pageSize s ws)
+pub not-first : ((s : Areas) → FreshAreas pageSize s → (os : List Operation) (ls : List Lent)
+    → ((w : Lent) → List·Memᴰ w ls ↔ (firstTo (w .block) (accepted pageSize s os) ≡ some (write w)))
+    → after pageSize s (map write ls) ≡ after pageSize s os)
     → ⊥
-unfolding firstTo after
+unfolding firstTo concerns run
 not-first claim =
-    let e : after pageSize sample (to 0 one ∷ []) ≡ after pageSize sample (to 0 one ∷ to 0 two ∷ []) =
-    claim sample sample-fresh (to 0 one ∷ to 0 two ∷ []) (to 0 one ∷ [])
-    (λ w. rw (both-taken 0 (lit< tt)) (λ i. rw (List·Memᴰ·eq-of-singleton i), λ e. List·Memᴰ·head (only (eqb 0 (w .block)) e))) in
-    let z : _≡_ {A = ℕ} 0 9 = same-bytes (7 ∷ []) (7 ∷ 9 ∷ []) (same-page [] (to 0 one ∷ []) one two one-fits two-fits e) 1 in
+    let e : after pageSize sample (puts 0 one ∷ []) ≡ after pageSize sample (puts 0 one ∷ puts 0 two ∷ []) =
+    claim sample sample-fresh (puts 0 one ∷ puts 0 two ∷ []) (to 0 one ∷ [])
+    (λ w. rw (both-taken 0 (lit< tt) two two-fits)
+    (λ i. rw (List·Memᴰ·eq-of-singleton i), λ e. List·Memᴰ·head (only (eqb 0 (w .block)) e))) in
+    let z : _≡_ {A = ℕ} 0 9 = same-bytes (7 ∷ []) (7 ∷ 9 ∷ []) (same-page [] (puts 0 one ∷ []) one two one-fits two-fits e) 1 in
     omega arith
   where
-    only : {w : Lent} (t : Bool) → cond t (some (to 0 one)) (cond t (some (to 0 two)) none) ≡ some w → w ≡ to 0 one
-    only true e = sym (Option·some-injective _ _ e)
+    only : {w : Lent} (t : Bool) → cond t (some (puts 0 one)) (cond t (some (puts 0 two)) none) ≡ some (write w) → w ≡ to 0 one
+    only true e = sym (same-write (Option·some-injective _ _ e))
     only false e = absurd (Option·none-ne-some _ e)
 
 -- runs that read the same, whatever base pages they were written over
 pub not-any-base : ((s : Areas) → FreshAreas pageSize s → (bases into : ℕ → List ℕ)
     → ((b : ℕ) → b < blocks (s .patch) → PagesFit pageSize (bases b) (into b))
-    → (ws vs : List Lent)
-    → ((b : ℕ) → b < blocks (s .patch) → readAt (after pageSize s ws) b (bases b) (into b) .page
-    ≡ readAt (after pageSize s vs) b (bases b) (into b) .page)
-    → after pageSize s ws ≡ after pageSize s vs)
+    → (os os′ : List Operation)
+    → ((b : ℕ) → b < blocks (s .patch) → readAt pageSize (after pageSize s os) b (bases b) (into b) .page
+    ≡ readAt pageSize (after pageSize s os′) b (bases b) (into b) .page)
+    → after pageSize s os ≡ after pageSize s os′)
     → ⊥
-unfolding after accepted lastTo lastSuch page pageOf zeros slotImage kindFor stream inPage whole sound put applied
-not-any-base claim = changes 0 (lit< tt) (claim sample sample-fresh (λ b. one) (λ b. one) (λ b n. both) (to 0 one ∷ []) [] same)
+unfolding run page pageOf zeros slotImage kindFor stream inPage whole sound put applied
+not-any-base claim = changes 0 (lit< tt) (claim sample sample-fresh (λ b. one) (λ b. one) (λ b n. both) (puts 0 one ∷ []) [] same)
   where
     both : PagesFit pageSize one one
     both = record { base-length = inr (one-fits .page-length); page-length = one-fits .page-length }
 
     -- `00 07` over a base that has 07 there already
-    at-0 : readAt (next pageSize sample (to 0 one)) 0 one one .page ≡ readAt sample 0 one one .page
+    at-0 : readAt pageSize (next pageSize sample (to 0 one)) 0 one one .page ≡ readAt pageSize sample 0 one one .page
     at-0 =
         ap (λ (o : ReadOutcome). o .page)
         (reads-patch pageSize (next pageSize sample (to 0 one) .patch) (next pageSize sample (to 0 one) .full) 0 one one
-        (run-fits pageSize sample sample-fresh (to 0 one ∷ []) one one both) (rw (two-blocks (to 0 one ∷ [])) (lit< tt)) (0 ∷ 7 ∷ [])
+        (run-fits pageSize sample sample-fresh (puts 0 one ∷ []) one one both) (rw (two-blocks (puts 0 one ∷ [])) (lit< tt)) (0 ∷ 7 ∷ [])
         (record { image = slot-of [] one (0 ∷ 7 ∷ []) one-fits stream-one; some = lit≤ tt; room-for = lit≤ tt }) refl)
-        ∙ sym (ap (λ (o : ReadOutcome). o .page) (reads-none pageSize sample sample-fresh [] 0 (rw (two-blocks []) (lit< tt)) one one both
-        refl))
+        ∙ sym (ap (λ (o : ReadOutcome). o .page) (nothing-stands 0 (lit< tt) one one both))
 
-    same : (b : ℕ) → b < blocks (sample .patch) → readAt (next pageSize sample (to 0 one)) b one one .page ≡ readAt sample b one one .page
+    same : (b : ℕ) → b < blocks (sample .patch)
+        → readAt pageSize (next pageSize sample (to 0 one)) b one one .page ≡ readAt pageSize sample b one one .page
     same b n =
         elim (decLt 0 b) [
           | yes h ↦ ap (λ (o : ReadOutcome). o .page) (others-read pageSize (sample .patch) (sample .full) 0 [] one b (λ q. omega arith)
@@ -84,14 +86,15 @@ not-any-base claim = changes 0 (lit< tt) (claim sample sample-fresh (λ b. one) 
         ]
 
 -- runs that leave the same slots: that of a full page does not say which
-pub not-slots-alone : ((s : Areas) → FreshAreas pageSize s → (ws vs : List Lent) → after pageSize s ws .patch ≡ after pageSize s vs .patch
-    → after pageSize s ws ≡ after pageSize s vs) → ⊥
-unfolding after many carriedPatch slotImage
+pub not-slots-alone : ((s : Areas) → FreshAreas pageSize s → (os os′ : List Operation)
+    → after pageSize s os .patch ≡ after pageSize s os′ .patch
+    → after pageSize s os ≡ after pageSize s os′) → ⊥
+unfolding run many carriedPatch slotImage
 not-slots-alone claim =
     let z : _≡_ {A = ℕ} 1 2 =
     same-bytes (replicate 253 1) (replicate 253 2)
     (same-page [] [] (many 1) (many 2) (many-fits 1) (many-fits 2)
-    (claim sample sample-fresh (to 0 (many 1) ∷ []) (to 0 (many 2) ∷ []) (full-patch (many 1) (many-fits 1) large-ones
+    (claim sample sample-fresh (puts 0 (many 1) ∷ []) (puts 0 (many 2) ∷ []) (full-patch (many 1) (many-fits 1) large-ones
     ∙ sym (full-patch (many 2) (many-fits 2) large-twos)))) 0 in
     omega arith
   where

@@ -4,6 +4,7 @@ use native.Mathlib.Omega.{arith}
 use mathlib.Core.Path.{_≡_, refl, sym, ap, _∙_}
 use mathlib.Core.Bool.{true}
 use mathlib.Core.Logic.{inl, inr}
+use mathlib.Core.Option.{Option·none-ne-some}
 use mathlib.Core.List.{List, [], _∷_, _++_}
 use lib.Dec.{lit≤, lit<}
 use lib.ListN.{length, length-append, getD, replicate}
@@ -27,12 +28,12 @@ use Rattle.writing.specs.Write.{decidedKind, decidedStream}
 use Rattle.promises.specs.Words.{blocks, places, PagesFit, WriteGives, streamOf}
 use Rattle.promises.specs.Tables.{write-table}
 use Rattle.promises.specs.WriteLaws.{reads-back}
-use Rattle.promises.specs.Runs.{lastSuch}
-use Rattle.promises.specs.RunWords.{Areas, Lent, outcome, next, after, accepted, lastTo, FreshAreas}
-use Rattle.promises.specs.RunStore.{Cell, cellAt, cell-here}
-use Rattle.promises.specs.StoreLaws.{imageOf, contentOf}
-use Rattle.promises.specs.RunLaws.{kept, run-fits, reads-none}
-use Rattle.promises.specs.DemandThree.{readAt}
+use Rattle.promises.specs.Decisions.{Cell, cellFor}
+use Rattle.promises.specs.Runs.{run, taking, lastSuch, write}
+use Rattle.promises.specs.RunWords.{Areas, readAt, Lent, Operation, outcome, after, accepted, next, lastTo, decision, FreshAreas}
+use Rattle.promises.specs.RunStore.{cellAt}
+use Rattle.promises.specs.RunStoreLaws.{cell-here}
+use Rattle.promises.specs.RunLaws.{kept, run-fits, reads-base}
 
 -- The areas
 
@@ -62,29 +63,29 @@ sample-fresh =
         }
     made = format-done pageSize (zeros (slotAt 2)) (zeros (pageAt pageSize 2)) fits
 
-module _ (ws : List Lent) where
-  pub two-blocks : blocks (after pageSize sample ws .patch) ≡ 2
+module _ (os : List Operation) where
+  pub two-blocks : blocks (after pageSize sample os .patch) ≡ 2
   unfolding sample
-  two-blocks = rw (kept pageSize sample sample-fresh ws .patch-length, fresh-patch-length pageSize (slotAt 2) (lit≤ tt)) (blocks-of 2)
+  two-blocks = rw (kept pageSize sample sample-fresh os .patch-length, fresh-patch-length pageSize (slotAt 2) (lit≤ tt)) (blocks-of 2)
 
-  pub two-places : places pageSize (after pageSize sample ws .full) ≡ 2
+  pub two-places : places pageSize (after pageSize sample os .full) ≡ 2
   unfolding sample
-  two-places = rw (kept pageSize sample sample-fresh ws .full-length, fresh-full-length pageSize (pageAt pageSize 2) (inr (lit≤ tt)))
+  two-places = rw (kept pageSize sample sample-fresh os .full-length, fresh-full-length pageSize (pageAt pageSize 2) (inr (lit≤ tt)))
       (pages-of pageSize 2 (lit< tt))
 
   -- a write of a whole page to one of them is accepted
-  pub takes : (w : Lent) → w .block < 2 → PagesFit pageSize (w .base) (w .page) → outcome pageSize (after pageSize sample ws) w .number
+  pub takes : (w : Lent) → w .block < 2 → PagesFit pageSize (w .base) (w .page) → outcome pageSize (after pageSize sample os) w .number
       ≡ 0
   takes w h f =
-      write-table pageSize (after pageSize sample ws .patch) (after pageSize sample ws .full) (w .block) (w .base) (w .page) 0 .1
-      (WriteGives.done (run-fits pageSize sample sample-fresh ws (w .base) (w .page) f) (rw two-blocks h) (λ l. rw two-places h))
+      write-table pageSize (after pageSize sample os .patch) (after pageSize sample os .full) (w .block) (w .base) (w .page) 0 .1
+      (WriteGives.done (run-fits pageSize sample sample-fresh os (w .base) (w .page) f) (rw two-blocks h) (λ l. rw two-places h))
 
   -- and one to any other block is refused with 5
-  pub refuses : (w : Lent) → 2 ≤ w .block → PagesFit pageSize (w .base) (w .page) → outcome pageSize (after pageSize sample ws) w .number
+  pub refuses : (w : Lent) → 2 ≤ w .block → PagesFit pageSize (w .base) (w .page) → outcome pageSize (after pageSize sample os) w .number
       ≡ 5
   refuses w h f =
-      write-table pageSize (after pageSize sample ws .patch) (after pageSize sample ws .full) (w .block) (w .base) (w .page) 5 .1
-      (WriteGives.block (run-fits pageSize sample sample-fresh ws (w .base) (w .page) f) (rw two-blocks h))
+      write-table pageSize (after pageSize sample os .patch) (after pageSize sample os .full) (w .block) (w .base) (w .page) 5 .1
+      (WriteGives.block (run-fits pageSize sample sample-fresh os (w .base) (w .page) f) (rw two-blocks h))
 
 -- The pages
 
@@ -146,53 +147,64 @@ large-twos = refl
 abbrev pub to : ℕ → List ℕ → Lent
 to b x = record { block = b; base = []; page = x }
 
-pub both-taken : (b : ℕ) → b < 2 → accepted pageSize sample (to 0 one ∷ to b two ∷ []) ≡ to 0 one ∷ to b two ∷ []
-unfolding accepted after
-both-taken b h =
+-- the same as operations
+abbrev pub puts : ℕ → List ℕ → Operation
+puts b x = write (to b x)
+
+pub both-taken : (b : ℕ) → b < 2 → (x : List ℕ) → PagesFit pageSize [] x
+    → accepted pageSize sample (puts 0 one ∷ puts b x ∷ []) ≡ puts 0 one ∷ puts b x ∷ []
+unfolding run taking
+both-taken b h x f =
     rw (
       eq-eqb (outcome pageSize sample (to 0 one) .number) 0 (takes [] (to 0 one) (lit< tt) one-fits),
-      eq-eqb (outcome pageSize (next pageSize sample (to 0 one)) (to b two) .number) 0 (takes (to 0 one ∷ []) (to b two) h two-fits),
+      eq-eqb (outcome pageSize (next pageSize sample (to 0 one)) (to b x) .number) 0 (takes (puts 0 one ∷ []) (to b x) h f),
     )
 
 -- the slot and the place after one to block 0
-cell-of : (ws : List Lent) (x : List ℕ) → PagesFit pageSize [] x
-    → cellAt pageSize (next pageSize (after pageSize sample ws) (to 0 x)) 0
-    ≡ record { slot = imageOf pageSize [] x; place = contentOf pageSize [] x }
-cell-of ws x f = cell-here pageSize (after pageSize sample ws) (to 0 x)
-    (eq-eqb (outcome pageSize (after pageSize sample ws) (to 0 x) .number) 0 (takes ws (to 0 x) (lit< tt) f))
+cell-of : (os : List Operation) (x : List ℕ) → PagesFit pageSize [] x
+    → cellAt pageSize (next pageSize (after pageSize sample os) (to 0 x)) 0
+    ≡ cellFor pageSize (decision pageSize (to 0 x))
+cell-of os x f = cell-here pageSize (after pageSize sample os) (to 0 x)
+    (eq-eqb (outcome pageSize (after pageSize sample os) (to 0 x) .number) 0 (takes os (to 0 x) (lit< tt) f))
 
-pub slot-of : (ws : List Lent) (x payload : List ℕ) → PagesFit pageSize [] x → streamOf pageSize [] x ≡ payload
-    → slotOf (next pageSize (after pageSize sample ws) (to 0 x) .patch) 0 ≡ slotImage (kindFor (length payload)) payload
-unfolding imageOf decidedKind decidedStream
-slot-of ws x payload f e = ap (λ (c : Cell). c .slot) (cell-of ws x f) ∙ ap (λ (w : List ℕ). slotImage (kindFor (length w)) w) e
+pub slot-of : (os : List Operation) (x payload : List ℕ) → PagesFit pageSize [] x → streamOf pageSize [] x ≡ payload
+    → slotOf (next pageSize (after pageSize sample os) (to 0 x) .patch) 0 ≡ slotImage (kindFor (length payload)) payload
+unfolding decidedKind decidedStream
+slot-of os x payload f e = ap (λ (c : Cell). c .slot) (cell-of os x f) ∙ ap (λ (w : List ℕ). slotImage (kindFor (length w)) w) e
 
 pub place-ones : cellAt pageSize (next pageSize sample (to 0 (many 1))) 0 .place ≡ many 1
-unfolding after contentOf
+unfolding run
 place-ones = ap (λ (c : Cell). c .place) (cell-of [] (many 1) (many-fits 1)) ∙ rw large-ones
 
 -- the block then reads as the page, into `two` or any other
-pub reads : (ws : List Lent) (b : ℕ) → b < 2 → (x : List ℕ) → PagesFit pageSize [] x
-    → readAt (next pageSize (after pageSize sample ws) (to b x)) b [] two .page ≡ x
-reads ws b h x f =
+pub reads : (os : List Operation) (b : ℕ) → b < 2 → (x : List ℕ) → PagesFit pageSize [] x
+    → readAt pageSize (next pageSize (after pageSize sample os) (to b x)) b [] two .page ≡ x
+reads os b h x f =
     ap (λ (o : ReadOutcome). o .page)
-    (reads-back pageSize (after pageSize sample ws .patch) (after pageSize sample ws .full) b [] x (lit≤ tt) (takes ws (to b x) h f) []
+    (reads-back pageSize (after pageSize sample os .patch) (after pageSize sample os .full) b [] x (lit≤ tt) (takes os (to b x) h f) []
     two refl (two-fits .page-length))
 
--- where a fresh block reads as zeros
-pub reads-zeros : (b : ℕ) → b < 2 → readAt sample b [] two .page ≡ page []
-unfolding after accepted lastTo lastSuch page pageOf
-reads-zeros b h = ap (λ (o : ReadOutcome). o .page) (reads-none pageSize sample sample-fresh [] b (rw (two-blocks []) h) [] two two-fits
-    refl)
+-- where a fresh block reads as its base, so as zeros
+pub nothing-stands : (b : ℕ) → b < 2 → (base x : List ℕ) → PagesFit pageSize base x
+    → readAt pageSize sample b base x ≡ record { number = 0; kind = 0; page = pageOf pageSize base }
+unfolding run taking lastTo lastSuch
+nothing-stands b h base x f =
+    reads-base pageSize sample sample-fresh (lit≤ tt) [] b (rw (two-blocks []) h) base x f (λ w e. Option·none-ne-some _ e)
+
+pub reads-zeros : (b : ℕ) → b < 2 → readAt pageSize sample b [] two .page ≡ page []
+unfolding run page pageOf
+reads-zeros b h = ap (λ (o : ReadOutcome). o .page) (nothing-stands b h [] two two-fits)
 
 -- so the areas are changed, and are others for each page
 pub changes : (b : ℕ) → b < 2 → next pageSize sample (to b one) ≡ sample → ⊥
-unfolding after
+unfolding run
 changes b h e =
-    let z : _≡_ {A = ℕ} 7 0 = same-bytes (7 ∷ []) [] (sym (reads [] b h one one-fits) ∙ ap (λ (s : Areas). readAt s b [] two .page) e
-    ∙ reads-zeros b h) 0 in
+    let z : _≡_ {A = ℕ} 7 0 =
+    same-bytes (7 ∷ []) []
+    (sym (reads [] b h one one-fits) ∙ ap (λ (s : Areas). readAt pageSize s b [] two .page) e ∙ reads-zeros b h) 0 in
     omega arith
 
-pub same-page : (ws vs : List Lent) (x y : List ℕ) → PagesFit pageSize [] x → PagesFit pageSize [] y
-    → next pageSize (after pageSize sample ws) (to 0 x) ≡ next pageSize (after pageSize sample vs) (to 0 y) → x ≡ y
-same-page ws vs x y f g e =
-    sym (reads ws 0 (lit< tt) x f) ∙ ap (λ (s : Areas). readAt s 0 [] two .page) e ∙ reads vs 0 (lit< tt) y g
+pub same-page : (os os′ : List Operation) (x y : List ℕ) → PagesFit pageSize [] x → PagesFit pageSize [] y
+    → next pageSize (after pageSize sample os) (to 0 x) ≡ next pageSize (after pageSize sample os′) (to 0 y) → x ≡ y
+same-page os os′ x y f g e =
+    sym (reads os 0 (lit< tt) x f) ∙ ap (λ (s : Areas). readAt pageSize s 0 [] two .page) e ∙ reads os′ 0 (lit< tt) y g

@@ -1,14 +1,14 @@
 -- Wrong programs, each shut out by a proved input: the areas and pages of `Sample`, at the page size that the calls have. A wrong Write
--- goes
--- from the areas and what it is lent to the numbers and bytes that it gives back; `Breaks` says that no answer with these numbers meets
--- the
--- predicate that Write's contract cites.
+-- goes from the areas and what it is lent to the numbers and bytes that it gives back. `Breaks` says that no answer with these numbers
+-- meets the predicate that Write's contract cites; `LastsLeave` and `ReadsAsLast` are parts of demand 3 for the runs of a given program.
 use Prim.Native.Nat.{ℕ, suc, _+_, _<_, min}
 use native.Mathlib.Omega.{arith}
 use mathlib.Core.Path.{_≡_, refl, sym, ap, _∙_}
-use mathlib.Core.Bool.{cond, _||_}
+use mathlib.Core.Bool.{true, cond, _||_}
 use mathlib.Core.Logic.{inl, inr}
-use mathlib.Core.List.{List, [], _∷_, List·Memᴰ, List·Memᴰ·head, List·Memᴰ·tail, List·Memᴰ·cases-cons, List·Memᴰ·eq-of-singleton}
+use mathlib.Core.Option.{some, Option·none-ne-some}
+use mathlib.Core.List.{List, [], _∷_, map, List·Memᴰ·head, List·Memᴰ·tail, List·Memᴰ·cases-cons, List·Memᴰ·not-nil}
+use mathlib.Core.List.{List·Memᴰ·eq-of-singleton}
 use lib.Dec.{eqb, lit≤, lit<}
 use lib.ListN.{length, getD, replicate}
 use borrow.Author.Tests.{eq-eqb}
@@ -27,20 +27,23 @@ use Rattle.writing.specs.declared.Written.{Written}
 use Rattle.promises.specs.Words.{blocks, PagesFit, FrameFits, SameFrame, WriteGives, streamOf}
 use Rattle.promises.specs.FrameLaws.{lengths-moved, headers-moved}
 use Rattle.promises.specs.Tables.{write-table}
-use Rattle.promises.specs.StoreLaws.{imageOf, contentOf, write-done, write-not}
+use Rattle.promises.specs.StoreLaws.{imageOf, write-done, write-not}
 use Rattle.promises.specs.WriteLaws.{write-length, others-read}
-use Rattle.promises.specs.Runs.{run, lastSuch, later, last-in}
-use Rattle.promises.specs.RunWords.{Areas, Lent, outcome, next, after, accepted, lastTo, JustLasts}
-use Rattle.promises.specs.RunStore.{Cell, cellAt, cell-here}
+use Rattle.promises.specs.Decisions.{Cell}
+use Rattle.promises.specs.Runs.{run, taking, later, lastSuch, write, concerns}
+use Rattle.promises.specs.LastLaws.{last-in}
+use Rattle.promises.specs.StandingLaws.{same-write}
+use Rattle.promises.specs.RunWords.{Areas, readAt, Lent, cuts, Operation, Program, outcome, afterBy, acceptedBy, after, next, lastTo}
+use Rattle.promises.specs.RunWords.{JustLastsBy, Decided, FreshAreas}
+use Rattle.promises.specs.RunStore.{cellAt}
+use Rattle.promises.specs.RunStoreLaws.{cell-here}
+use Rattle.promises.specs.RunReadLaws.{decided-over}
 use Rattle.promises.specs.FreshLaws.{fresh-lengths, fresh-headers, fresh-cell}
 use Rattle.promises.specs.RunLaws.{kept, run-fits}
-use Rattle.promises.specs.DemandThree.{readAt}
+use Rattle.promises.specs.DemandThree.{lasts-leave-the-same, reads-as-last}
 use Rattle.promises.specs.Sample.{sample, sample-fresh, two-blocks, two-places, takes, refuses, page, same-bytes, one, two, many}
-use Rattle.promises.specs.Sample.{one-fits, two-fits, stream-one, stream-two, stream-next, to, both-taken, slot-of, place-ones}
+use Rattle.promises.specs.Sample.{one-fits, two-fits, stream-one, stream-two, stream-next, to, puts, slot-of, place-ones}
 use Rattle.promises.specs.Sample.{reads, reads-zeros, changes, same-page}
-
-abbrev pub Program : Type 0
-Program = Areas → Lent → WriteOutcome
 
 abbrev pub Breaks : Program → Areas → Lent → Type 0
 Breaks wrong s w =
@@ -63,22 +66,44 @@ other wrong s w h a e x =
 abbrev areas : WriteOutcome → Areas
 areas o = record { patch = o .patch; full = o .full }
 
--- the areas after a run of a wrong Write
-unfoldable pub afterBy : Program → Areas → List Lent → Areas
-afterBy wrong s ws = run (λ (s : Areas) (w : Lent). areas (wrong s w)) s ws
+-- the areas after a first write, to block 0
+abbrev pub T : List ℕ → Areas
+T x = next pageSize sample (to 0 x)
+
+-- Demand 3 for the runs of a given program: the areas that it leaves, and the writes that it said were done
+
+-- (a): the last accepted writes alone are accepted and leave the same
+abbrev pub LastsLeave : Program → Type 0
+LastsLeave program =
+    (s : Areas) → FreshAreas pageSize s → (os : List Operation) (ls : List Lent) → JustLastsBy program s os ls
+    → (acceptedBy program s (map write ls) ≡ map write ls) × (afterBy program s (map write ls) ≡ afterBy program s os)
+
+-- (c): each block reads as its last accepted page
+abbrev pub ReadsAsLast : Program → Type 0
+ReadsAsLast program =
+    (s : Areas) → FreshAreas pageSize s → (os : List Operation) (b : ℕ) → b < blocks (s .patch)
+    → (w : Lent) → lastTo b (acceptedBy program s os) ≡ some (write w)
+    → (base page : List ℕ) → PagesFit pageSize base page → Decided pageSize (pageOf pageSize base) w
+    → readAt pageSize (afterBy program s os) b base page .page ≡ w .page
+
+-- so the right one keeps them
+pub right-keeps : LastsLeave (outcome pageSize) × ReadsAsLast (outcome pageSize)
+right-keeps = (
+  λ s fresh os ls l. lasts-leave-the-same s fresh os ls l,
+  λ s fresh os b n w e base page f d. ap (λ (o : ReadOutcome). o .page) (reads-as-last s fresh os b n w e base page f d),
+)
 
 -- A Write that only refuses
 
-unfoldable pub onlyRefuses : Program
-onlyRefuses s w = record { number = 8; kind = 0; length = 0; patch = s .patch; full = s .full }
+unfoldable pub onlyRefuses : ℕ → Program
+onlyRefuses n s w = record { number = n; kind = 0; length = 0; patch = s .patch; full = s .full }
 
-pub not-only-refuses : Breaks onlyRefuses sample (to 0 one)
-unfolding onlyRefuses after
-not-only-refuses =
-    other onlyRefuses sample (to 0 one)
-    (λ e.
-    let z : outcome pageSize sample (to 0 one) .number ≡ 8 = ap (λ (o : WriteOutcome). o .number) e in
-    omega (arith, takes [] (to 0 one) (lit< tt) one-fits))
+-- whichever number it refuses with
+pub not-only-refuses : (n : ℕ) → (n ≡ 0 → ⊥) → Breaks (onlyRefuses n) sample (to 0 one)
+unfolding onlyRefuses run
+not-only-refuses n h =
+    other (onlyRefuses n) sample (to 0 one)
+    (λ e. h (sym (ap (λ (o : WriteOutcome). o .number) e) ∙ takes [] (to 0 one) (lit< tt) one-fits))
 
 -- One that answers done and stores nothing
 
@@ -94,7 +119,7 @@ nothing-breaks b h e = changes b h (ap areas e)
 pub not-nothing : Breaks storesNothing sample (to 0 one)
 not-nothing = other storesNothing sample (to 0 one) (nothing-breaks 0 (lit< tt))
 
--- One that stores block 0 and pretends later: it breaks the predicate at block 1, and its run leaves other areas than those of demand 3
+-- One that stores block 0 and pretends later: it breaks the predicate at block 1, and (c) of demand 3 after its own run
 
 unfoldable pub onlyBlock0 : Program
 onlyBlock0 s w = cond (eqb (w .block) 0) (outcome pageSize s w) (storesNothing s w)
@@ -103,50 +128,52 @@ pub not-only-block-0 : Breaks onlyBlock0 sample (to 1 one)
 unfolding onlyBlock0
 not-only-block-0 = other onlyBlock0 sample (to 1 one) (nothing-breaks 1 (lit< tt))
 
-pub not-only-block-0-run : afterBy onlyBlock0 sample (to 0 one ∷ to 1 one ∷ []) ≡ after pageSize sample (to 0 one ∷ to 1 one ∷ []) → ⊥
-unfolding afterBy run after onlyBlock0 storesNothing
-not-only-block-0-run e =
+pub not-only-block-0-run : ReadsAsLast onlyBlock0 → ⊥
+unfolding run taking onlyBlock0 storesNothing lastTo lastSuch later concerns
+not-only-block-0-run claim =
+    let os : List Operation = puts 0 one ∷ puts 1 one ∷ [] in
+    let first : eqb (outcome pageSize sample (to 0 one) .number) 0 ≡ true = eq-eqb _ _ (takes [] (to 0 one) (lit< tt) one-fits) in
+    let then : eqb (outcome pageSize (T one) (to 1 one) .number) 0 ≡ true =
+    eq-eqb _ _ (takes (puts 0 one ∷ []) (to 1 one) (lit< tt) one-fits) in
+    let stands : lastTo 1 (acceptedBy onlyBlock0 sample os) ≡ some (puts 1 one) = rw (first, then) in
     let z : _≡_ {A = ℕ} 7 0 =
     same-bytes (7 ∷ []) []
-    (sym (reads (to 0 one ∷ []) 1 (lit< tt) one one-fits)
-    ∙ ap (λ (s : Areas). readAt s 1 [] two .page) (sym e)
+    (sym (claim sample sample-fresh os 1 (rw (two-blocks []) (lit< tt)) (to 1 one) stands [] two two-fits
+    (decided-over pageSize (T one) (to 1 one) then))
     ∙ ap (λ (o : ReadOutcome). o .page) (others-read pageSize (sample .patch) (sample .full) 0 [] one 1 (λ q. omega arith) [] two)
     ∙ reads-zeros 1 (lit< tt)) 0 in
     omega arith
 
--- One that stores every page in block 0: two lists of the same last accepted writes leave different bytes
+-- One that stores every page in block 0: it breaks (a), for the order of the last accepted writes counts
 
 unfoldable pub toBlock0 : Program
 toBlock0 s w = outcome pageSize s (record { block = 0; base = w .base; page = w .page })
 
-abbrev pub zeroThenOne : List Lent
-zeroThenOne = to 0 one ∷ to 1 two ∷ []
+abbrev pub zeroThenOne : List Operation
+zeroThenOne = puts 0 one ∷ puts 1 two ∷ []
 
-abbrev pub oneThenZero : List Lent
-oneThenZero = to 1 two ∷ to 0 one ∷ []
-
-pub both-lasts : JustLasts pageSize sample zeroThenOne zeroThenOne × JustLasts pageSize sample zeroThenOne oneThenZero
-unfolding lastTo lastSuch later
-both-lasts = (lasts, λ w. (λ i. lasts w .0 (swap i), λ e. swap (lasts w .1 e)))
-  where
-    lasts : JustLasts pageSize sample zeroThenOne zeroThenOne
-    lasts w =
-        rw (both-taken 1 (lit< tt)) (
-          λ i. elim (List·Memᴰ·cases-cons i) [ inl e ↦ rw e | inr j ↦ rw (List·Memᴰ·eq-of-singleton j) ],
-          λ e. last-in
-              (λ (v : Lent). eqb (v .block) (w .block)) zeroThenOne e .0,
-        )
-
-    swap : {w u v : Lent} → List·Memᴰ w (u ∷ v ∷ []) → List·Memᴰ w (v ∷ u ∷ [])
-    swap i = elim (List·Memᴰ·cases-cons i)
-        [ inl e ↦ List·Memᴰ·tail (List·Memᴰ·head e) | inr j ↦ List·Memᴰ·head (List·Memᴰ·eq-of-singleton j) ]
-
-pub not-to-block-0 : afterBy toBlock0 sample zeroThenOne ≡ afterBy toBlock0 sample oneThenZero → ⊥
-unfolding afterBy run after toBlock0
-not-to-block-0 e =
-    let z : _≡_ {A = ℕ} 9 0 = same-bytes (7 ∷ 9 ∷ []) (7 ∷ []) (same-page (to 0 one ∷ []) (to 0 two ∷ []) two one two-fits one-fits e)
-    1 in
+pub not-to-block-0 : LastsLeave toBlock0 → ⊥
+unfolding run taking toBlock0 lastTo lastSuch later concerns
+not-to-block-0 claim =
+    let z : _≡_ {A = ℕ} 0 9 =
+    same-bytes (7 ∷ []) (7 ∷ 9 ∷ [])
+    (same-page (puts 0 two ∷ []) (puts 0 one ∷ []) one two one-fits two-fits
+    (claim sample sample-fresh zeroThenOne (to 1 two ∷ to 0 one ∷ []) lasts .1)) 1 in
     omega arith
+  where
+    lasts : JustLastsBy toBlock0 sample zeroThenOne (to 1 two ∷ to 0 one ∷ [])
+    lasts w =
+        rw (
+          eq-eqb (outcome pageSize sample (to 0 one) .number) 0 (takes [] (to 0 one) (lit< tt) one-fits),
+          eq-eqb (outcome pageSize (T one) (to 0 two) .number) 0 (takes (puts 0 one ∷ []) (to 0 two) (lit< tt) two-fits),
+        ) (
+          λ i. elim (List·Memᴰ·cases-cons i) [ inl e ↦ rw e | inr j ↦ rw (List·Memᴰ·eq-of-singleton j) ],
+          λ e.
+              elim (List·Memᴰ·cases-cons (last-in (concerns (λ (v : Lent). v .block) cuts (w .block)) zeroThenOne e .0)) [
+                | inl p ↦ List·Memᴰ·tail (List·Memᴰ·head (same-write p))
+                | inr j ↦ List·Memᴰ·head (same-write (List·Memᴰ·eq-of-singleton j))
+              ],
+        )
 
 -- One that answers another length
 
@@ -174,11 +201,11 @@ refusedStores s w =
 
 -- block 2 is not below n
 refused-leaves : areas (refusedStores sample (to 2 one)) ≡ next pageSize sample (to 0 one)
-unfolding refusedStores toBlock0 after
+unfolding refusedStores toBlock0 run
 refused-leaves = rw (refuses [] (to 2 one) (lit≤ tt) one-fits)
 
 pub not-refused-stores : Breaks refusedStores sample (to 2 one)
-unfolding after
+unfolding run
 not-refused-stores =
     other refusedStores sample (to 2 one)
     (λ e.
@@ -186,16 +213,16 @@ not-refused-stores =
     changes 0 (lit< tt) (sym (ap areas e ∙ refused-leaves)
     ∙ ap areas (write-not pageSize (sample .patch) (sample .full) 2 [] one (λ z. omega arith))))
 
--- and of its run no write was accepted, yet the areas are not fresh
-pub not-refused-stores-run : (accepted pageSize sample (to 2 one ∷ []) ≡ []) × (afterBy refusedStores sample (to 2 one ∷ []) ≡ sample → ⊥)
-unfolding accepted after afterBy run
-not-refused-stores-run = (rw (refuses [] (to 2 one) (lit≤ tt) one-fits), λ e. changes 0 (lit< tt) (sym refused-leaves ∙ e))
+-- and it breaks (a): no write of its run was accepted, yet the areas are not fresh
+pub not-refused-stores-run : LastsLeave refusedStores → ⊥
+unfolding run taking refusedStores lastTo lastSuch
+not-refused-stores-run claim = changes 0 (lit< tt) (sym refused-leaves ∙ sym (claim sample sample-fresh (puts 2 one ∷ []) [] none-taken .1))
+  where
+    none-taken : JustLastsBy refusedStores sample (puts 2 one ∷ []) []
+    none-taken w = rw (refuses [] (to 2 one) (lit≤ tt) one-fits)
+        (λ i. absurd (List·Memᴰ·not-nil i), λ e. absurd (Option·none-ne-some _ e))
 
 -- A Read that always gives the base
-
--- the areas after a first write, to block 0
-abbrev pub T : List ℕ → Areas
-T x = next pageSize sample (to 0 x)
 
 unfoldable pub alwaysBase : Areas → ℕ → List ℕ → List ℕ → ReadOutcome
 alwaysBase s b base into = record { number = 0; kind = 0; page = pageOf pageSize base }
@@ -203,7 +230,7 @@ alwaysBase s b base into = record { number = 0; kind = 0; page = pageOf pageSize
 pub not-always-base : (a : Reading) → readingNumbers a ≡ readNumbers (alwaysBase (T one) 0 [] two)
     → Read pageSize (T one .patch) (T one .full) 0 [] two a (alwaysBase (T one) 0 [] two .page)
     → ⊥
-unfolding alwaysBase pageOf page after
+unfolding alwaysBase pageOf page run
 not-always-base a e x =
     let z : _≡_ {A = ℕ} 7 0 = same-bytes (7 ∷ []) [] (sym (reads [] 0 (lit< tt) one one-fits) ∙ sym (x .bytes)) 0 in
     omega arith
@@ -212,20 +239,20 @@ not-always-base a e x =
 
 unfoldable pub againstCurrent : Program
 againstCurrent s w = outcome pageSize s
-    (record { block = w .block; base = readAt s (w .block) (w .base) (w .page) .page; page = w .page })
+    (record { block = w .block; base = readAt pageSize s (w .block) (w .base) (w .page) .page; page = w .page })
 
 pub not-against-current : Breaks againstCurrent (T one) (to 0 two)
-unfolding againstCurrent after
+unfolding againstCurrent run
 not-against-current =
     other againstCurrent (T one) (to 0 two)
     (λ e.
     let wrong : List ℕ → Lent = λ l. record { block = 0; base = l; page = two } in
     let right-length : outcome pageSize (T one) (to 0 two) .length ≡ 4 =
-    write-length pageSize (T one .patch) (T one .full) 0 [] two (takes (to 0 one ∷ []) (to 0 two) (lit< tt) two-fits)
+    write-length pageSize (T one .patch) (T one .full) 0 [] two (takes (puts 0 one ∷ []) (to 0 two) (lit< tt) two-fits)
     ∙ ap (λ (l : List ℕ). length l) stream-two in
     let wrong-length : outcome pageSize (T one) (wrong one) .length ≡ 2 =
     write-length pageSize (T one .patch) (T one .full) 0 one two
-    (takes (to 0 one ∷ []) (wrong one) (lit< tt)
+    (takes (puts 0 one ∷ []) (wrong one) (lit< tt)
     (record { base-length = inr (one-fits .page-length); page-length = two-fits .page-length }))
     ∙ ap (λ (l : List ℕ). length l) stream-next in
     let f : outcome pageSize (T one) (to 0 two) .length ≡ outcome pageSize (T one) (wrong one) .length =
@@ -251,9 +278,9 @@ abbrev pub strayed : Areas
 strayed = record { patch = sample .patch; full = T (many 1) .full }
 
 pub not-clears-if-full : Breaks clearsIfFull strayed (to 0 one)
-unfolding clearsIfFull after contentOf decidedKind decidedStream kindFor many page
+unfolding clearsIfFull run decidedKind decidedStream kindFor many page
 not-clears-if-full =
-    let k = kept pageSize sample sample-fresh (to 0 (many 1) ∷ []) in
+    let k = kept pageSize sample sample-fresh (puts 0 (many 1) ∷ []) in
     let same-frame : SameFrame (sample .patch) (sample .full) (strayed .patch) (strayed .full) =
     record { patch-length = refl; full-length = k .full-length; patch-header = refl; full-header = k .full-header } in
     let fits : FrameFits pageSize (strayed .patch) (strayed .full) [] one =
@@ -267,7 +294,7 @@ not-clears-if-full =
     let below : 0 < blocks (sample .patch) = rw (two-blocks []) (lit< tt) in
     let done : outcome pageSize strayed (to 0 one) .number ≡ 0 =
     write-table pageSize (strayed .patch) (strayed .full) 0 [] one 0 .1
-    (WriteGives.done fits below (λ l. rw (two-places (to 0 (many 1) ∷ [])) (lit< tt))) in
+    (WriteGives.done fits below (λ l. rw (two-places (puts 0 (many 1) ∷ [])) (lit< tt))) in
     let small : decidedKind pageSize [] one ≡ 1 = ap (λ (l : List ℕ). kindFor (length l)) stream-one in
     let kind : outcome pageSize strayed (to 0 one) .kind ≡ 1 =
     ap (λ (o : WriteOutcome). o .kind) (write-done pageSize (strayed .patch) (strayed .full) 0 [] one done) ∙ small in
@@ -300,15 +327,15 @@ noZeroedTail s w =
     }
 
 -- byte 11 of the slot of block 0 after a write to it
-byte-11 : (ws : List Lent) (x payload : List ℕ) → PagesFit pageSize [] x → streamOf pageSize [] x ≡ payload
-    → getD (next pageSize (after pageSize sample ws) (to 0 x) .patch) 523 0 ≡ getD (slotImage (kindFor (length payload)) payload) 11 0
+byte-11 : (os : List Operation) (x payload : List ℕ) → PagesFit pageSize [] x → streamOf pageSize [] x ≡ payload
+    → getD (next pageSize (after pageSize sample os) (to 0 x) .patch) 523 0 ≡ getD (slotImage (kindFor (length payload)) payload) 11 0
 unfolding slotOf
-byte-11 ws x payload f e =
-    sym (part-at (slotAt 0) slotSize (next pageSize (after pageSize sample ws) (to 0 x) .patch) 11 (lit< tt))
-    ∙ ap (λ (l : List ℕ). getD l 11 0) (slot-of ws x payload f e)
+byte-11 os x payload f e =
+    sym (part-at (slotAt 0) slotSize (next pageSize (after pageSize sample os) (to 0 x) .patch) 11 (lit< tt))
+    ∙ ap (λ (l : List ℕ). getD l 11 0) (slot-of os x payload f e)
 
 pub not-no-tail : Breaks noZeroedTail (T two) (to 0 one)
-unfolding noZeroedTail after slotImage kindFor patchSlot zeros le
+unfolding noZeroedTail run slotImage kindFor patchSlot zeros le
 not-no-tail =
     other noZeroedTail (T two) (to 0 one)
     (λ e.
@@ -318,9 +345,9 @@ not-no-tail =
     (payloadAt + length (streamOf pageSize [] one)) (imageOf pageSize [] one) in
     let left : getD (splice (T two .patch) 512 ys) 523 0 ≡ getD (T two .patch) 523 0 =
     splice-after (T two .patch) 512 ys
-    (omega (arith, run-fits pageSize sample sample-fresh (to 0 two ∷ []) [] one one-fits .lengths .patch-length)) 523 (omega arith) in
+    (omega (arith, run-fits pageSize sample sample-fresh (puts 0 two ∷ []) [] one one-fits .lengths .patch-length)) 523 (omega arith) in
     let z : _≡_ {A = ℕ} 0 9 =
-    sym (byte-11 (to 0 two ∷ []) one (0 ∷ 7 ∷ []) one-fits stream-one)
+    sym (byte-11 (puts 0 two ∷ []) one (0 ∷ 7 ∷ []) one-fits stream-one)
     ∙ ap (λ (o : WriteOutcome). getD (o .patch) 523 0) e
     ∙ left
     ∙ byte-11 [] two (0 ∷ 7 ∷ 0 ∷ 9 ∷ []) two-fits stream-two in
@@ -334,7 +361,7 @@ forgetsPlace s w =
     record { number = o .number; kind = o .kind; length = o .length; patch = o .patch; full = s .full }
 
 pub not-forgets-place : Breaks forgetsPlace sample (to 0 (many 1))
-unfolding forgetsPlace after many page
+unfolding forgetsPlace run many page
 not-forgets-place =
     other forgetsPlace sample (to 0 (many 1))
     (λ e.

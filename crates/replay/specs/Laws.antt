@@ -18,7 +18,8 @@ use Rattle.layout.specs.declared.Kind.{Kind}
 use Rattle.layout.specs.declared.Refusal.{Refusal}
 use Rattle.writing.specs.declared.Written.{Written}
 use Rattle.writing.specs.declared.Written.the-variants.{Done, Refused}
-use Rattle.promises.specs.RunWords.{Areas, Lent, taken, next, after, accepted}
+use Rattle.promises.specs.Runs.{run, taking, write}
+use Rattle.promises.specs.RunWords.{Areas, Lent, Operation, outcome, takesBy, doesBy, after, accepted, taken, next}
 use Rattle.replay.specs.Writes.{both, lent, writes, marksOf, Replayed, Turned}
 
 -- One write
@@ -60,23 +61,23 @@ sets-laid (x ∷ xs) (y ∷ ys) =
     let q : suc (0 + n) ≡ 0 + suc n = omega arith in
     sets-later y xs 0 ys ∙ ap (λ (l : List ℕ). y ∷ l) (sets-laid xs ys) ∙ ap (λ (k : ℕ). y ∷ (take (length xs) ys ++ drop k (x ∷ xs))) q
 
--- Accepted writes are counted by their marks
+-- Accepted operations are counted by their marks
 
 one-most : (t : Bool) → cond t 1 0 ≤ 1
 one-most true = omega arith
 one-most false = omega arith
 
-counted : (t : Bool) (w : Lent) (ws : List Lent) → length (cond t (w ∷ ws) ws) ≡ cond t 1 0 + length ws
-counted true w ws = omega arith
-counted false w ws = omega arith
+counted : (t : Bool) (o : Operation) (os : List Operation) → length (cond t (o ∷ os) os) ≡ cond t 1 0 + length os
+counted true o os = omega arith
+counted false o os = omega arith
 
 -- The loop: what the whole run comes to is what the rest of it comes to from here
 
 module _ (P : ℕ) (patch₀ full₀ blocks bases pages marks₀ : List ℕ) where
-  abbrev pub all : List Lent
+  abbrev pub all : List Operation
   all = writes P blocks bases pages
 
-  abbrev pub rest : ℕ → List Lent
+  abbrev pub rest : ℕ → List Operation
   rest i = writes P (drop i blocks) (drop (P * i) bases) (drop (P * i) pages)
 
   pub record Going (i count : ℕ) (patch full marks : List ℕ) : Type 0 where
@@ -91,10 +92,11 @@ module _ (P : ℕ) (patch₀ full₀ blocks bases pages marks₀ : List ℕ) whe
       let z : P * 0 ≡ 0 = mul-zero P in
       let e : rest 0 ≡ all = rw z in
       let n : length (accepted P (both patch₀ full₀) (rest 0)) ≡ length (accepted P (both patch₀ full₀) all) =
-      ap (λ (l : List Lent). length (accepted P (both patch₀ full₀) l)) e in
+      ap (λ (l : List Operation). length (accepted P (both patch₀ full₀) l)) e in
       record { within = omega arith; few = omega arith; areas = rw e; number = omega arith; marked = rw e }
 
-  peel : (i : ℕ) → i < length blocks → rest i ≡ lent (getD blocks i 0) (part (P * i) P bases) (part (P * i) P pages) ∷ rest (i + 1)
+  peel : (i : ℕ) → i < length blocks → rest i ≡ write (lent (getD blocks i 0) (part (P * i) P bases) (part (P * i) P pages))
+      ∷ rest (i + 1)
   unfolding writes part
   peel i h =
       let d : drop i blocks ≡ getD blocks i 0 ∷ drop (i + 1) blocks = drop-cons blocks i 0 h
@@ -107,16 +109,16 @@ module _ (P : ℕ) (patch₀ full₀ blocks bases pages marks₀ : List ℕ) whe
       → base ≡ part (P * i) P bases → page ≡ part (P * i) P pages → Turned P patch full (getD blocks i 0) base page m patch′ full′
       → marks′ ≡ set marks i m
       → Going (i + 1) (count + m) patch′ full′ marks′
-  unfolding after accepted marksOf
+  unfolding run taking marksOf
   go-on i count patch full marks g h base page m patch′ full′ marks′ eb ep t e =
       let w : Lent = lent (getD blocks i 0) base page in
       let s : Areas = both patch full in
-      let p : rest i ≡ w ∷ rest (i + 1) = peel i h ∙ (λ j. lent (getD blocks i 0) (sym eb j) (sym ep j) ∷ rest (i + 1)) in
+      let p : rest i ≡ write w ∷ rest (i + 1) = peel i h ∙ (λ j. write (lent (getD blocks i 0) (sym eb j) (sym ep j)) ∷ rest (i + 1)) in
       let a : both patch′ full′ ≡ next P s w = t .areas in
       let k : m ≡ cond (taken P s w) 1 0 = t .marked in
       let n : length (accepted P s (rest i)) ≡ m + length (accepted P (both patch′ full′) (rest (i + 1))) =
-      ap (λ (l : List Lent). length (accepted P s l)) p
-      ∙ counted (taken P s w) w (accepted P (next P s w) (rest (i + 1)))
+      ap (λ (l : List Operation). length (accepted P s l)) p
+      ∙ counted (taken P s w) (write w) (accepted P (next P s w) (rest (i + 1)))
       ∙ (λ j. sym k j + length (accepted P (sym a j) (rest (i + 1)))) in
       record {
         within = omega arith;
@@ -125,7 +127,7 @@ module _ (P : ℕ) (patch₀ full₀ blocks bases pages marks₀ : List ℕ) whe
         number = omega (arith, g .number, n);
         marked =
             g .marked
-            ∙ ap (λ (l : List Lent). sets marks i (marksOf P s l)) p
+            ∙ ap (λ (l : List Operation). sets marks i (marksOf P s l)) p
             ∙ (λ j. sets (sym (e ∙ ap (set marks i) k) j) (sym (add-one i) j) (marksOf P (sym a j) (rest (i + 1))));
       }
 
@@ -144,36 +146,40 @@ module _ (P : ℕ) (patch₀ full₀ blocks bases pages marks₀ : List ℕ) whe
 
   pub ended : (i count : ℕ) (patch full marks : List ℕ) → Going i count patch full marks → length blocks ≤ i
       → Replayed P patch₀ full₀ blocks bases pages marks₀ count patch full marks
-  unfolding after accepted marksOf
+  unfolding run taking marksOf
   ended i count patch full marks g h =
       let p : rest i ≡ [] = over i (omega (arith, g .within)) in
       record {
         areas = sym (g .areas ∙ ap (after P (both patch full)) p);
         number =
-            let z : length (accepted P (both patch full) (rest i)) ≡ 0 = ap (λ (l : List Lent). length (accepted P (both patch full) l))
+            let z : length (accepted P (both patch full) (rest i))
+            ≡ 0 = ap (λ (l : List Operation). length (accepted P (both patch full) l))
             p in
             omega (arith, g .number, z);
-        marked = sym (ap (λ (l : List Lent). sets marks i (marksOf P (both patch full) l)) p) ∙ sym (g .marked)
+        marked = sym (ap (λ (l : List Operation). sets marks i (marksOf P (both patch full) l)) p) ∙ sym (g .marked)
             ∙ sets-laid marks₀ (marksOf P (both patch₀ full₀) all);
       }
 
--- The marks say which writes were accepted
+-- The marks say which operations were accepted
 
--- those of some writes that are marked 1
-unfoldable pub picked : List ℕ → List Lent → List Lent
-picked [] ws = []
+-- those of some operations that are marked 1
+unfoldable pub picked : List ℕ → List Operation → List Operation
+picked [] os = []
 picked (m ∷ ms) [] = []
-picked (m ∷ ms) (w ∷ ws) = cond (eqb m 1) (w ∷ picked ms ws) (picked ms ws)
+picked (m ∷ ms) (o ∷ os) = cond (eqb m 1) (o ∷ picked ms os) (picked ms os)
 
-pub marks-pick : (P : ℕ) (s : Areas) (ws : List Lent) → picked (marksOf P s ws) ws ≡ accepted P s ws
-unfolding picked marksOf accepted
+pub marks-pick : (P : ℕ) (s : Areas) (os : List Operation) → picked (marksOf P s os) os ≡ accepted P s os
+unfolding picked marksOf taking
 marks-pick P s [] = refl
-marks-pick P s (w ∷ ws) = go (taken P s w) (marks-pick P (next P s w) ws)
+marks-pick P s (o ∷ os) = go (takesBy (outcome P) s o) (marks-pick P (doesBy (outcome P) s o) os)
   where
-    go : (t : Bool) → picked (marksOf P (next P s w) ws) ws ≡ accepted P (next P s w) ws
-        → cond (eqb (cond t 1 0) 1) (w ∷ picked (marksOf P (next P s w) ws) ws) (picked (marksOf P (next P s w) ws) ws)
-        ≡ cond t (w ∷ accepted P (next P s w) ws) (accepted P (next P s w) ws)
-    go true e = ap (λ (l : List Lent). w ∷ l) e
+    left-over : Areas
+    left-over = doesBy (outcome P) s o
+
+    go : (t : Bool) → picked (marksOf P left-over os) os ≡ accepted P left-over os
+        → cond (eqb (cond t 1 0) 1) (o ∷ picked (marksOf P left-over os) os) (picked (marksOf P left-over os) os)
+        ≡ cond t (o ∷ accepted P left-over os) (accepted P left-over os)
+    go true e = ap (λ (l : List Operation). o ∷ l) e
     go false e = e
 
 -- Every run of whole bases and pages stands in some buffers
@@ -194,34 +200,35 @@ first P xs ys e = (
 )
 
 pub written-out : (P : ℕ) (ws : List Lent) → Whole P ws
-    → writes P (map (λ w. w .block) ws) (joined (λ w. w .base) ws) (joined (λ w. w .page) ws) ≡ ws
+    → writes P (map (λ w. w .block) ws) (joined (λ w. w .base) ws) (joined (λ w. w .page) ws) ≡ map write ws
 unfolding writes
 written-out P [] h = refl
 written-out P (w ∷ ws) h =
     let b = first P (w .base) (joined (λ w. w .base) ws) (h .0) in
     let p = first P (w .page) (joined (λ w. w .page) ws) (h .1) in
-    rw (b .0, b .1, p .0, p .1) (ap (λ (l : List Lent). w ∷ l) (written-out P ws (h .2)))
+    rw (b .0, b .1, p .0, p .1) (ap (λ (l : List Operation). write w ∷ l) (written-out P ws (h .2)))
 
 -- and so does every run of whole pages over no bases at all
 abbrev pub Bare : ℕ → List Lent → Type 0
 Bare P [] = Unit {0}
 Bare P (w ∷ ws) = (w .base ≡ []) × (length (w .page) ≡ P) × Bare P ws
 
-pub written-bare : (P : ℕ) (ws : List Lent) → Bare P ws → writes P (map (λ w. w .block) ws) [] (joined (λ w. w .page) ws) ≡ ws
+pub written-bare : (P : ℕ) (ws : List Lent) → Bare P ws → writes P (map (λ w. w .block) ws) [] (joined (λ w. w .page) ws) ≡ map write ws
 unfolding writes
 written-bare P [] h = refl
 written-bare P (w ∷ ws) h =
     let p = first P (w .page) (joined (λ w. w .page) ws) (h .1) in
-    (λ j. lent (w .block) ((take-nil P ∙ sym (h .0)) j) (p .0 j) ∷ writes P (map (λ w. w .block) ws) (drop-nil {A = ℕ} P j) (p .1 j))
-    ∙ ap (λ (l : List Lent). w ∷ l) (written-bare P ws (h .2))
+    (λ j.
+    write (lent (w .block) ((take-nil P ∙ sym (h .0)) j) (p .0 j)) ∷ writes P (map (λ w. w .block) ws) (drop-nil {A = ℕ} P j) (p .1 j))
+    ∙ ap (λ (l : List Operation). write w ∷ l) (written-bare P ws (h .2))
 
 -- A replay of a run leaves what the run leaves, so every theorem over runs speaks of the loop
-pub replay-run : {P : ℕ} {patch full blocks bases pages marks patch′ full′ marks′ : List ℕ} {n : ℕ} (ws : List Lent)
-    → writes P blocks bases pages ≡ ws
+pub replay-run : {P : ℕ} {patch full blocks bases pages marks patch′ full′ marks′ : List ℕ} {n : ℕ} (os : List Operation)
+    → writes P blocks bases pages ≡ os
     → Replayed P patch full blocks bases pages marks n patch′ full′ marks′
-    → (both patch′ full′ ≡ after P (both patch full) ws) × (n ≡ length (accepted P (both patch full) ws))
-replay-run {P} {patch} {full} ws e r =
-    (r .areas ∙ ap (after P (both patch full)) e, r .number ∙ ap (λ (l : List Lent). length (accepted P (both patch full) l)) e)
+    → (both patch′ full′ ≡ after P (both patch full) os) × (n ≡ length (accepted P (both patch full) os))
+replay-run {P} {patch} {full} os e r =
+    (r .areas ∙ ap (after P (both patch full)) e, r .number ∙ ap (λ (l : List Operation). length (accepted P (both patch full) l)) e)
 
 -- No second outcome meets the promise
 

@@ -1,0 +1,177 @@
+-- Both areas are a store of blocks.
+use Prim.Native.Nat.{ℕ, _≤_, _<_}
+use native.Mathlib.Omega.{arith}
+use mathlib.Core.Path.{_≡_, refl, sym, ap, _∙_}
+use mathlib.Core.Bool.{Bool, true, false, _&&_, cond}
+use mathlib.Core.Logic.{_↔_, _⊎_, inl, inr}
+use lib.Dec.{eqb, leb, ltb}
+use lib.ListN.{length}
+use borrow.Author.Tests.{lt-ltb, ltb-true, ltb-false, eqb-true, eqb-false}
+use Rattle.span.specs.Bytes.{zeros, part}
+use Rattle.span.specs.Laws.{part-none}
+use Rattle.layout.specs.Sizes.{patchHead, fullHead, slotSize, pageAt}
+use Rattle.layout.specs.Refusals.{orElse}
+use Rattle.store.specs.Block.{slotOf, placeOf}
+use Rattle.writing.specs.Write.{decidedKind, WriteOutcome}
+use Rattle.writing.specs.Given.{write-number}
+use Rattle.promises.specs.Words.{blocks, places, LengthsFit, HeadersFit, SameFrame, Stored}
+use Rattle.promises.specs.FrameLaws.{frameNumber, frame-emptied, lengths-moved, headers-moved}
+use Rattle.promises.specs.Tables.{write-rows}
+use Rattle.promises.specs.Cells.{cells-ext, emptied, emptied-length, emptied-part, emptied-same}
+use Rattle.promises.specs.StoreLaws.{write-done, write-not, Accepted, accepted, write-stored, imageOf, contentOf, carried-slot}
+use Rattle.promises.specs.StoreLaws.{carried-place, content-none}
+use Rattle.promises.specs.Decisions.{Cell, cellFor}
+use Rattle.promises.specs.Runs.{write, wipe, Laws}
+use Rattle.promises.specs.RunWords.{Areas, Lent, outcome, taken, next, decision}
+use Rattle.promises.specs.RunStore.{cellAt, frameOf, store}
+
+-- a refusal is a matter of the frame and the call
+taken-frame : (P : ℕ) (s : Areas) (w : Lent) → taken P (frameOf s) w ≡ taken P s w
+taken-frame P s w = ap (λ (k : ℕ). eqb k 0) (number (frameOf s) ∙ same ∙ sym (number s))
+  where
+    number : (t : Areas) → outcome P t w .number
+        ≡ orElse (frameNumber P (t .patch) (t .full) (w .base) (w .page))
+        (cond (leb (blocks (t .patch)) (w .block)) 5
+        (cond (eqb (decidedKind P (w .base) (w .page)) 2 && leb (places P (t .full)) (w .block)) 8 0))
+    number t = write-number P (t .patch) (t .full) (w .block) (w .base) (w .page)
+        ∙ write-rows P (t .patch) (t .full) (w .block) (w .base) (w .page)
+
+    same : orElse (frameNumber P (emptied patchHead (s .patch)) (emptied fullHead (s .full)) (w .base) (w .page))
+        (cond (leb (blocks (emptied patchHead (s .patch))) (w .block)) 5
+        (cond (eqb (decidedKind P (w .base) (w .page)) 2 && leb (places P (emptied fullHead (s .full))) (w .block)) 8 0))
+        ≡ orElse (frameNumber P (s .patch) (s .full) (w .base) (w .page))
+        (cond (leb (blocks (s .patch)) (w .block)) 5
+        (cond (eqb (decidedKind P (w .base) (w .page)) 2 && leb (places P (s .full)) (w .block)) 8 0))
+    same = rw (
+      frame-emptied P (s .patch) (s .full) (w .base) (w .page),
+      emptied-length patchHead (s .patch),
+      emptied-length fullHead
+          (s .full),
+    )
+
+module _ (P : ℕ) (s : Areas) (w : Lent) where
+  pub accepted-write : taken P s w ≡ true → outcome P s w .number ≡ 0
+  accepted-write e = eqb-true (outcome P s w .number) 0 e
+
+  not-taken : taken P s w ≡ false → next P s w ≡ s
+  not-taken e = ap (λ (o : WriteOutcome). record { patch = o .patch; full = o .full })
+      (write-not P (s .patch) (s .full) (w .block) (w .base) (w .page) (eqb-false (outcome P s w .number) 0 e))
+
+  module _ (e : taken P s w ≡ true) where
+    a : Accepted P (s .patch) (s .full) (w .block) (w .base) (w .page)
+    a = accepted P (s .patch) (s .full) (w .block) (w .base) (w .page) (accepted-write e)
+
+    done : Stored P (s .patch) (s .full) (w .block) (w .base) (w .page) (outcome P s w .kind) (outcome P s w .patch) (outcome P s w .full)
+    done = write-stored P (s .patch) (s .full) (w .block) (w .base) (w .page) (accepted-write e)
+
+    pub cell-here : cellAt P (next P s w) (w .block) ≡ cellFor P (decision P w)
+    unfolding imageOf contentOf
+    cell-here = λ i. record { slot = slot i; place = place (ltb (w .block) (places P (s .full))) refl i }
+      where
+        slot : slotOf (outcome P s w .patch) (w .block) ≡ imageOf P (w .base) (w .page)
+        slot = ap (λ (o : WriteOutcome). slotOf (o .patch) (w .block))
+            (write-done P (s .patch) (s .full) (w .block) (w .base) (w .page) (accepted-write e))
+            ∙ carried-slot P (s .patch) (s .full) (w .block) (w .base) (w .page) (a .fits) (a .below)
+
+        place : (t : Bool) → ltb (w .block) (places P (s .full)) ≡ t
+            → cond (ltb (w .block) (places P (outcome P s w .full))) (placeOf P (outcome P s w .full) (w .block)) (zeros P)
+            ≡ contentOf P (w .base) (w .page)
+        place true q =
+            rw (done .frame .full-length, q)
+            (ap (λ (o : WriteOutcome). placeOf P (o .full) (w .block))
+            (write-done P (s .patch) (s .full) (w .block) (w .base) (w .page) (accepted-write e))
+            ∙ carried-place P (s .patch) (s .full) (w .block) (w .base) (w .page) (a .fits) (a .below)
+            (ltb-true (w .block) (places P (s .full)) q))
+        place false q =
+            rw (done .frame .full-length, q)
+            (sym
+            (content-none P (w .base) (w .page)
+            (λ l.
+            let m : w .block < places P (s .full) = a .room-for l in
+            let n : places P (s .full) ≤ w .block = ltb-false (w .block) (places P (s .full)) q in
+            omega arith)))
+
+    cell-other : (b : ℕ) → (b ≡ w .block → ⊥) → cellAt P (next P s w) b ≡ cellAt P s b
+    cell-other b d = rw (done .other-slots b d, done .frame .full-length, done .other-places b d)
+
+  frame-next : frameOf (next P s w) ≡ frameOf s
+  frame-next = go (taken P s w) refl
+    where
+      go : (t : Bool) → taken P s w ≡ t → frameOf (next P s w) ≡ frameOf s
+      go true e =
+          let f = done e .frame in
+          λ i.
+          record {
+            patch = emptied-same patchHead (outcome P s w .patch) (s .patch) .1 (f .patch-length, f .patch-header) i;
+            full = emptied-same fullHead (outcome P s w .full) (s .full) .1 (f .full-length, f .full-header) i;
+          }
+      go false e = ap frameOf (not-taken e)
+
+-- the frame is good just where the areas are
+pub good-frame : (P : ℕ) (s : Areas)
+    → (LengthsFit P (s .patch) (s .full) × HeadersFit P (s .patch) (s .full)) ↔ store P .Good (frameOf s)
+good-frame P s = (
+  λ h. (lengths-moved P _ _ _ _ down (h .0), headers-moved P _ _ _ _ down (h .1)),
+  λ h. (lengths-moved P _ _ _ _ up (h .0), headers-moved P _ _ _ _ up (h .1)),
+)
+  where
+    down : SameFrame (s .patch) (s .full) (frameOf s .patch) (frameOf s .full)
+    down =
+        record {
+          patch-length = emptied-length patchHead (s .patch);
+          full-length = emptied-length fullHead (s .full);
+          patch-header = emptied-part patchHead (s .patch) 0 patchHead (omega arith);
+          full-header = emptied-part fullHead (s .full) 0 fullHead (omega arith);
+        }
+
+    up : SameFrame (frameOf s .patch) (frameOf s .full) (s .patch) (s .full)
+    up =
+        record {
+          patch-length = sym (down .patch-length);
+          full-length = sym (down .full-length);
+          patch-header = sym (down .patch-header);
+          full-header = sym (down .full-header);
+        }
+
+-- areas of one frame with the same cells are the same areas
+module _ (P : ℕ) (s t : Areas) (fits : LengthsFit P (s .patch) (s .full)) (e : frameOf s ≡ frameOf t)
+    (h : (b : ℕ) → b < blocks (s .patch) → cellAt P s b ≡ cellAt P t b) where
+  same-patch : s .patch ≡ t .patch
+  unfolding slotOf
+  same-patch =
+      let f = emptied-same patchHead (s .patch) (t .patch) .0 (ap (λ (x : Areas). x .patch) e) in
+      cells-ext patchHead slotSize (blocks (s .patch)) (s .patch) (t .patch) (fits .patch-length) (sym (f .0)) (f .1)
+      (λ c n. ap (λ (x : Cell). x .slot) (h c n))
+
+  same-full : s .full ≡ t .full
+  unfolding placeOf
+  same-full = go (fits .full-length)
+    where
+      f : (length (s .full) ≡ length (t .full)) × (part 0 fullHead (s .full) ≡ part 0 fullHead (t .full))
+      f = emptied-same fullHead (s .full) (t .full) .0 (ap (λ (x : Areas). x .full) e)
+
+      go : (length (s .full) ≡ 0) ⊎ ((length (s .full) ≡ pageAt P (places P (s .full))) × (places P (s .full) ≤ blocks (s .patch)))
+          → s .full ≡ t .full
+      go (inl z) = cells-ext 0 0 0 (s .full) (t .full) z (sym (f .0)) (part-none 0 (s .full) ∙ sym (part-none 0 (t .full)))
+          (λ c n. absurd (omega arith))
+      go (inr l) =
+          cells-ext fullHead P (places P (s .full)) (s .full) (t .full) (l .0) (sym (f .0)) (f .1)
+          (λ c n. rw (← f .0, lt-ltb c (places P (s .full)) n) at (ap (λ (x : Cell). x .place) (h c (omega (arith, l .1)))))
+
+pub store-laws : (P : ℕ) → Laws (store P)
+store-laws P =
+    record {
+      frame-kept = λ s o. elim o [ write w ↦ frame-next P s w | wipe c ↦ absurd c ];
+      by-frame = λ s o. elim o [ write w ↦ sym (taken-frame P s w) | wipe c ↦ absurd c ];
+      refused = λ s o. elim o [ write w ↦ λ e. not-taken P s w (sym (taken-frame P s w) ∙ e) | wipe c ↦ absurd c ];
+      write-here = λ s w b e h q. ap (cellAt P (next P s w)) (sym q) ∙ cell-here P s w (sym (taken-frame P s w) ∙ e);
+      write-elsewhere = λ s w b e h d. cell-other P s w (sym (taken-frame P s w) ∙ e) b (λ q. d (sym q));
+      wiped = λ s c. absurd c;
+      not-wiped = λ s c. absurd c;
+      ext =
+          λ s t good e h.
+          let fits : LengthsFit P (s .patch) (s .full) = good-frame P s .1 good .0 in
+          let cells : (b : ℕ) → b < blocks (s .patch)
+          → cellAt P s b ≡ cellAt P t b = λ b n. h b (rw (emptied-length patchHead (s .patch)) n) in
+          λ i. record { patch = same-patch P s t fits e cells i; full = same-full P s t fits e cells i };
+    }
