@@ -1,4 +1,5 @@
-// A run of writes from lent buffers, each on the areas that the ones before it left. What is proved of runs is so of this loop.
+// A run of writes from lent buffers, each on the areas that the ones before it left. Bases and pages stand one after the other, a whole
+// page each; where `bases` has no more, the base is absent. What is proved of runs is so of the runs that can be lent in this form.
 use layout::Layout;
 use writing::Written;
 ghost use mathlib.Core.Path.{_≡_};
