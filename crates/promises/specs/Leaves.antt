@@ -43,19 +43,19 @@ pub one-state : (slot : List ℕ) (a b : SlotState) → stateNumbers a ≡ slotN
 one-state slot a b x y = state-one a b (x ∙ sym y)
   where
     state-one : (a b : SlotState) → stateNumbers a ≡ stateNumbers b → a ≡ b
-    state-one Empty Enpty e = refl
+    state-one Empty Empty e = refl
     state-one Empty (Patch n) e = absurd (omega (arith, ap (λ (x : SlotNumbers). x .kind) e))
     state-one Empty Full e = absurd (omega (arith, ap (λ (x : SlotNumbers). x .kind) e))
     state-one Empty Unsound e = absurd (omega (arith, ap (λ (x : SlotNumbers). x .number) e))
-    state-one (Patch m) Enpty e = absurd (omega (arith, ap (λ (x : SlotNumbers). x .kind) e))
+    state-one (Patch m) Empty e = absurd (omega (arith, ap (λ (x : SlotNumbers). x .kind) e))
     state-one (Patch m) (Patch n) e = ap Patch (ap (λ (x : SlotNumbers). x .length) e)
     state-one (Patch m) Full e = absurd (omega (arith, ap (λ (x : SlotNumbers). x .kind) e))
     state-one (Patch m) Unsound e = absurd (omega (arith, ap (λ (x : SlotNumbers). x .number) e))
-    state-one Full Enpty e = absurd (omega (arith, ap (λ (x : SlotNumbers). x .kind) e))
+    state-one Full Empty e = absurd (omega (arith, ap (λ (x : SlotNumbers). x .kind) e))
     state-one Full (Patch n) e = absurd (omega (arith, ap (λ (x : SlotNumbers). x .kind) e))
     state-one Full Full e = refl
     state-one Full Unsound e = absurd (omega (arith, ap (λ (x : SlotNumbers). x .number) e))
-    state-one Unsound Enpty e = absurd (omega (arith, ap (λ (x : SlotNumbers). x .number) e))
+    state-one Unsound Empty e = absurd (omega (arith, ap (λ (x : SlotNumbers). x .number) e))
     state-one Unsound (Patch n) e = absurd (omega (arith, ap (λ (x : SlotNumbers). x .number) e))
     state-one Unsound Full e = absurd (omega (arith, ap (λ (x : SlotNumbers). x .number) e))
     state-one Unsound Unsound e = refl
