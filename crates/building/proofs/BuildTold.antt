@@ -9,22 +9,22 @@ use lib.ListN.{length}
 use borrow.Author.Tests.{leb-true}
 use lib.IntN.{ℤ}
 use Rattle.span.specs.Bytes.{zeros, part, same}
-use Rattle.layout.specs.Sizes.{blocksAtMost, slotSize, payloadAt, slotAt, pageAt}
+use Rattle.layout.specs.Sizes.{segment, slotSize, payloadAt, slotAt, pageAt}
 use Rattle.slots.specs.Slots.{slotNumbers, stateNumbers, payloadOf}
 use Rattle.slots.specs.SlotLaws.{told-patch}
 use Rattle.slots.specs.declared.SlotState.{SlotState}
 use Rattle.slots.specs.declared.SlotState.the-variants.{Empty, Patch, Full, Unsound}
 use Rattle.payload.specs.Entries.{sound}
-use Rattle.payload.specs.Steps.{checkedNumbers, checkNumbers}
+use Rattle.payload.specs.Steps.{reach, checkedNumbers, checkNumbers}
 use Rattle.payload.specs.StepLaws.{Judges, judged}
 use Rattle.payload.specs.declared.Checked.{Checked}
 use Rattle.payload.specs.declared.Checked.the-variants.{Unsound as Broken, Sound}
 use Rattle.span.specs.Laws.{and-left}
 use Rattle.layout.specs.Refusals.{_⇐_, firstOf}
 use Rattle.layout.specs.Lengths.{blocksIn, pagesIn, patchFits, fullFits}
-use Rattle.layout.specs.LengthLaws.{patch-fits-is}
+use Rattle.layout.specs.LengthLaws.{patch-fits-is, most-blocks}
 use Rattle.blockmap.specs.Pairs.{mapBytes}
-use Rattle.store.specs.Block.{slotOf, placeOf}
+use Rattle.store.specs.Block.{slotOf, placeOf, Sized}
 use Rattle.store.specs.Frame.{frameRows}
 use Rattle.building.specs.Build.{blockFault, buildRows}
 use Rattle.building.specs.Steps.{straysIn}
@@ -58,8 +58,14 @@ module _ (P : ℕ) (patch full : List ℕ) (b at : ℕ) (slot : List ℕ) (r : S
   pub told-empty : r ≡ Empty → straysIn P full b ≡ blockFault P patch full b
   told-empty q = sym (block-empty P patch full b (state q))
 
-  module _ (n : ℕ) (payload : List ℕ) (j : Checked) (q : r ≡ Patch n) (h : payload ≡ part payloadAt n slot)
-      (numbers : checkedNumbers j ≡ checkNumbers P payload) where
+  module _ (n : ℕ) (payload : List ℕ) (j : Checked) (q : r ≡ Patch n) (h : payload ≡ part payloadAt n slot) (z : Sized P)
+      (told : checkedNumbers j ≡ checkNumbers (reach P) payload) where
+    -- no place of the page is out of the stream's reach
+    numbers : checkedNumbers j ≡ checkNumbers P payload
+    numbers =
+        let e : reach P ≡ P = omega (arith, z .1) in
+        told ∙ ap (λ (k : ℕ). checkNumbers k payload) e
+
     same-payload : payload ≡ payloadOf (slotOf patch b)
     unfolding payloadOf
     same-payload =
@@ -85,11 +91,11 @@ module _ (P : ℕ) (patch full map : List ℕ) (n k x : ℕ) (e : n ≡ blocksIn
       (ap (λ (m : ℕ). ltb (length map) m) (sym (f ∙ ap mapBytes e)) ∙ not-fits k (length map))
       ∙ sym g
 
-  pub fits-told : x ≡ 0 → (patchFits P (length patch) ≡ true) × (n ≤ blocksAtMost P) × (mapBytes n ≤ length map)
+  pub fits-told : x ≡ 0 → (length patch ≡ slotAt n) × (n ≤ segment) × (mapBytes n ≤ length map)
   fits-told z =
       let w = frame-none P patch full (leb k (length map)) (sym g ∙ z) in
       let fit : patchFits P (length patch) ≡ true =
       and-left (patchFits P (length patch)) (fullFits P (blocksIn (length patch)) (length full)) (w .0) in
-      let most : blocksIn (length patch) ≤ blocksAtMost P = patch-fits-is P (length patch) fit .1 in
+      let is = patch-fits-is P (length patch) fit in
       let long : k ≤ length map = leb-true k (length map) (w .1) in
-      (fit, omega arith, omega arith)
+      (is .0 ∙ ap (λ (b : ℕ). slotAt b) (sym e), omega (arith, is .1, most-blocks P), omega arith)

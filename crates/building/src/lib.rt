@@ -7,15 +7,14 @@ use payload::Checked;
 use slots::SlotState;
 ghost use Prim.Native.Nat.{_≤_};
 ghost use mathlib.Core.Path.{_≡_};
-ghost use mathlib.Core.Bool.{true};
 ghost use lib.ListN.{length};
 ghost use Rattle.span.specs.Bytes.{splice};
-ghost use Rattle.layout.specs.Sizes.{pageSize, blocksAtMost};
+ghost use Rattle.layout.specs.Sizes.{pageSize, segment, slotAt};
 ghost use Rattle.layout.specs.Numbers.{kindNumber, faultNumber};
 ghost use Rattle.layout.specs.FirstFault.{firstFault};
-ghost use Rattle.layout.specs.Lengths.{blocksIn, patchFits};
 ghost use Rattle.blockmap.specs.Pairs.{mapBytes};
 ghost use Rattle.blockmap.specs.Pack.{pairOf, pairIn, packedByte, packed};
+ghost use Rattle.store.specs.Block.{Sized};
 ghost use Rattle.building.specs.Build.{blockFault, builtNumbers, Build};
 ghost use Rattle.building.specs.Steps.{straysIn, faultNumbers, kindPair};
 
@@ -26,53 +25,54 @@ pub enum Built {
 }
 
 // Stray bytes in the place of a block whose slot is not FULL_REF. A block not below m has no place.
-fn place_fault(full: &[u8], block: u32) -> Fault
-    ensures { λ r. ⌜ faultNumber r ≡ straysIn pageSize (now (full .entry)) block ⌝ }
+fn place_fault(size: u32, full: &[u8], block: u32) -> Fault
+    ensures { λ r. ⌜ faultNumber r ≡ straysIn size (now (full .entry)) block ⌝ }
 {
-    if layout::area::pages(full.len()) <= block as usize {
+    if layout::area::pages(size, full.len()) <= block as usize {
         return Fault::Nothing;
     }
-    if span::zero_part(full, Layout::page_at(block), Layout::PAGE) {
+    if span::zero_part(full, Layout::page_at(size, block), size as usize) {
         return Fault::Nothing;
     }
     Fault::Found(Refusal::Place)
 }
 
 // What is wrong first with one block: its slot, a full page that is not there, its payload, its place.
-fn block_fault(patch: &[u8], full: &[u8], block: u32) -> Fault
-    ensures { λ r. ⌜ faultNumber r ≡ blockFault pageSize (now (patch .entry)) (now (full .entry)) block ⌝ }
+fn block_fault(size: u32, patch: &[u8], full: &[u8], block: u32) -> Fault
+    requires { ⌜ Sized size ⌝ }
+    ensures { λ r. ⌜ faultNumber r ≡ blockFault size (now (patch .entry)) (now (full .entry)) block ⌝ }
 {
     let slot = span::part(patch, Layout::slot_at(block), Layout::SLOT);
     match slots::slot_state(slot) {
         SlotState::Unsound => Fault::Found(Refusal::Slot),
         SlotState::Full => {
-            if layout::area::pages(full.len()) <= block as usize {
+            if layout::area::pages(size, full.len()) <= block as usize {
                 return Fault::Found(Refusal::FullPage);
             }
             Fault::Nothing
         }
         SlotState::Patch(n) => {
             let payload = span::part(slot, Layout::PAYLOAD_AT, n);
-            match payload::check(payload, Layout::PAGE) {
+            match payload::check(payload, size as usize) {
                 Checked::Unsound => Fault::Found(Refusal::Payload),
                 Checked::Sound {
                     entries: _,
                     last: _,
-                } => place_fault(full, block),
+                } => place_fault(size, full, block),
             }
         }
-        SlotState::Empty => place_fault(full, block),
+        SlotState::Empty => place_fault(size, full, block),
     }
 }
 
 // The first fault of n blocks in rising order, with its block.
-fn first_fault(patch: &[u8], full: &[u8], n: usize) -> Built
-    requires { ⌜ n ≤ blocksAtMost pageSize ⌝ }
-    ensures { λ r. ⌜ builtNumbers r ≡ faultNumbers (firstFault (blockFault pageSize (now (patch .entry)) (now (full .entry))) 0 n) ⌝ }
+fn first_fault(size: u32, patch: &[u8], full: &[u8], n: usize) -> Built
+    requires { ⌜ (n ≤ segment) × Sized size ⌝ }
+    ensures { λ r. ⌜ builtNumbers r ≡ faultNumbers (firstFault (blockFault size (now (patch .entry)) (now (full .entry))) 0 n) ⌝ }
 {
     let mut block = 0;
     while block < n {
-        match block_fault(patch, full, block as u32) {
+        match block_fault(size, patch, full, block as u32) {
             Fault::Found(refusal) => {
                 return Built::Refused { refusal, block };
             }
@@ -99,7 +99,7 @@ fn kind_of(byte: u8) -> Kind
 
 // The pair of a block in the map of these n slots, all of them sound: by its slot's first byte alone. An unused pair is 0.
 fn pair_at(patch: &[u8], n: usize, block: usize) -> u8
-    requires { ⌜ (n ≡ blocksIn (length (now patch))) × (patchFits pageSize (length (now patch)) ≡ true) ⌝ }
+    requires { ⌜ (length (now patch) ≡ slotAt n) × (n ≤ segment) ⌝ }
     ensures { λ r. ⌜ r ≡ pairIn (kindPair (now (patch .entry))) n block ⌝ }
 {
     if n <= block {
@@ -111,7 +111,7 @@ fn pair_at(patch: &[u8], n: usize, block: usize) -> u8
 
 // One byte of the map: four blocks' pairs.
 fn map_byte(patch: &[u8], n: usize, at: usize) -> u8
-    requires { ⌜ (n ≡ blocksIn (length (now patch))) × (patchFits pageSize (length (now patch)) ≡ true) × (at ≤ blocksAtMost pageSize) ⌝ }
+    requires { ⌜ (length (now patch) ≡ slotAt n) × (n ≤ segment) × (at ≤ segment) ⌝ }
     ensures { λ r. ⌜ r ≡ packedByte (kindPair (now (patch .entry))) n at ⌝ }
 {
     let block = 4 * at;
@@ -125,8 +125,7 @@ fn map_byte(patch: &[u8], n: usize, at: usize) -> u8
 
 // The map of n blocks whose slots are sound. Later bytes of the buffer stay.
 fn write_map(patch: &[u8], n: usize, map: &mut [u8])
-    requires { ⌜ (n ≡ blocksIn (length (now patch))) × (patchFits pageSize (length (now patch)) ≡ true)
-        × (mapBytes n ≤ length (now map)) ⌝ }
+    requires { ⌜ (length (now patch) ≡ slotAt n) × (n ≤ segment) × (mapBytes n ≤ length (now map)) ⌝ }
     ensures { λ _. ⌜ now (map .exit) ≡ splice (now (map .entry)) 0 (packed (kindPair (now (patch .entry))) n) ⌝ }
 {
     let bytes = blockmap::map_bytes(n);
@@ -141,12 +140,13 @@ fn write_map(patch: &[u8], n: usize, map: &mut [u8])
 pub fn build(patch: &[u8], full: &[u8], map: &mut [u8]) -> Built
     ensures { λ r. ⌜ Build pageSize (now (patch .entry)) (now (full .entry)) (now (map .entry)) r (now (map .exit)) ⌝ }
 {
+    let size = Layout::PAGE as u32;
     let n = layout::area::blocks(patch.len());
     let fits = blockmap::map_bytes(n) <= map.len();
-    match store::frame::frame_fault(true, fits, patch, full) {
+    match store::frame::frame_fault(size, true, fits, patch, full) {
         Fault::Found(refusal) => Built::Refused { refusal, block: 0 },
         Fault::Nothing => {
-            match first_fault(patch, full, n) {
+            match first_fault(size, patch, full, n) {
                 Built::Refused { refusal, block } => Built::Refused { refusal, block },
                 Built::Done => {
                     write_map(patch, n, map);

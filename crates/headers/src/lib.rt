@@ -6,14 +6,14 @@ ghost use mathlib.Core.Path.{_≡_};
 ghost use Prim.Native.Nat.{_≤_};
 ghost use lib.ListN.{length, take};
 ghost use Rattle.span.specs.Bytes.{zeros, splice};
-ghost use Rattle.layout.specs.Sizes.{pageSize, restAt};
+ghost use Rattle.layout.specs.Sizes.{restAt};
 ghost use Rattle.layout.specs.Numbers.{faultNumber};
 ghost use Rattle.layout.specs.Refusals.{firstOf};
 ghost use Rattle.headers.specs.Headers.{patchFields, fullFields, header, headRows, patchHeadRows, headerRows};
 ghost use Rattle.headers.specs.Fresh.{freshPatch, freshFull};
 
 // The fields that begin a patch area of pages of this size: magic, version, flags, page size, slot size.
-fn patch_fields(size: u64) -> [u8; Layout::PATCH_FIELDS]
+fn patch_fields(size: u32) -> [u8; Layout::PATCH_FIELDS]
     ensures { λ r. ⌜ r ≡ patchFields size ⌝ }
 {
     let magic = Layout::PATCH_MAGIC;
@@ -45,7 +45,7 @@ fn patch_fields(size: u64) -> [u8; Layout::PATCH_FIELDS]
 }
 
 // The fields that begin a full area of pages of this size: magic, version, flags, page size.
-fn full_fields(size: u64) -> [u8; Layout::FULL_FIELDS]
+fn full_fields(size: u32) -> [u8; Layout::FULL_FIELDS]
     ensures { λ r. ⌜ r ≡ fullFields size ⌝ }
 {
     let magic = Layout::FULL_MAGIC;
@@ -97,25 +97,25 @@ fn head_fault(area: &[u8], fields: &[u8], size: usize) -> Fault
     Fault::Nothing
 }
 
-// What is wrong first with a patch area's header.
-pub fn patch_fault(patch: &[u8]) -> Fault
-    ensures { λ r. ⌜ faultNumber r ≡ firstOf (patchHeadRows pageSize (now (patch .entry))) ⌝ }
+// What is wrong first with the header of a patch area of pages of this size.
+pub fn patch_fault(size: u32, patch: &[u8]) -> Fault
+    ensures { λ r. ⌜ faultNumber r ≡ firstOf (patchHeadRows size (now (patch .entry))) ⌝ }
 {
-    let fields = patch_fields(Layout::PAGE as u64);
+    let fields = patch_fields(size);
     head_fault(patch, &fields, Layout::PATCH_HEAD)
 }
 
 // What is wrong first with both headers. A full area of length 0 has none.
-pub fn headers_fault(patch: &[u8], full: &[u8]) -> Fault
-    ensures { λ r. ⌜ faultNumber r ≡ firstOf (headerRows pageSize (now (patch .entry)) (now (full .entry))) ⌝ }
+pub fn headers_fault(size: u32, patch: &[u8], full: &[u8]) -> Fault
+    ensures { λ r. ⌜ faultNumber r ≡ firstOf (headerRows size (now (patch .entry)) (now (full .entry))) ⌝ }
 {
-    match patch_fault(patch) {
+    match patch_fault(size, patch) {
         Fault::Found(r) => Fault::Found(r),
         Fault::Nothing => {
             if full.len() == 0 {
                 return Fault::Nothing;
             }
-            let fields = full_fields(Layout::PAGE as u64);
+            let fields = full_fields(size);
             head_fault(full, &fields, Layout::FULL_HEAD)
         }
     }
@@ -130,18 +130,18 @@ fn begin(area: &mut [u8], fields: &[u8])
     span::copy(area, fields);
 }
 
-// A fresh patch area of this length, as far as it goes.
-pub fn begin_patch(patch: &mut [u8])
-    ensures { λ _. ⌜ now (patch .exit) ≡ take (length (now (patch .entry))) (freshPatch pageSize (length (now (patch .entry)))) ⌝ }
+// A fresh patch area of pages of this size, as far as it goes.
+pub fn begin_patch(size: u32, patch: &mut [u8])
+    ensures { λ _. ⌜ now (patch .exit) ≡ take (length (now (patch .entry))) (freshPatch size (length (now (patch .entry)))) ⌝ }
 {
-    let fields = patch_fields(Layout::PAGE as u64);
+    let fields = patch_fields(size);
     begin(patch, &fields);
 }
 
-// A fresh full area of this length, as far as it goes.
-pub fn begin_full(full: &mut [u8])
-    ensures { λ _. ⌜ now (full .exit) ≡ take (length (now (full .entry))) (freshFull pageSize (length (now (full .entry)))) ⌝ }
+// A fresh full area of pages of this size, as far as it goes.
+pub fn begin_full(size: u32, full: &mut [u8])
+    ensures { λ _. ⌜ now (full .exit) ≡ take (length (now (full .entry))) (freshFull size (length (now (full .entry)))) ⌝ }
 {
-    let fields = full_fields(Layout::PAGE as u64);
+    let fields = full_fields(size);
     begin(full, &fields);
 }

@@ -1,13 +1,13 @@
 -- What sound lengths are: n and m are those of the lengths, and slots lie in the area.
 use Prim.Native.Nat.{ℕ, _+_, _-_, _*_, _/_, _≤_, _<_}
-use native.Mathlib.Nat.{mul-div-cancel-left}
+use native.Mathlib.Nat.{div-le-self, mul-div-cancel-left}
 use native.Mathlib.Omega.{arith}
 use mathlib.Core.Logic.{_⊎_, inl, inr}
 use mathlib.Core.Bool.{Bool, true, false, _&&_, _||_, false≢true, or-true}
 use mathlib.Core.Path.{_≡_, refl, ap, _∙_}
 use lib.Dec.{eqb, leb}
 use borrow.Author.Tests.{eqb-true, leb-true, eq-eqb, ne-eqb, le-leb}
-use Rattle.layout.specs.Sizes.{blocksAtMost, fullHead, slotSize, slotAt, pageAt}
+use Rattle.layout.specs.Sizes.{segment, blocksAtMost, fullHead, slotSize, slotAt, pageAt}
 use Rattle.layout.specs.Lengths.{blocksIn, pagesIn, patchFits, fullFits}
 
 -- what sound lengths are: 512 + 512·n bytes with n not above the most, and 0 or 4,096 + P·m bytes with m not above n
@@ -31,6 +31,10 @@ full-fits-is P n l h = go (eqb l 0) (eqb l (pageAt P (pagesIn P l))) (leb (pages
     go false true true r p q k = inr (eqb-true l (pageAt P (pagesIn P l)) p, leb-true (pagesIn P l) n q)
     go false true false r p q k = absurd (false≢true k)
     go false false b r p q k = absurd (false≢true k)
+
+-- a page has at least one byte, so there are no more blocks than bytes
+pub most-blocks : (P : ℕ) → blocksAtMost P ≤ segment
+most-blocks P = div-le-self segment P
 
 -- and n and m are those of the lengths
 pub blocks-of : (n : ℕ) → blocksIn (slotAt n) ≡ n

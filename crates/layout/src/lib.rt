@@ -107,11 +107,11 @@ impl Layout {
         Self::PATCH_HEAD + Self::SLOT * (block as usize)
     }
 
-    // Where the page of a block starts in the full area.
-    pub fn page_at(block: u32) -> usize
-        ensures { λ r. ⌜ r ≡ pageAt pageSize block ⌝ }
+    // Where the page of a block starts in a full area of pages of this size.
+    pub fn page_at(size: u32, block: u32) -> usize
+        ensures { λ r. ⌜ r ≡ pageAt size block ⌝ }
     {
-        Self::FULL_HEAD + Self::PAGE * (block as usize)
+        Self::FULL_HEAD + (size as usize) * (block as usize)
     }
 
     // An array cannot stand in a clause of `agrees`, so each magic is tied by a function of its own.

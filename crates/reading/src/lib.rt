@@ -6,9 +6,11 @@ use layout::Refusal;
 use slots::SlotState;
 use stream::Applied;
 ghost use mathlib.Core.Path.{_≡_};
+ghost use Prim.Native.Nat.{_≤_};
 ghost use lib.ListN.{length};
 ghost use Rattle.layout.specs.Sizes.{pageSize};
-ghost use Rattle.store.specs.Block.{Places};
+ghost use Rattle.payload.specs.Steps.{farthest};
+ghost use Rattle.store.specs.Block.{Places, Sized};
 ghost use Rattle.reading.specs.Parts.{BlockRead, PatchRead};
 ghost use Rattle.reading.specs.Read.{Read};
 
@@ -20,8 +22,9 @@ pub enum Reading {
 
 // A patched block is what Apply makes of its payload, which is checked whole before the page's first byte is written.
 fn read_patch(base: &[u8], payload: &[u8], page: &mut [u8]) -> Reading
-    requires { ⌜ (length (now base) ≡ pageSize) × (length (now page) ≡ pageSize) ⌝ }
-    ensures { λ r. ⌜ PatchRead pageSize (now (base .entry)) (now (payload .entry)) (now (page .entry)) r (now (page .exit)) ⌝ }
+    requires { ⌜ (length (now base) ≡ length (now page)) × (length (now page) ≤ farthest) ⌝ }
+    ensures { λ r. ⌜ PatchRead (length (now (page .entry))) (now (base .entry)) (now (payload .entry)) (now (page .entry)) r
+        (now (page .exit)) ⌝ }
 {
     match stream::apply_to(base, payload, page) {
         Applied::Refused(refusal) => Reading::Refused(refusal),
@@ -33,10 +36,17 @@ fn read_patch(base: &[u8], payload: &[u8], page: &mut [u8]) -> Reading
 }
 
 // A block below n, over a base that is there.
-fn read_block(patch: &[u8], full: &[u8], block: u32, base: &[u8], page: &mut [u8]) -> Reading
-    requires { ⌜ (length (now base) ≡ pageSize) × (length (now page) ≡ pageSize) ⌝ }
-    requires { ⌜ Places pageSize (now full) ⌝ }
-    ensures { λ r. ⌜ BlockRead pageSize (now (patch .entry)) (now (full .entry)) block (now (base .entry)) (now (page .entry)) r
+fn read_block(
+    size: u32,
+    patch: &[u8],
+    full: &[u8],
+    block: u32,
+    base: &[u8],
+    page: &mut [u8],
+) -> Reading
+    requires { ⌜ (length (now base) ≡ size) × (length (now page) ≡ size) × Sized size ⌝ }
+    requires { ⌜ Places size (now full) ⌝ }
+    ensures { λ r. ⌜ BlockRead size (now (patch .entry)) (now (full .entry)) block (now (base .entry)) (now (page .entry)) r
         (now (page .exit)) ⌝ }
 {
     let slot = span::part(patch, Layout::slot_at(block), Layout::SLOT);
@@ -48,10 +58,13 @@ fn read_block(patch: &[u8], full: &[u8], block: u32, base: &[u8], page: &mut [u8
         }
         SlotState::Patch(n) => read_patch(base, span::part(slot, Layout::PAYLOAD_AT, n), page),
         SlotState::Full => {
-            if layout::area::pages(full.len()) <= (block as usize) {
+            if layout::area::pages(size, full.len()) <= (block as usize) {
                 return Reading::Refused(Refusal::FullPage);
             }
-            span::copy(page, span::part(full, Layout::page_at(block), Layout::PAGE));
+            span::copy(
+                page,
+                span::part(full, Layout::page_at(size, block), size as usize),
+            );
             Reading::Done { kind: Kind::Full }
         }
     }
@@ -62,7 +75,9 @@ pub fn read(patch: &[u8], full: &[u8], block: usize, base: &[u8], page: &mut [u8
     ensures { λ r. ⌜ Read pageSize (now (patch .entry)) (now (full .entry)) block (now (base .entry)) (now (page .entry)) r
         (now (page .exit)) ⌝ }
 {
-    match store::frame::frame_fault(stream::pages_fit(base, page), true, patch, full) {
+    let size = Layout::PAGE as u32;
+    let fit = stream::pages_fit(size, base, page);
+    match store::frame::frame_fault(size, fit, true, patch, full) {
         Fault::Found(r) => Reading::Refused(r),
         Fault::Nothing => {
             if layout::area::blocks(patch.len()) <= block {
@@ -70,9 +85,9 @@ pub fn read(patch: &[u8], full: &[u8], block: usize, base: &[u8], page: &mut [u8
             }
             if base.len() == 0 {
                 let zeros = [0u8; Layout::PAGE];
-                return read_block(patch, full, block as u32, &zeros, page);
+                return read_block(size, patch, full, block as u32, &zeros, page);
             }
-            read_block(patch, full, block as u32, base, page)
+            read_block(size, patch, full, block as u32, base, page)
         }
     }
 }

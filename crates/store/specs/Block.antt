@@ -10,6 +10,7 @@ use Rattle.layout.specs.Refusals.{Row, _⇐_}
 use Rattle.layout.specs.Lengths.{blocksIn, pagesIn}
 use Rattle.slots.specs.Slots.{slotNumbers, payloadOf}
 use Rattle.payload.specs.Entries.{sound}
+use Rattle.payload.specs.Steps.{farthest}
 
 -- the slot of block b, and its place in the full area
 unfoldable pub slotOf : List ℕ → ℕ → List ℕ
@@ -21,6 +22,10 @@ placeOf P full b = part (pageAt P b) P full
 -- "block not below n"
 abbrev pub blockRows : List ℕ → ℕ → List Row
 blockRows patch b = (5 ⇐ leb (blocksIn (length patch)) b) ∷ []
+
+-- a page size that the calls can work with: not 0, and no place of a page out of the stream's reach
+abbrev pub Sized : ℕ → Type 0
+Sized P = (0 < P) × (P ≤ farthest)
 
 -- every place below m lies in the full area
 abbrev pub Places : ℕ → List ℕ → Type 0

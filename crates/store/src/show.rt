@@ -10,10 +10,11 @@ ghost use Rattle.store.specs.Show.{showPlace, Show};
 pub fn payload_place(patch: &[u8], block: usize) -> Place
     ensures { λ r. ⌜ r ≡ showPlace pageSize (now (patch .entry)) block ⌝ }
 {
-    if !layout::area::patch_fits(patch.len()) {
+    let size = Layout::PAGE as u32;
+    if !layout::area::patch_fits(size, patch.len()) {
         return Place { at: 0, len: 0 };
     }
-    match headers::patch_fault(patch) {
+    match headers::patch_fault(size, patch) {
         Fault::Found(_) => Place { at: 0, len: 0 },
         Fault::Nothing => {
             if layout::area::blocks(patch.len()) <= block {

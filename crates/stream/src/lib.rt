@@ -30,17 +30,17 @@ pub enum Applied {
     Refused(Refusal),
 }
 
-// Whether a base and another page have the lengths that they may have.
-pub fn pages_fit(base: &[u8], page: &[u8]) -> bool
-    ensures { λ r. ⌜ r ≡ pagesFit pageSize (now (base .entry)) (now (page .entry)) ⌝ }
+// Whether a base and another page have the lengths that they may have where a page has this size.
+pub fn pages_fit(size: u32, base: &[u8], page: &[u8]) -> bool
+    ensures { λ r. ⌜ r ≡ pagesFit size (now (base .entry)) (now (page .entry)) ⌝ }
 {
-    if page.len() != Layout::PAGE {
+    if page.len() != size as usize {
         return false;
     }
     if base.len() == 0 {
         return true;
     }
-    base.len() == Layout::PAGE
+    base.len() == size as usize
 }
 
 // What a stream of this length is: none, one that fits a slot, or too long.
@@ -90,7 +90,7 @@ fn compare_to(base: &[u8], page: &[u8], payload: &mut [u8]) -> Compared
 pub fn compare(base: &[u8], page: &[u8], payload: &mut [u8]) -> Compared
     ensures { λ r. ⌜ Compare pageSize (now (base .entry)) (now (page .entry)) (now (payload .entry)) r (now (payload .exit)) ⌝ }
 {
-    if !pages_fit(base, page) {
+    if !pages_fit(Layout::PAGE as u32, base, page) {
         return Compared::Refused(Refusal::Page);
     }
     if payload.len() < Layout::ROOM {
@@ -126,7 +126,7 @@ pub fn apply_to(base: &[u8], payload: &[u8], page: &mut [u8]) -> Applied
 pub fn apply(base: &[u8], payload: &[u8], page: &mut [u8]) -> Applied
     ensures { λ r. ⌜ Apply pageSize (now (base .entry)) (now (payload .entry)) (now (page .entry)) r (now (page .exit)) ⌝ }
 {
-    if !pages_fit(base, page) {
+    if !pages_fit(Layout::PAGE as u32, base, page) {
         return Applied::Refused(Refusal::Page);
     }
     if base.len() == 0 {

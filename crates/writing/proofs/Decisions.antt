@@ -9,7 +9,8 @@ use lib.ListN.{length, take, length-take}
 use borrow.Author.Tests.{eqb-true, eq-eqb}
 use Rattle.span.specs.Bytes.{part, splice}
 use Rattle.span.specs.Laws.{part-splice}
-use Rattle.layout.specs.Sizes.{pageSize, room, slotAt}
+use Rattle.layout.specs.Sizes.{room, slotAt}
+use Rattle.store.specs.Block.{Sized}
 use Rattle.writer.specs.Differences.{written}
 use Rattle.stream.specs.Calls.{kindFor}
 use Rattle.stream.specs.Laws.{base-some, patch-fits}
@@ -21,19 +22,19 @@ use Rattle.writing.specs.Carry.{carriedPatch}
 use Rattle.writing.specs.WriteLaws.{slot-payload}
 use Rattle.slots.specs.Slots.{slotImage}
 
-module _ (base page room₀ room₁ : List ℕ) (d : Difference) (k : ℕ) (lb : length base ≡ pageSize) (lp : length page ≡ pageSize) (lr : length room₀ ≡ room)
-    (w : Differs base (near page) room₀ d room₁) (e : k ≡ kindFor (d .length)) where
+module _ (P : ℕ) (base page room₀ room₁ : List ℕ) (d : Difference) (k : ℕ) (lb : length base ≡ P) (lp : length page ≡ P) (lz : Sized P)
+    (lr : length room₀ ≡ room) (w : Differs base (near page) room₀ d room₁) (e : k ≡ kindFor (d .length)) where
   w′ : Differs base page room₀ d room₁
   w′ = differs-near base page room₀ room₁ d (omega arith) w
 
-  stream-is : decidedStream pageSize base page ≡ written base page
+  stream-is : decidedStream P base page ≡ written base page
   unfolding decidedStream
-  stream-is = ap (λ (l : List ℕ). written l page) (base-some pageSize base (λ q. omega arith))
+  stream-is = ap (λ (l : List ℕ). written l page) (base-some P base (λ q. omega arith))
 
-  pub length-is : d .length ≡ length (decidedStream pageSize base page)
+  pub length-is : d .length ≡ length (decidedStream P base page)
   length-is = w′ .numbers .length ∙ ap (λ (l : List ℕ). length l) (sym stream-is)
 
-  pub kind-is : k ≡ decidedKind pageSize base page
+  pub kind-is : k ≡ decidedKind P base page
   unfolding decidedKind
   kind-is = e ∙ ap kindFor length-is
 
@@ -46,11 +47,11 @@ module _ (base page room₀ room₁ : List ℕ) (d : Difference) (k : ℕ) (lb :
           omega arith
       go false h q = omega arith
 
-  pub payload-is : (used : ℕ) → used ≡ cond (eqb k 1) (d .length) 0 → k ≡ 1 → take (used - 0) room₁ ≡ decidedStream pageSize base page
+  pub payload-is : (used : ℕ) → used ≡ cond (eqb k 1) (d .length) 0 → k ≡ 1 → take (used - 0) room₁ ≡ decidedStream P base page
   unfolding part
   payload-is used u h =
       let m : d .length ≤ room = patch-fits (d .length) (sym h ∙ e) in
-      let s : List ℕ = decidedStream pageSize base page in
+      let s : List ℕ = decidedStream P base page in
       let n : d .length ≡ length s = length-is in
       let v : used ≡ d .length = u ∙ rw (eq-eqb k 1 h) in
       let z : used - 0 ≡ length s = omega arith in
@@ -59,11 +60,11 @@ module _ (base page room₀ room₁ : List ℕ) (d : Difference) (k : ℕ) (lb :
 
   -- the slot that is stored is the decision's
   pub slot-is : (patch : List ℕ) (b used : ℕ) → used ≡ cond (eqb k 1) (d .length) 0
-      → carriedPatch patch b k (take (used - 0) room₁) ≡ carriedPatch patch b (decidedKind pageSize base page) (decidedStream pageSize base page)
+      → carriedPatch patch b k (take (used - 0) room₁) ≡ carriedPatch patch b (decidedKind P base page) (decidedStream P base page)
   unfolding carriedPatch
   slot-is patch b used u =
-      ap (λ (l : List ℕ). splice patch (slotAt b) l) (slot-payload k (take (used - 0) room₁) (decidedStream pageSize base page) (payload-is used u))
-      ∙ ap (λ (n : ℕ). splice patch (slotAt b) (slotImage n (decidedStream pageSize base page))) kind-is
+      ap (λ (l : List ℕ). splice patch (slotAt b) l) (slot-payload k (take (used - 0) room₁) (decidedStream P base page) (payload-is used u))
+      ∙ ap (λ (n : ℕ). splice patch (slotAt b) (slotImage n (decidedStream P base page))) kind-is
 
   pub taken-fits : (used : ℕ) → used ≡ cond (eqb k 1) (d .length) 0 → length (take (used - 0) room₁) ≤ room
   taken-fits used u =

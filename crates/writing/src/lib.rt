@@ -13,7 +13,7 @@ ghost use lib.ListN.{length};
 ghost use Rattle.layout.specs.Sizes.{pageSize, slotSize, slotAt};
 ghost use Rattle.layout.specs.Numbers.{kindNumber};
 ghost use Rattle.layout.specs.Lengths.{pagesIn};
-ghost use Rattle.store.specs.Block.{Places};
+ghost use Rattle.store.specs.Block.{Places, Sized};
 ghost use Rattle.writing.specs.Parts.{BlockWrite};
 ghost use Rattle.writing.specs.Write.{Write};
 
@@ -24,13 +24,13 @@ pub enum Written {
 }
 
 // Whether a full page is needed for a block that has no place.
-fn place_missing(kind: Kind, full_length: usize, block: u32) -> bool
-    ensures { λ r. ⌜ r ≡ (eqb (kindNumber kind) 2 && leb (pagesIn pageSize «full_length») block) ⌝ }
+fn place_missing(size: u32, kind: Kind, full_length: usize, block: u32) -> bool
+    ensures { λ r. ⌜ r ≡ (eqb (kindNumber kind) 2 && leb (pagesIn size «full_length») block) ⌝ }
 {
     match kind {
         Kind::Empty => false,
         Kind::Patch => false,
-        Kind::Full => layout::area::pages(full_length) <= (block as usize),
+        Kind::Full => layout::area::pages(size, full_length) <= (block as usize),
     }
 }
 
@@ -46,22 +46,29 @@ fn room_used(kind: Kind, length: usize) -> usize
 }
 
 // A block below n, over a base that is there.
-fn write_block(patch: &mut [u8], full: &mut [u8], block: u32, base: &[u8], page: &[u8]) -> Written
-    requires { ⌜ (length (now base) ≡ pageSize) × (length (now page) ≡ pageSize) ⌝ }
+fn write_block(
+    size: u32,
+    patch: &mut [u8],
+    full: &mut [u8],
+    block: u32,
+    base: &[u8],
+    page: &[u8],
+) -> Written
+    requires { ⌜ (length (now base) ≡ size) × (length (now page) ≡ size) × Sized size ⌝ }
     requires { ⌜ slotAt block + slotSize ≤ length (now patch) ⌝ }
-    requires { ⌜ Places pageSize (now full) ⌝ }
-    ensures { λ r. ⌜ BlockWrite pageSize (now (patch .entry)) (now (full .entry)) block (now (base .entry)) (now (page .entry)) r
+    requires { ⌜ Places size (now full) ⌝ }
+    ensures { λ r. ⌜ BlockWrite size (now (patch .entry)) (now (full .entry)) block (now (base .entry)) (now (page .entry)) r
         (now (patch .exit)) (now (full .exit)) ⌝ }
 {
     let mut room = [0u8; Layout::ROOM];
     let d = writer::stream_of(base, page, &mut room);
     let length = d.length;
     let kind = stream::kind_for(length);
-    if place_missing(kind, full.len(), block) {
+    if place_missing(size, kind, full.len(), block) {
         return Written::Refused(Refusal::FullPage);
     }
     let used = room_used(kind, length);
-    carry::carry_out(patch, full, block, kind, &room[0..used], page);
+    carry::carry_out(size, patch, full, block, kind, &room[0..used], page);
     Written::Done { kind, length }
 }
 
@@ -70,7 +77,9 @@ pub fn write(patch: &mut [u8], full: &mut [u8], block: usize, base: &[u8], page:
     ensures { λ r. ⌜ Write pageSize (now (patch .entry)) (now (full .entry)) block (now (base .entry)) (now (page .entry)) r
         (now (patch .exit)) (now (full .exit)) ⌝ }
 {
-    match store::frame::frame_fault(stream::pages_fit(base, page), true, patch, full) {
+    let size = Layout::PAGE as u32;
+    let fit = stream::pages_fit(size, base, page);
+    match store::frame::frame_fault(size, fit, true, patch, full) {
         Fault::Found(r) => Written::Refused(r),
         Fault::Nothing => {
             if layout::area::blocks(patch.len()) <= block {
@@ -78,9 +87,9 @@ pub fn write(patch: &mut [u8], full: &mut [u8], block: usize, base: &[u8], page:
             }
             if base.len() == 0 {
                 let zeros = [0u8; Layout::PAGE];
-                return write_block(patch, full, block as u32, &zeros, page);
+                return write_block(size, patch, full, block as u32, &zeros, page);
             }
-            write_block(patch, full, block as u32, base, page)
+            write_block(size, patch, full, block as u32, base, page)
         }
     }
 }

@@ -1,5 +1,4 @@
 use Rattle.building.proofs.BuildTold.{told-unsound, told-full-none, told-full, told-empty, told-payload, told-patched}
-use Rattle.layout.specs.Sizes.{pageSize}
 use native.Mathlib.Omega.{arith}
 use mathlib.Core.Path.{_∙_}
 use borrow.Author.Needs.{needs}
@@ -28,7 +27,7 @@ returns : tie.Need-returns
 returns c =
     let s = c .before .before .before .before in
     let a = s .before .before .before .before .before .args in
-    told-full-none pageSize (a .patch .now) (a .full .now) (a .block)
+    told-full-none (a .size) (a .patch .now) (a .full .now) (a .block)
     (s .before .before .slot-at .result) (s .before .part .result .now) (s .slot-state .result)
     (s .before .before .slot-at .ensures) (s .before .part .ensures .0) (s .slot-state .ensures)
     (c .before .before .enum-told2 .given .1) (omega (arith, c .before .pages .ensures, c .if1 .taken))
@@ -61,7 +60,7 @@ returns-2 : tie.Need-returns-2
 returns-2 c =
     let s = c .before .before in
     let a = s .before .before .before .before .before .args in
-    told-unsound pageSize (a .patch .now) (a .full .now) (a .block)
+    told-unsound (a .size) (a .patch .now) (a .full .now) (a .block)
     (s .before .before .slot-at .result) (s .before .part .result .now) (s .slot-state .result)
     (s .before .before .slot-at .ensures) (s .before .part .ensures .0) (s .slot-state .ensures)
     (c .enum-told .given .1)
@@ -70,7 +69,7 @@ returns-3 : tie.Need-returns-3
 returns-3 c =
     let s = c .before .before .before .before in
     let a = s .before .before .before .before .before .args in
-    told-full pageSize (a .patch .now) (a .full .now) (a .block)
+    told-full (a .size) (a .patch .now) (a .full .now) (a .block)
     (s .before .before .slot-at .result) (s .before .part .result .now) (s .slot-state .result)
     (s .before .before .slot-at .ensures) (s .before .part .ensures .0) (s .slot-state .ensures)
     (c .before .before .enum-told2 .given .1) (omega (arith, c .before .pages .ensures, c .if1 .left))
@@ -80,11 +79,11 @@ returns-4 c =
     let s = c .before .before .before .before .before .before .before in
     let k = c .before .before in
     let a = s .before .before .before .before .before .args in
-    told-payload pageSize (a .patch .now) (a .full .now) (a .block)
+    told-payload (a .size) (a .patch .now) (a .full .now) (a .block)
     (s .before .before .slot-at .result) (s .before .part .result .now) (s .slot-state .result)
     (s .before .before .slot-at .ensures) (s .before .part .ensures .0) (s .slot-state .ensures)
     (k .before .before .before .n .given .0 .0) (k .before .part2 .result .now) (k .check .result)
-    (k .before .before .before .n .given .1) (k .before .part2 .ensures .0) (k .check .ensures)
+    (k .before .before .before .n .given .1) (k .before .part2 .ensures .0) (s .before .before .before .before .before .pre) (k .check .ensures)
     (c .enum-told3 .given .1)
 
 returns-5 : tie.Need-returns-5
@@ -93,11 +92,11 @@ returns-5 c =
     let k = c .before .before .before in
     let a = s .before .before .before .before .before .args in
     c .place-fault .ensures
-    ∙ told-patched pageSize (a .patch .now) (a .full .now) (a .block)
+    ∙ told-patched (a .size) (a .patch .now) (a .full .now) (a .block)
     (s .before .before .slot-at .result) (s .before .part .result .now) (s .slot-state .result)
     (s .before .before .slot-at .ensures) (s .before .part .ensures .0) (s .slot-state .ensures)
     (k .before .before .before .n .given .0 .0) (k .before .part2 .result .now) (k .check .result)
-    (k .before .before .before .n .given .1) (k .before .part2 .ensures .0) (k .check .ensures)
+    (k .before .before .before .n .given .1) (k .before .part2 .ensures .0) (s .before .before .before .before .before .pre) (k .check .ensures)
     (c .before .enum-told4 .given .1)
 
 returns-6 : tie.Need-returns-6
@@ -105,7 +104,7 @@ returns-6 c =
     let s = c .before .before .before in
     let a = s .before .before .before .before .before .args in
     c .place-fault2 .ensures
-    ∙ told-empty pageSize (a .patch .now) (a .full .now) (a .block)
+    ∙ told-empty (a .size) (a .patch .now) (a .full .now) (a .block)
     (s .before .before .slot-at .result) (s .before .part .result .now) (s .slot-state .result)
     (s .before .before .slot-at .ensures) (s .before .part .ensures .0) (s .slot-state .ensures)
     (c .before .enum-told5 .given .1)

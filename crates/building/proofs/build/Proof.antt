@@ -10,12 +10,16 @@ use Rattle.layout.specs.Numbers.{faultNumber, refusalNumber}
 use Rattle.layout.specs.NumberLaws.{refusal-some}
 use Rattle.span.specs.Bytes.{splice}
 use Prim.Native.Nat.{ℕ}
+use native.Mathlib.Omega.{arith}
 use Rattle.layout.specs.Sizes.{pageSize}
 use mathlib.Core.Path.{_≡_, sym, ap, _∙_}
 use mathlib.Core.List.{List}
 use borrow.Author.Needs.{needs}
 use Rattle.building.proofs.build.Statement.{statement}
 use Rattle.building.proofs.build.Tie as tie
+
+cast-size : tie.Need-cast-size
+cast-size c = search needs
 
 blocks-requires : tie.Need-blocks-requires
 blocks-requires c κs = search needs
@@ -38,8 +42,10 @@ first-fault-requires c κs =
     let a = g .before .before .before .before .before .before .args in
     let n = g .before .before .blocks2 in
     let k = g .before .map-bytes in
+    let w =
     fits-told pageSize (a .patch .now) (a .full .now) (a .map .now) (n .result) (k .result) (faultNumber (g .frame-fault .result))
-    (n .ensures) (k .ensures) (g .frame-fault .ensures) (ap faultNumber (c .enum-told .given .1)) .1
+    (n .ensures) (k .ensures) (g .frame-fault .ensures) (ap faultNumber (c .enum-told .given .1)) in
+    (w .1, (omega arith, omega arith))
 
 enum-known-refusal-2 : tie.Need-enum-known-refusal-2
 enum-known-refusal-2 c = search needs
@@ -56,7 +62,7 @@ write-map-requires c κs =
     let w =
     fits-told pageSize (a .patch .now) (a .full .now) (a .map .now) (n .result) (k .result) (faultNumber (g .frame-fault .result))
     (n .ensures) (k .ensures) (g .frame-fault .ensures) (ap faultNumber (c .before .before .before .before .enum-told .given .1)) in
-    (n .ensures, w .0, w .2)
+    w
 
 returns : tie.Need-returns
 returns c =
@@ -125,6 +131,7 @@ pub build-spec : {M : Type 1} → statement M
 build-spec =
     tie.close
     (tie.spec
+    cast-size
     blocks-requires
     map-bytes-requires
     frame-fault-requires

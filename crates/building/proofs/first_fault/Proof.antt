@@ -4,7 +4,6 @@ use Rattle.layout.specs.FirstFault.{firstFault}
 use Rattle.layout.specs.FirstFaultLaws.{fault-next, fault-here, fault-end}
 use Rattle.building.specs.Build.{blockFault}
 use Rattle.building.specs.Steps.{faultNumbers}
-use Rattle.layout.specs.Sizes.{pageSize}
 use Prim.Native.Nat.{ℕ, _-_, _≤_}
 use native.Mathlib.Omega.{arith}
 use mathlib.Core.Path.{_≡_, sym, ap, _∙_}
@@ -13,18 +12,18 @@ use Rattle.building.proofs.first_fault.Statement.{statement}
 use Rattle.building.proofs.first_fault.Tie as tie
 
 abbrev Inv-loop : tie.InvT-loop
-Inv-loop patch full n block₀ block =
-    let test : ℕ → ℕ = blockFault pageSize patch full in
+Inv-loop size patch full n block₀ block =
+    let test : ℕ → ℕ = blockFault size patch full in
     (block ≤ n) × (firstFault test 0 n ≡ firstFault test block (n - block))
 
 abbrev μ-loop : tie.MeasureT-loop
-μ-loop patch full n block₀ block = n - block
+μ-loop size patch full n block₀ block = n - block
 
 loop-holds : tie.Need-loop-holds Inv-loop μ-loop
 loop-holds c =
     let a = c .before .before .args in
     let q : a .n ≡ a .n - 0 = omega arith in
-    (omega arith, ap (λ (k : ℕ). firstFault (blockFault pageSize (a .patch .now) (a .full .now)) 0 k) q)
+    (omega arith, ap (λ (k : ℕ). firstFault (blockFault (a .size) (a .patch .now) (a .full .now)) 0 k) q)
 
 cast-block-fault : tie.Need-cast-block-fault Inv-loop μ-loop
 cast-block-fault c = search needs
@@ -41,7 +40,7 @@ returns c =
     let l = c .before .before .before .before .before .loop in
     let r = c .before .refusal .given .0 .0 in
     let e = sym (c .before .before .before .block-fault .ensures) ∙ ap faultNumber (c .before .refusal .given .1) in
-    let here = fault-here (blockFault pageSize (a .patch .now) (a .full .now)) (l .block) (a .n) (refusalNumber r) in
+    let here = fault-here (blockFault (a .size) (a .patch .now) (a .full .now)) (l .block) (a .n) (refusalNumber r) in
     sym (ap faultNumbers (l .inv .1 ∙ here (omega (arith, c .before .before .before .before .loop-test .taken)) e (refusal-some r)))
 
 enum-told : tie.Need-enum-told Inv-loop μ-loop
@@ -59,14 +58,14 @@ loop-again c =
     let l = c .before .before .before .before .loop in
     let t = c .before .before .before .loop-test .taken in
     let e = sym (c .before .before .block-fault .ensures) ∙ ap faultNumber (c .enum-told .given .1) in
-    let next = fault-next (blockFault pageSize (a .patch .now) (a .full .now)) (l .block) (a .n) in
+    let next = fault-next (blockFault (a .size) (a .patch .now) (a .full .now)) (l .block) (a .n) in
     (omega (arith, t), l .inv .1 ∙ next (omega (arith, t)) e)
 
 returns-2 : tie.Need-returns-2 Inv-loop μ-loop
 returns-2 c =
     let a = c .before .before .before .before .args in
     let l = c .before .loop in
-    let end = fault-end (blockFault pageSize (a .patch .now) (a .full .now)) (l .block) (a .n) in
+    let end = fault-end (blockFault (a .size) (a .patch .now) (a .full .now)) (l .block) (a .n) in
     sym (ap faultNumbers (l .inv .1 ∙ end (omega (arith, c .loop-test .left))))
 
 pub first-fault-spec : {M : Type 1} → statement M

@@ -1,11 +1,9 @@
 use Rattle.building.specs.Steps.{kindPair}
-use Rattle.layout.specs.Sizes.{blocksAtMost, slotSize, slotAt, pageSize}
-use Rattle.layout.specs.Lengths.{blocksIn}
-use Rattle.layout.specs.LengthLaws.{patch-fits-is, slot-within}
+use Rattle.layout.specs.Sizes.{slotAt}
 use Rattle.blockmap.specs.PackLaws.{pair-used, pair-unused}
 use Rattle.blockmap.specs.Pack.{pairOf}
-use lib.ListN.{length, getD}
-use Prim.Native.Nat.{ℕ, _+_, _≤_}
+use lib.ListN.{getD}
+use Prim.Native.Nat.{ℕ, _+_}
 use native.Mathlib.Omega.{arith}
 use mathlib.Core.Path.{_≡_, sym, ap, _∙_}
 use borrow.Author.Needs.{needs}
@@ -18,11 +16,7 @@ returns c =
     sym (pair-unused (kindPair (a .patch .now)) (a .n) (a .block) (omega arith))
 
 cast-slot-at : tie.Need-cast-slot-at
-cast-slot-at c =
-    let f = c .before .before in
-    let l : ℕ = length (f .args .patch .now) in
-    let most : blocksIn l ≤ blocksAtMost pageSize = patch-fits-is pageSize l (f .pre .1) .1 in
-    omega arith
+cast-slot-at c = search needs
 
 slot-at-requires : tie.Need-slot-at-requires
 slot-at-requires c κs = search needs
@@ -31,12 +25,7 @@ add-at : tie.Need-add-at
 add-at c = search needs
 
 shared-slice-read-kind-of : tie.Need-shared-slice-read-kind-of
-shared-slice-read-kind-of c =
-    let f = c .before .before .before .before in
-    let b : ℕ = f .args .block in
-    let l : ℕ = length (f .args .patch .now) in
-    let in-area : slotAt b + slotSize ≤ l = slot-within pageSize l b (f .pre .1) (omega arith) in
-    omega arith
+shared-slice-read-kind-of c = search needs
 
 kind-of-requires : tie.Need-kind-of-requires
 kind-of-requires c κs = search needs

@@ -1,6 +1,5 @@
 use Rattle.building.proofs.BuildTold.{place-told}
 use Rattle.building.specs.BuildLaws.{no-place, clean-place, stray-place}
-use Rattle.layout.specs.Sizes.{pageSize}
 use native.Mathlib.Omega.{arith}
 use mathlib.Core.Path.{sym, _∙_}
 use borrow.Author.Needs.{needs}
@@ -13,7 +12,7 @@ pages-requires c κs = search needs
 returns : tie.Need-returns
 returns c =
     let a = c .before .before .before .args in
-    sym (no-place pageSize (a .full .now) (a .block) (omega (arith, c .before .pages .ensures, c .if1 .taken)))
+    sym (no-place (a .size) (a .full .now) (a .block) (omega (arith, c .before .pages .ensures, c .if1 .taken)))
 
 page-at-requires : tie.Need-page-at-requires
 page-at-requires c κs = search needs
@@ -26,17 +25,17 @@ returns-2 c =
     let f = c .before .before .page-at in
     let z = c .before .zero-part in
     let a = c .before .before .before .before .before .before .args in
-    let told = place-told pageSize (a .full .now) (a .block) (f .result) (z .result) (f .ensures) (z .ensures) in
-    sym (clean-place pageSize (a .full .now) (a .block) (told ∙ c .if2 .taken))
+    let told = place-told (a .size) (a .full .now) (a .block) (f .result) (z .result) (f .ensures) (z .ensures) in
+    sym (clean-place (a .size) (a .full .now) (a .block) (told ∙ c .if2 .taken))
 
 returns-3 : tie.Need-returns-3
 returns-3 c =
     let f = c .before .before .page-at in
     let z = c .before .zero-part in
     let a = c .before .before .before .before .before .before .args in
-    let told = place-told pageSize (a .full .now) (a .block) (f .result) (z .result) (f .ensures) (z .ensures) in
+    let told = place-told (a .size) (a .full .now) (a .block) (f .result) (z .result) (f .ensures) (z .ensures) in
     let page = c .before .before .before .before .pages .ensures in
-    sym (stray-place pageSize (a .full .now) (a .block) (omega (arith, page, c .before .before .before .if1 .left)) (told ∙ c .if2 .left))
+    sym (stray-place (a .size) (a .full .now) (a .block) (omega (arith, page, c .before .before .before .if1 .left)) (told ∙ c .if2 .left))
 
 pub place-fault-spec : {M : Type 1} → statement M
 place-fault-spec =

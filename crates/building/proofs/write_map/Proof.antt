@@ -1,6 +1,3 @@
-use Rattle.layout.specs.Sizes.{blocksAtMost, pageSize}
-use Rattle.layout.specs.Lengths.{blocksIn}
-use Rattle.layout.specs.LengthLaws.{patch-fits-is}
 use Rattle.building.specs.Steps.{kindPair}
 use Rattle.building.specs.MapLaws.{map-turn}
 use Rattle.blockmap.specs.Pack.{packedFirst, packed}
@@ -32,10 +29,7 @@ loop-holds c =
 map-byte-requires : tie.Need-map-byte-requires Inv-loop μ-loop
 unfolding mapBytes
 map-byte-requires c κs =
-    let g = c .before .before .before .before .before in
-    let n : ℕ = blocksIn (length (g .args .patch .now)) in
-    let most : n ≤ blocksAtMost pageSize = patch-fits-is pageSize (length (g .args .patch .now)) (g .pre .1) .1 in
-    (g .pre .0, g .pre .1, omega arith)
+    search needs
 
 slice-write-map : tie.Need-slice-write-map Inv-loop μ-loop
 slice-write-map c = search needs

@@ -1,5 +1,4 @@
 use Rattle.headers.specs.FreshLaws.{fresh-full-is}
-use Rattle.layout.specs.Sizes.{pageSize}
 use Rattle.span.specs.Bytes.{zeros, splice}
 use lib.ListN.{length, take}
 use mathlib.Core.List.{List}
@@ -23,10 +22,11 @@ same-length c = search needs
 
 returns : tie.Need-returns
 returns c =
-    let n : ℕ = length (c .before .before .before .before .before .before .before .args .full .now) in
+    let a = c .before .before .before .before .before .before .before .args in
+    let n : ℕ = length (a .full .now) in
     c .before .before .begin .ensures
     ∙ ap (λ (l : List ℕ). splice (zeros n) 0 (take n l)) (c .before .before .before .before .before .full-fields .ensures)
-    ∙ fresh-full-is pageSize n
+    ∙ fresh-full-is (a .size) n
 
 pub begin-full-spec : {M : Type 1} → statement M
 begin-full-spec =

@@ -1,5 +1,4 @@
 use Rattle.headers.specs.FreshLaws.{fresh-patch-is}
-use Rattle.layout.specs.Sizes.{pageSize}
 use Rattle.span.specs.Bytes.{zeros, splice}
 use lib.ListN.{length, take}
 use mathlib.Core.List.{List}
@@ -23,10 +22,11 @@ same-length c = search needs
 
 returns : tie.Need-returns
 returns c =
-    let n : ℕ = length (c .before .before .before .before .before .before .before .args .patch .now) in
+    let a = c .before .before .before .before .before .before .before .args in
+    let n : ℕ = length (a .patch .now) in
     c .before .before .begin .ensures
     ∙ ap (λ (l : List ℕ). splice (zeros n) 0 (take n l)) (c .before .before .before .before .before .patch-fields .ensures)
-    ∙ fresh-patch-is pageSize n
+    ∙ fresh-patch-is (a .size) n
 
 pub begin-patch-spec : {M : Type 1} → statement M
 begin-patch-spec =

@@ -3,7 +3,7 @@ use Rattle.layout.specs.Numbers.{faultNumber, refusalNumber}
 use Rattle.headers.specs.Headers.{header, headRows, fullHeader}
 use Rattle.headers.specs.HeaderLaws.{headers-none, headers-patch, headers-full}
 use Rattle.layout.specs.Refusals.{firstOf}
-use Rattle.layout.specs.Sizes.{pageSize, fullHead}
+use Rattle.layout.specs.Sizes.{fullHead}
 use mathlib.Core.List.{List}
 use mathlib.Core.Path.{sym, ap, _∙_}
 use Prim.Native.Nat.{ℕ}
@@ -24,7 +24,7 @@ returns : tie.Need-returns
 returns c =
     let a = c .before .before .before .before .before .before .args in
     let f = c .before .before .before .patch-fault in
-    sym (headers-none pageSize (a .patch .now) (a .full .now) (sym (f .ensures) ∙ ap faultNumber (c .before .enum-told .given .1)) (c .if1 .taken))
+    sym (headers-none (a .size) (a .patch .now) (a .full .now) (sym (f .ensures) ∙ ap faultNumber (c .before .enum-told .given .1)) (c .if1 .taken))
 
 full-fields-requires : tie.Need-full-fields-requires
 full-fields-requires c κs = search needs
@@ -40,7 +40,7 @@ returns-2 c =
     let a = c .before .before .before .before .before .before .args in
     let f = c .before .before .before .patch-fault in
     let r = c .before .r .given .0 .0 in
-    sym (headers-patch pageSize (refusalNumber r) (a .patch .now) (a .full .now) (sym (f .ensures) ∙ ap faultNumber (c .before .r .given .1))
+    sym (headers-patch (a .size) (refusalNumber r) (a .patch .now) (a .full .now) (sym (f .ensures) ∙ ap faultNumber (c .before .r .given .1))
     (refusal-some r))
 
 returns-3 : tie.Need-returns-3
@@ -50,7 +50,7 @@ returns-3 c =
     let f = c .before .before .before .before .before .before .patch-fault in
     c .head-fault .ensures
     ∙ ap (λ (l : List ℕ). firstOf (headRows (header l fullHead) fullHead (a .full .now))) (c .before .before .full-fields .ensures)
-    ∙ sym (headers-full pageSize (a .patch .now) (a .full .now) (sym (f .ensures) ∙ ap faultNumber (c .before .before .before .before .enum-told .given .1))
+    ∙ sym (headers-full (a .size) (a .patch .now) (a .full .now) (sym (f .ensures) ∙ ap faultNumber (c .before .before .before .before .enum-told .given .1))
     (c .before .before .before .if1 .left))
 
 pub headers-fault-spec : {M : Type 1} → statement M

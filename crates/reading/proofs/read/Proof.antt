@@ -40,6 +40,9 @@ framed c =
     (sym (ap faultNumber (c .enum-told .given .1)) ∙ f .ensures) in
     (none, sound-frame pageSize (a .patch .now) (a .full .now) (a .base .now) (a .page .now) none)
 
+cast-size : tie.Need-cast-size
+cast-size c = search needs
+
 pages-fit-requires : tie.Need-pages-fit-requires
 pages-fit-requires c κs = search needs
 
@@ -81,7 +84,7 @@ read-block-requires : tie.Need-read-block-requires
 read-block-requires c κs =
     let a = c .before .before .before .before .before .before .before .before .before .before .before .before .before .before .args in
     let told = framed (c .before .before .before .before .before) in
-    ((refl, told .1 .page-size), places pageSize (blocksIn (length (a .patch .now))) (a .full .now) (lit< tt) (told .1 .full-fit))
+    ((refl, told .1 .page-size, (omega arith, omega arith)), places pageSize (blocksIn (length (a .patch .now))) (a .full .now) (lit< tt) (told .1 .full-fit))
 
 same-length-2 : tie.Need-same-length-2
 same-length-2 c = search needs
@@ -115,7 +118,7 @@ read-block-requires-2 : tie.Need-read-block-requires-2
 read-block-requires-2 c κs =
     let a = c .before .before .before .before .before .before .before .before .before .before .before .before .before .args in
     let told = framed (c .before .before .before .before) in (
-      (told .1 .base-size (c .before .if2 .left), told .1 .page-size),
+      (told .1 .base-size (c .before .if2 .left), told .1 .page-size, (omega arith, omega arith)),
       places pageSize (blocksIn (length (a .patch .now))) (a .full .now) (lit< tt)
           (told .1 .full-fit),
     )
@@ -151,6 +154,7 @@ pub read-spec : {M : Type 1} → statement M
 read-spec =
     tie.close
     (tie.spec
+    cast-size
     pages-fit-requires
     frame-fault-requires
     enum-known-r

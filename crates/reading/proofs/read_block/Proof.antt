@@ -1,5 +1,5 @@
 use Rattle.reading.proofs.Pages.{copied-page}
-use Rattle.reading.specs.Parts.{slotOutcome}
+use Rattle.reading.specs.Parts.{slotOutcome, PatchRead}
 use Rattle.reading.specs.ReadLaws.{slot-missing, slot-unsound, slot-empty, slot-full, patch-read}
 use Rattle.stream.specs.Laws.{base-some}
 use Rattle.stream.specs.Calls.{pageOf}
@@ -9,10 +9,10 @@ use Rattle.layout.specs.Lengths.{pagesIn}
 use Rattle.span.specs.Laws.{part-length}
 use Rattle.span.specs.Bytes.{part}
 use Rattle.store.specs.Block.{slotOf, placeOf}
-use Rattle.layout.specs.Sizes.{pageSize, slotSize, pageAt, payloadAt}
+use Rattle.layout.specs.Sizes.{slotSize, pageAt, payloadAt}
 use lib.ListN.{length}
 use mathlib.Core.List.{List}
-use mathlib.Core.Path.{_≡_, sym, ap, _∙_}
+use mathlib.Core.Path.{_≡_, sym, ap, subst, _∙_}
 use native.Mathlib.Omega.{arith}
 use Prim.Native.Nat.{ℕ, _<_}
 use borrow.Author.Needs.{needs}
@@ -62,9 +62,9 @@ returns c =
     ∙ ap (λ (k : ℕ). part k slotSize (a .patch .now)) (c .before .before .before .before .before .before .slot-at .ensures) in
     let numbers : stateNumbers (c .before .before .before .before .slot-state .result) ≡ slotNumbers s = c .before .before .before .before .slot-state
     .ensures ∙ ap (λ (l : List ℕ). slotNumbers l) same-slot in
-    let e : slotOutcome pageSize (a .patch .now) (a .full .now) (a .block) (a .base .now) (a .page .now)
+    let e : slotOutcome (a .size) (a .patch .now) (a .full .now) (a .block) (a .base .now) (a .page .now)
     ≡ record { number = 8; kind = 0; page = a .page .now } =
-    slot-missing pageSize (a .patch .now) (a .full .now) (a .block) (a .base .now) (a .page .now) (sym numbers
+    slot-missing (a .size) (a .patch .now) (a .full .now) (a .block) (a .base .now) (a .page .now) (sym numbers
     ∙ ap stateNumbers (c .before .before .enum-told3 .given .1)) (omega (arith, c .before .pages .ensures, c .if1 .taken)) in
     record { numbers = rw e; bytes = rw e }
 
@@ -87,9 +87,9 @@ returns-2 c =
     ∙ ap (λ (k : ℕ). part k slotSize (a .patch .now)) (c .before .before .before .before .slot-at .ensures) in
     let numbers : stateNumbers (c .before .before .slot-state .result) ≡ slotNumbers s = c .before .before .slot-state .ensures
     ∙ ap (λ (l : List ℕ). slotNumbers l) same-slot in
-    let e : slotOutcome pageSize (a .patch .now) (a .full .now) (a .block) (a .base .now) (a .page .now)
+    let e : slotOutcome (a .size) (a .patch .now) (a .full .now) (a .block) (a .base .now) (a .page .now)
     ≡ record { number = 6; kind = 0; page = a .page .now } =
-    slot-unsound pageSize (a .patch .now) (a .full .now) (a .block) (a .base .now) (a .page .now) (sym numbers ∙ ap stateNumbers (c .enum-told .given .1)) in
+    slot-unsound (a .size) (a .patch .now) (a .full .now) (a .block) (a .base .now) (a .page .now) (sym numbers ∙ ap stateNumbers (c .enum-told .given .1)) in
     record { numbers = rw e; bytes = rw e }
 
 same-length : tie.Need-same-length
@@ -106,17 +106,17 @@ returns-3 c =
     (c .before .before .before .before .before .before .before .before .slot-at .ensures) in
     let numbers : stateNumbers (c .before .before .before .before .before .before .slot-state .result) ≡ slotNumbers s = c .before .before .before .before
     .before .before .slot-state .ensures ∙ ap (λ (l : List ℕ). slotNumbers l) same-slot in
-    let e : slotOutcome pageSize (a .patch .now) (a .full .now) (a .block) (a .base .now) (a .page .now)
-    ≡ record { number = 0; kind = 0; page = pageOf pageSize (a .base .now) } =
-    slot-empty pageSize (a .patch .now) (a .full .now) (a .block) (a .base .now) (a .page .now) (sym numbers
+    let e : slotOutcome (a .size) (a .patch .now) (a .full .now) (a .block) (a .base .now) (a .page .now)
+    ≡ record { number = 0; kind = 0; page = pageOf (a .size) (a .base .now) } =
+    slot-empty (a .size) (a .patch .now) (a .full .now) (a .block) (a .base .now) (a .page .now) (sym numbers
     ∙ ap stateNumbers (c .before .before .before .before .enum-told2 .given .1)) in
-    let lb : length (a .base .now) ≡ pageSize = at .pre .0 .0 in
+    let lb : length (a .base .now) ≡ a .size = at .pre .0 .0 in
     record {
       numbers = rw e;
       bytes =
           rw e
-          (copied-page (a .page .now) (a .base .now) (c .before .before .copy .last .0) (at .pre .0 .1) lb (c .before .before .copy .ensures)
-          ∙ sym (base-some pageSize (a .base .now) (λ q. omega arith)));
+          (copied-page (a .size) (a .page .now) (a .base .now) (c .before .before .copy .last .0) (at .pre .0 .1) lb (c .before .before .copy .ensures)
+          ∙ sym (base-some (a .size) (a .base .now) (λ q. omega (arith, lb, at .pre .0 .2 .0))));
     }
 
 same-length-2 : tie.Need-same-length-2
@@ -139,10 +139,12 @@ returns-4 c =
     let told : slotNumbers s ≡ soundSlot 1 n = sym numbers ∙ ap stateNumbers (c .before .before .before .before .before .before .n .given .1) in
     let payload : c .before .before .before .before .part2 .result .now ≡ payloadOf s = c .before .before .before .before .part2 .ensures .0
     ∙ ap (λ (l : List ℕ). part payloadAt n l) same-slot ∙ ap (λ (k : ℕ). part payloadAt k s) (sym (told-patch s n (sym told) .1)) in
-    let lb : length (a .base .now) ≡ pageSize = at .pre .0 .0 in
-    patch-read pageSize (a .patch .now) (a .full .now) (a .block) (a .base .now) (a .page .now) n (c .before .before .before .before .part2 .result .now)
+    let lb : length (a .base .now) ≡ a .size = at .pre .0 .0 in
+    patch-read (a .size) (a .patch .now) (a .full .now) (a .block) (a .base .now) (a .page .now) n (c .before .before .before .before .part2 .result .now)
     (c .before .before .read-patch .result) (c .before .before .read-patch .last .1 .1 .0) told payload
-    (base-some pageSize (a .base .now) (λ q. omega arith)) (c .before .before .read-patch .ensures)
+    (base-some (a .size) (a .base .now) (λ q. omega (arith, lb, at .pre .0 .2 .0)))
+    (subst (λ (P : ℕ). PatchRead P (a .base .now) (c .before .before .before .before .part2 .result .now) (a .page .now) (c .before .before .read-patch .result)
+    (c .before .before .read-patch .last .1 .1 .0)) (at .pre .0 .1) (c .before .before .read-patch .ensures))
 
 same-length-3 : tie.Need-same-length-3
 same-length-3 c = search needs
@@ -160,22 +162,22 @@ returns-5 c =
     let numbers : stateNumbers (c .before .before .before .before .before .before .before .before .before .before .slot-state .result)
     ≡ slotNumbers s = c .before .before .before .before .before .before .before .before .before .before .slot-state .ensures
     ∙ ap (λ (l : List ℕ). slotNumbers l) same-slot in
-    let below : a .block < pagesIn pageSize (length (a .full .now)) = omega (
+    let below : a .block < pagesIn (a .size) (length (a .full .now)) = omega (
       arith,
       c .before .before .before .before .before .before .before .pages .ensures,
       c .before .before .before .before .before .before .if1 .left,
     ) in
-    let e : slotOutcome pageSize (a .patch .now) (a .full .now) (a .block) (a .base .now) (a .page .now)
-    ≡ record { number = 0; kind = 2; page = placeOf pageSize (a .full .now) (a .block) } =
-    slot-full pageSize (a .patch .now) (a .full .now) (a .block) (a .base .now) (a .page .now) (sym numbers
+    let e : slotOutcome (a .size) (a .patch .now) (a .full .now) (a .block) (a .base .now) (a .page .now)
+    ≡ record { number = 0; kind = 2; page = placeOf (a .size) (a .full .now) (a .block) } =
+    slot-full (a .size) (a .patch .now) (a .full .now) (a .block) (a .base .now) (a .page .now) (sym numbers
     ∙ ap stateNumbers (c .before .before .before .before .before .before .before .before .enum-told3 .given .1)) below in
-    let p : c .before .before .before .part3 .result .now ≡ part (pageAt pageSize (a .block)) pageSize (a .full .now) = c .before .before .before .part3
-    .ensures .0 ∙ ap (λ (k : ℕ). part k pageSize (a .full .now)) (c .before .before .before .before .page-at .ensures) in
-    let l : length (c .before .before .before .part3 .result .now) ≡ pageSize = ap (λ (x : List ℕ). length x) p
-    ∙ part-length (pageAt pageSize (a .block)) pageSize (a .full .now) (at .pre .1 (a .block) below) in
+    let p : c .before .before .before .part3 .result .now ≡ part (pageAt (a .size) (a .block)) (a .size) (a .full .now) = c .before .before .before .part3
+    .ensures .0 ∙ ap (λ (k : ℕ). part k (a .size) (a .full .now)) (c .before .before .before .before .page-at .ensures) in
+    let l : length (c .before .before .before .part3 .result .now) ≡ a .size = ap (λ (x : List ℕ). length x) p
+    ∙ part-length (pageAt (a .size) (a .block)) (a .size) (a .full .now) (at .pre .1 (a .block) below) in
     record {
       numbers = rw e;
-      bytes = rw e (copied-page (a .page .now) (c .before .before .before .part3 .result .now) (c .before .before .copy2 .last .0) (at .pre .0 .1) l
+      bytes = rw e (copied-page (a .size) (a .page .now) (c .before .before .before .part3 .result .now) (c .before .before .copy2 .last .0) (at .pre .0 .1) l
           (c .before .before .copy2 .ensures) ∙ p);
     }
 

@@ -11,6 +11,9 @@ use borrow.Author.Needs.{needs}
 use Rattle.stream.proofs.apply.Statement.{statement}
 use Rattle.stream.proofs.apply.Tie as tie
 
+cast-pages-fit : tie.Need-cast-pages-fit
+cast-pages-fit c = search needs
+
 pages-fit-requires : tie.Need-pages-fit-requires
 pages-fit-requires c κs = search needs
 
@@ -63,6 +66,7 @@ pub apply-spec : {M : Type 1} → statement M
 apply-spec =
     tie.close
     (tie.spec
+    cast-pages-fit
     pages-fit-requires
     same-length
     returns

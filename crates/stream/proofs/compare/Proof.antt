@@ -12,6 +12,9 @@ use borrow.Author.Needs.{needs}
 use Rattle.stream.proofs.compare.Statement.{statement}
 use Rattle.stream.proofs.compare.Tie as tie
 
+cast-pages-fit : tie.Need-cast-pages-fit
+cast-pages-fit c = search needs
+
 pages-fit-requires : tie.Need-pages-fit-requires
 pages-fit-requires c κs = search needs
 
@@ -77,6 +80,7 @@ pub compare-spec : {M : Type 1} → statement M
 compare-spec =
     tie.close
     (tie.spec
+    cast-pages-fit
     pages-fit-requires
     returns
     returns-2

@@ -40,6 +40,9 @@ framed c =
     (sym (ap faultNumber (c .enum-told .given .1)) ∙ f .ensures) in
     (none, sound-frame pageSize (a .patch .now) (a .full .now) (a .base .now) (a .page .now) none)
 
+cast-size : tie.Need-cast-size
+cast-size c = search needs
+
 pages-fit-requires : tie.Need-pages-fit-requires
 pages-fit-requires c κs = search needs
 
@@ -90,7 +93,7 @@ write-block-requires c κs =
       c .before .before
           .before .before .if1 .left,
     ) in (
-      (refl, told .1 .page-size),
+      (refl, told .1 .page-size, (omega arith, omega arith)),
       (
         slot-within pageSize (length (a .patch .now)) (a .block) (told .1 .patch-fit) below,
         places pageSize
@@ -141,7 +144,7 @@ write-block-requires-2 c κs =
       c .before .before .before
           .if1 .left,
     ) in (
-      (told .1 .base-size (c .before .before .if2 .left), told .1 .page-size),
+      (told .1 .base-size (c .before .before .if2 .left), told .1 .page-size, (omega arith, omega arith)),
       (
         slot-within pageSize (length (a .patch .now)) (a .block) (told .1 .patch-fit) below,
         places pageSize (blocksIn (length (a .patch .now)))
@@ -195,6 +198,7 @@ pub write-spec : {M : Type 1} → statement M
 write-spec =
     tie.close
     (tie.spec
+    cast-size
     pages-fit-requires
     frame-fault-requires
     enum-known-r

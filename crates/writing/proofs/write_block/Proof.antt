@@ -5,7 +5,6 @@ use Rattle.writing.specs.Carry.{carriedPatch, carriedFull}
 use Rattle.writing.specs.WriteLaws.{block-missing, block-done}
 use Rattle.layout.specs.Lengths.{pagesIn}
 use Rattle.layout.specs.Numbers.{kindNumber}
-use Rattle.layout.specs.Sizes.{pageSize}
 use lib.ListN.{length}
 use lib.Dec.{eqb, leb}
 use mathlib.Core.Bool.{true, false, _&&_}
@@ -37,14 +36,14 @@ returns c =
     let a = at .args in
     let d = c .before .before .before .before .stream-of in
     let k : ℕ = kindNumber (c .before .before .kind-for .result) in
-    let kind : k ≡ decidedKind pageSize (a .base .now) (a .page .now) =
-    kind-is (a .base .now) (a .page .now) _ (d .last .1 .1 .0) (d .result) k (at .pre .0 .0) (at .pre .0 .1) refl (d .ensures)
+    let kind : k ≡ decidedKind (a .size) (a .base .now) (a .page .now) =
+    kind-is (a .size) (a .base .now) (a .page .now) _ (d .last .1 .1 .0) (d .result) k (at .pre .0 .0) (at .pre .0 .1) (at .pre .0 .2) refl (d .ensures)
     (c .before .before .kind-for .ensures) in
     let m = c .before .place-missing in
-    let t : (eqb (decidedKind pageSize (a .base .now) (a .page .now)) 2 && leb (pagesIn pageSize (length (a .full .now))) (a .block)) ≡ true =
-    sym (ap (λ (n : ℕ). eqb n 2 && leb (pagesIn pageSize (length (a .full .now))) (a .block)) kind) ∙ sym (m .ensures) ∙ c .if1 .taken in
-    let e : blockOutcome pageSize (a .patch .now) (a .full .now) (a .block) (a .base .now) (a .page .now)
-    ≡ record { number = 8; kind = 0; length = 0; patch = a .patch .now; full = a .full .now } = block-missing pageSize (a .patch .now) (a .full .now)
+    let t : (eqb (decidedKind (a .size) (a .base .now) (a .page .now)) 2 && leb (pagesIn (a .size) (length (a .full .now))) (a .block)) ≡ true =
+    sym (ap (λ (n : ℕ). eqb n 2 && leb (pagesIn (a .size) (length (a .full .now))) (a .block)) kind) ∙ sym (m .ensures) ∙ c .if1 .taken in
+    let e : blockOutcome (a .size) (a .patch .now) (a .full .now) (a .block) (a .base .now) (a .page .now)
+    ≡ record { number = 8; kind = 0; length = 0; patch = a .patch .now; full = a .full .now } = block-missing (a .size) (a .patch .now) (a .full .now)
     (a .block) (a .base .now) (a .page .now) t in
     record { numbers = rw e; patch-bytes = rw e; full-bytes = rw e }
 
@@ -63,10 +62,11 @@ part-carry-out-end c =
     let a = at .args in
     let d = c .before .before .before .before .before .before .before .before .stream-of in
     let k : ℕ = kindNumber (c .before .before .before .before .before .before .kind-for .result) in
-    let kind : k ≡ decidedKind pageSize (a .base .now) (a .page .now) =
-    kind-is (a .base .now) (a .page .now) _ (d .last .1 .1 .0) (d .result) k (at .pre .0 .0) (at .pre .0 .1) refl (d .ensures)
+    let kind : k ≡ decidedKind (a .size) (a .base .now) (a .page .now) =
+    kind-is (a .size) (a .base .now) (a .page .now) _ (d .last .1 .1 .0) (d .result) k (at .pre .0 .0) (at .pre .0 .1) (at .pre .0 .2) refl (d .ensures)
     (c .before .before .before .before .before .before .kind-for .ensures) in
-    let u = used-fits (a .base .now) (a .page .now) _ (d .last .1 .1 .0) (d .result) k (at .pre .0 .0) (at .pre .0 .1) refl (d .ensures)
+    let u = used-fits (a .size) (a .base .now) (a .page .now) _ (d .last .1 .1 .0) (d .result) k
+    (at .pre .0 .0) (at .pre .0 .1) (at .pre .0 .2) refl (d .ensures)
     (c .before .before .before .before .before .before .kind-for .ensures) (c .before .before .before .room-used .result)
     (c .before .before .before .room-used .ensures) in
     omega (arith, u, d .kept .1 .1 .0)
@@ -77,12 +77,12 @@ carry-out-requires c κs =
     let a = at .args in
     let d = c .before .before .before .before .before .before .before .before .before .stream-of in
     let k : ℕ = kindNumber (c .before .before .before .before .before .before .before .kind-for .result) in
-    let kind : k ≡ decidedKind pageSize (a .base .now) (a .page .now) =
-    kind-is (a .base .now) (a .page .now) _ (d .last .1 .1 .0) (d .result) k (at .pre .0 .0) (at .pre .0 .1) refl (d .ensures)
+    let kind : k ≡ decidedKind (a .size) (a .base .now) (a .page .now) =
+    kind-is (a .size) (a .base .now) (a .page .now) _ (d .last .1 .1 .0) (d .result) k (at .pre .0 .0) (at .pre .0 .1) (at .pre .0 .2) refl (d .ensures)
     (c .before .before .before .before .before .before .before .kind-for .ensures) in (
       (
         at .pre .1 .0,
-        taken-fits (a .base .now) (a .page .now) _ (d .last .1 .1 .0) (d .result) k (at .pre .0 .0) (at .pre .0 .1) refl (d .ensures)
+        taken-fits (a .size) (a .base .now) (a .page .now) _ (d .last .1 .1 .0) (d .result) k (at .pre .0 .0) (at .pre .0 .1) (at .pre .0 .2) refl (d .ensures)
             (c .before .before .before .before .before .before .before .kind-for .ensures) (c .before .before .before .before .room-used .result)
             (c .before .before .before .before .room-used .ensures),
       ),
@@ -102,34 +102,36 @@ returns-2 c =
     let a = at .args in
     let d = c .before .before .before .before .before .before .before .before .before .before .before .before .before .before .stream-of in
     let k : ℕ = kindNumber (c .before .before .before .before .before .before .before .before .before .before .before .before .kind-for .result) in
-    let kind : k ≡ decidedKind pageSize (a .base .now) (a .page .now) =
-    kind-is (a .base .now) (a .page .now) _ (d .last .1 .1 .0) (d .result) k (at .pre .0 .0) (at .pre .0 .1) refl (d .ensures)
+    let kind : k ≡ decidedKind (a .size) (a .base .now) (a .page .now) =
+    kind-is (a .size) (a .base .now) (a .page .now) _ (d .last .1 .1 .0) (d .result) k (at .pre .0 .0) (at .pre .0 .1) (at .pre .0 .2) refl (d .ensures)
     (c .before .before .before .before .before .before .before .before .before .before .before .before .kind-for .ensures) in
     let m = c .before .before .before .before .before .before .before .before .before .before .before .place-missing in
-    let t : (eqb (decidedKind pageSize (a .base .now) (a .page .now)) 2 && leb (pagesIn pageSize (length (a .full .now))) (a .block)) ≡ false =
-    sym (ap (λ (n : ℕ). eqb n 2 && leb (pagesIn pageSize (length (a .full .now))) (a .block)) kind) ∙ sym (m .ensures)
+    let t : (eqb (decidedKind (a .size) (a .base .now) (a .page .now)) 2 && leb (pagesIn (a .size) (length (a .full .now))) (a .block)) ≡ false =
+    sym (ap (λ (n : ℕ). eqb n 2 && leb (pagesIn (a .size) (length (a .full .now))) (a .block)) kind) ∙ sym (m .ensures)
     ∙ c .before .before .before .before .before .before .before .before .before .before .if1 .left in
-    let e : blockOutcome pageSize (a .patch .now) (a .full .now) (a .block) (a .base .now) (a .page .now)
+    let e : blockOutcome (a .size) (a .patch .now) (a .full .now) (a .block) (a .base .now) (a .page .now)
     ≡ record {
       number = 0;
-      kind = decidedKind pageSize (a .base .now) (a .page .now);
-      length = length (decidedStream pageSize (a .base .now) (a .page .now));
-      patch = carriedPatch (a .patch .now) (a .block) (decidedKind pageSize (a .base .now) (a .page .now))
-          (decidedStream pageSize (a .base .now) (a .page .now));
-      full = carriedFull pageSize (a .full .now) (a .block) (decidedKind pageSize (a .base .now) (a .page .now)) (a .page .now);
+      kind = decidedKind (a .size) (a .base .now) (a .page .now);
+      length = length (decidedStream (a .size) (a .base .now) (a .page .now));
+      patch = carriedPatch (a .patch .now) (a .block) (decidedKind (a .size) (a .base .now) (a .page .now))
+          (decidedStream (a .size) (a .base .now) (a .page .now));
+      full = carriedFull (a .size) (a .full .now) (a .block) (decidedKind (a .size) (a .base .now) (a .page .now)) (a .page .now);
     } =
-    block-done pageSize (a .patch .now) (a .full .now) (a .block) (a .base .now) (a .page .now) t in
-    let n : d .result .length ≡ length (decidedStream pageSize (a .base .now) (a .page .now)) = length-is (a .base .now) (a .page .now) _ (d .last .1 .1 .0)
-    (d .result) k (at .pre .0 .0) (at .pre .0 .1) refl (d .ensures) (c .before .before .before .before .before .before .before .before .before .before
+    block-done (a .size) (a .patch .now) (a .full .now) (a .block) (a .base .now) (a .page .now) t in
+    let n : d .result .length ≡ length (decidedStream (a .size) (a .base .now) (a .page .now)) =
+    length-is (a .size) (a .base .now) (a .page .now) _ (d .last .1 .1 .0) (d .result) k (at .pre .0 .0) (at .pre .0 .1) (at .pre .0 .2) refl
+    (d .ensures) (c .before .before .before .before .before .before .before .before .before .before
     .before .before .kind-for .ensures) in
     let done = c .before .before .before .before .carry-out .ensures in
     record {
       numbers = rw e (numbered kind n);
-      patch-bytes = rw e (done .0 ∙ slot-is (a .base .now) (a .page .now) _ (d .last .1 .1 .0) (d .result) k (at .pre .0 .0) (at .pre .0 .1) refl (d .ensures)
+      patch-bytes = rw e (done .0 ∙ slot-is (a .size) (a .base .now) (a .page .now) _ (d .last .1 .1 .0) (d .result) k
+          (at .pre .0 .0) (at .pre .0 .1) (at .pre .0 .2) refl (d .ensures)
           (c .before .before .before .before .before .before .before .before .before .before .before .before .kind-for .ensures) (a .patch .now) (a .block)
           (c .before .before .before .before .before .before .before .before .before .room-used .result)
           (c .before .before .before .before .before .before .before .before .before .room-used .ensures));
-      full-bytes = rw e (done .1 ∙ ap (λ (n : ℕ). carriedFull pageSize (a .full .now) (a .block) n (a .page .now)) kind);
+      full-bytes = rw e (done .1 ∙ ap (λ (n : ℕ). carriedFull (a .size) (a .full .now) (a .block) n (a .page .now)) kind);
     }
 
 pub write-block-spec : {M : Type 1} → statement M

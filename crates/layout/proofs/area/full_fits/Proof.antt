@@ -1,11 +1,11 @@
-use Rattle.layout.specs.Sizes.{pageSize, pageAt}
-use borrow.Author.Tests.{eq-eqb, ne-eqb, le-leb, lt-leb}
-use lib.Dec.{eqb, leb}
-use mathlib.Core.Bool.{Bool, true, false, _&&_, and-true, and-false}
-use mathlib.Core.Path.{_≡_, sym, ap, _∙_}
 use Prim.Native.Nat.{ℕ}
-use Rattle.layout.specs.Lengths.{fullFits, pagesIn}
+use mathlib.Core.Path.{_≡_, sym, ap, _∙_}
 use native.Mathlib.Omega.{arith}
+use mathlib.Core.Bool.{Bool, true, false, _&&_, and-true, and-false}
+use lib.Dec.{eqb, leb}
+use borrow.Author.Tests.{eq-eqb, ne-eqb, le-leb, lt-leb}
+use Rattle.layout.specs.Sizes.{pageAt}
+use Rattle.layout.specs.Lengths.{fullFits, pagesIn}
 use borrow.Author.Needs.{needs}
 use Rattle.layout.proofs.area.full_fits.Statement.{statement}
 use Rattle.layout.proofs.area.full_fits.Tie as tie
@@ -16,10 +16,10 @@ returns c =
     rw (eq-eqb (c .before .args .full-length) 0 (c .if1 .taken))
 
 returns-2 : tie.Need-returns-2
-unfolding fullFits pagesIn
+unfolding fullFits
 returns-2 c =
-    let l : ℕ = c .before .before .args .full-length in
-    rw (ne-eqb l 0 (c .before .if1 .left), ne-eqb l (pageAt pageSize (pagesIn pageSize l)) (λ q. omega arith))
+    let a = c .before .before .args in
+    rw (ne-eqb (a .full-length) 0 (c .before .if1 .left), ne-eqb (a .full-length) (pageAt (a .size) (pagesIn (a .size) (a .full-length))) (λ q. omega arith))
 
 pages-requires : tie.Need-pages-requires
 pages-requires c κs = search needs
@@ -29,9 +29,9 @@ unfolding fullFits
 returns-3 c =
     let a = c .before .before .before .before .args in
     let l : ℕ = a .full-length in
-    let m : ℕ = pagesIn pageSize l in
-    let f : leb m (a .n) ≡ false = lt-leb m (a .n) (omega arith) in
-    rw (ne-eqb l 0 (c .before .before .before .if1 .left)) (sym (ap (λ (t : Bool). eqb l (pageAt pageSize m) && t) f ∙ and-false (eqb l (pageAt pageSize m))))
+    let m : ℕ = pagesIn (a .size) l in
+    let f : leb m (a .n) ≡ false = lt-leb m (a .n) (omega (arith, c .before .pages .ensures)) in
+    rw (ne-eqb l 0 (c .before .before .before .if1 .left)) (sym (ap (λ (t : Bool). eqb l (pageAt (a .size) m) && t) f ∙ and-false (eqb l (pageAt (a .size) m))))
 
 cast-page-at : tie.Need-cast-page-at
 cast-page-at c = search needs
@@ -44,13 +44,14 @@ unfolding fullFits
 returns-4 c =
     let a = c .before .before .before .before .before .args in
     let l : ℕ = a .full-length in
-    let m : ℕ = pagesIn pageSize l in
-    let f : leb m (a .n) ≡ true = le-leb m (a .n) (omega arith) in
+    let m : ℕ = pagesIn (a .size) l in
+    let f : leb m (a .n) ≡ true = le-leb m (a .n) (omega (arith, c .before .before .pages .ensures)) in
     rw (ne-eqb l 0 (c .before .before .before .before .if1 .left))
     (ap (λ (k : ℕ). eqb l k) (c .page-at .ensures)
-    ∙ ap (λ (k : ℕ). eqb l (pageAt pageSize k)) (c .before .before .pages .ensures)
-    ∙ sym (ap (λ (t : Bool). eqb l (pageAt pageSize m) && t) f ∙ and-true (eqb l (pageAt pageSize m))))
+    ∙ ap (λ (k : ℕ). eqb l (pageAt (a .size) k)) (c .before .before .pages .ensures)
+    ∙ sym (ap (λ (t : Bool). eqb l (pageAt (a .size) m) && t) f ∙ and-true (eqb l (pageAt (a .size) m))))
 
 pub full-fits-spec : {M : Type 1} → statement M
 full-fits-spec =
-    tie.close (tie.spec returns returns-2 pages-requires returns-3 cast-page-at page-at-requires returns-4)
+    tie.close
+    (tie.spec returns returns-2 pages-requires returns-3 cast-page-at page-at-requires returns-4)

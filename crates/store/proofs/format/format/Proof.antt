@@ -9,6 +9,9 @@ use borrow.Author.Needs.{needs}
 use Rattle.store.proofs.format.format.Statement.{statement}
 use Rattle.store.proofs.format.format.Tie as tie
 
+cast-size : tie.Need-cast-size
+cast-size c = search needs
+
 lengths-fit-requires : tie.Need-lengths-fit-requires
 lengths-fit-requires c κs = search needs
 
@@ -50,6 +53,7 @@ pub format-spec : {M : Type 1} → statement M
 format-spec =
     tie.close
     (tie.spec
+    cast-size
     lengths-fit-requires
     returns
     begin-patch-requires

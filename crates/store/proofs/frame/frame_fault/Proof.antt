@@ -1,7 +1,6 @@
 use Rattle.span.specs.Told.{on, off}
 use Rattle.store.specs.FrameLaws.{frame-is, frameBy}
 use Rattle.layout.specs.Refusals.{orElse}
-use Rattle.layout.specs.Sizes.{pageSize}
 use mathlib.Core.Path.{refl}
 use borrow.Author.Needs.{needs}
 use Rattle.store.proofs.frame.frame_fault.Statement.{statement}
@@ -11,7 +10,7 @@ returns : tie.Need-returns
 unfolding frameBy orElse
 returns c =
     let a = c .before .before .before .args in
-    rw (frame-is pageSize (a .patch .now) (a .full .now) (a .pages-fit) (a .buffer-fits), off (a .pages-fit) refl (c .if1 .taken))
+    rw (frame-is (a .size) (a .patch .now) (a .full .now) (a .pages-fit) (a .buffer-fits), off (a .pages-fit) refl (c .if1 .taken))
 
 lengths-fit-requires : tie.Need-lengths-fit-requires
 lengths-fit-requires c κs = search needs
@@ -22,7 +21,7 @@ returns-2 c =
     let a = c .before .before .before .before .before .args in
     let f = c .before .lengths-fit in
     rw (
-      frame-is pageSize (a .patch .now) (a .full .now) (a .pages-fit) (a .buffer-fits),
+      frame-is (a .size) (a .patch .now) (a .full .now) (a .pages-fit) (a .buffer-fits),
       on (a .pages-fit) refl (c .before .before .if1 .left),
       off
           (f .result) (f .ensures) (c .if2 .taken),
@@ -34,7 +33,7 @@ returns-3 c =
     let a = c .before .before .before .before .before .before .args in
     let f = c .before .before .lengths-fit in
     rw (
-      frame-is pageSize (a .patch .now) (a .full .now) (a .pages-fit) (a .buffer-fits),
+      frame-is (a .size) (a .patch .now) (a .full .now) (a .pages-fit) (a .buffer-fits),
       on (a .pages-fit) refl (c .before .before .before .if1 .left),
       on
           (f .result) (f .ensures) (c .before .if2 .left),
@@ -50,7 +49,7 @@ returns-4 c =
     let a = c .before .before .before .before .before .before .before .args in
     let f = c .before .before .before .lengths-fit in
     rw (
-      frame-is pageSize (a .patch .now) (a .full .now) (a .pages-fit) (a .buffer-fits),
+      frame-is (a .size) (a .patch .now) (a .full .now) (a .pages-fit) (a .buffer-fits),
       on (a .pages-fit) refl
           (c .before .before .before .before .if1 .left),
       on (f .result) (f .ensures) (c .before .before .if2 .left),

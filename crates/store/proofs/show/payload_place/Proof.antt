@@ -26,6 +26,9 @@ use Rattle.store.proofs.show.payload_place.Tie as tie
 placed : {x y n m : ℕ} → x ≡ y → n ≡ m → _≡_ {A = Place} (record { at = x + payloadAt; len = n }) (record { at = y + payloadAt; len = m })
 placed e f = cc
 
+cast-size : tie.Need-cast-size
+cast-size c = search needs
+
 patch-fits-requires : tie.Need-patch-fits-requires
 patch-fits-requires c κs = search needs
 
@@ -101,8 +104,8 @@ returns-3 c =
     let j = judged (c .before) in
     show-slot pageSize (a .patch .now) (a .block) (j .0) (j .1) (j .2) (length-none (slotOf (a .patch .now) (a .block)) (sym (j .3) ∙ c .if3 .taken))
 
-add-t10 : tie.Need-add-t10
-add-t10 c = search needs
+add-t11 : tie.Need-add-t11
+add-t11 c = search needs
 
 returns-4 : tie.Need-returns-4
 returns-4 c =
@@ -129,6 +132,7 @@ pub payload-place-spec : {M : Type 1} → statement M
 payload-place-spec =
     tie.close
     (tie.spec
+    cast-size
     patch-fits-requires
     returns
     patch-fault-requires
@@ -141,6 +145,6 @@ payload-place-spec =
     part-requires
     payload-length-requires
     returns-3
-    add-t10
+    add-t11
     returns-4
     returns-5)

@@ -1,7 +1,7 @@
 use Rattle.writing.specs.CarryLaws.{nothing-stored, zeros-stored, page-stored}
 use Rattle.layout.specs.Lengths.{pagesIn}
 use Rattle.layout.specs.Numbers.{kindNumber}
-use Rattle.layout.specs.Sizes.{pageSize, pageAt}
+use Rattle.layout.specs.Sizes.{pageAt}
 use lib.ListN.{length}
 use mathlib.Core.Path.{_≡_, sym, ap, _∙_}
 use native.Mathlib.Omega.{arith}
@@ -19,13 +19,20 @@ pages-requires c κs = search needs
 returns : tie.Need-returns
 returns c =
     let a = c .before .before .before .before .args in
-    nothing-stored pageSize (a .full .now) (a .block) (kindNumber (a .kind)) (a .page .now) (omega (arith, c .before .pages .ensures, c .if1 .taken))
+    nothing-stored (a .size) (a .full .now) (a .block) (kindNumber (a .kind)) (a .page .now) (omega (arith, c .before .pages .ensures, c .if1 .taken))
 
 page-at-requires : tie.Need-page-at-requires
 page-at-requires c κs = search needs
 
 add-end : tie.Need-add-end
-add-end c = search needs
+add-end c =
+    let at = c .before .before .before .before .before in
+    let a = at .args in
+    let below : a .block < pagesIn (a .size) (length (a .full .now)) = omega
+    (arith, c .before .before .pages .ensures, c .before .if1 .left) in
+    let fits : pageAt (a .size) (a .block) + a .size ≤ length (a .full .now) = at .pre .0 (a .block) below in
+    let e : c .page-at .result ≡ pageAt (a .size) (a .block) = c .page-at .ensures in
+    omega arith
 
 enum-told : tie.Need-enum-told
 enum-told c = search needs
@@ -40,10 +47,10 @@ part-fill-end : tie.Need-part-fill-end
 part-fill-end c =
     let at = c .before .before .before .before .before .before .before in
     let a = at .args in
-    let below : a .block < pagesIn pageSize (length (a .full .now)) = omega
+    let below : a .block < pagesIn (a .size) (length (a .full .now)) = omega
     (arith, c .before .before .before .before .pages .ensures, c .before .before .before .if1 .left) in
-    let fits : pageAt pageSize (a .block) + pageSize ≤ length (a .full .now) = at .pre .0 (a .block) below in
-    let e : c .before .before .page-at .result ≡ pageAt pageSize (a .block) = c .before .before .page-at .ensures in
+    let fits : pageAt (a .size) (a .block) + a .size ≤ length (a .full .now) = at .pre .0 (a .block) below in
+    let e : c .before .before .page-at .result ≡ pageAt (a .size) (a .block) = c .before .before .page-at .ensures in
     omega arith
 
 fill-requires : tie.Need-fill-requires
@@ -62,10 +69,10 @@ part-fill-end-2 : tie.Need-part-fill-end-2
 part-fill-end-2 c =
     let at = c .before .before .before .before .before .before .before in
     let a = at .args in
-    let below : a .block < pagesIn pageSize (length (a .full .now)) = omega
+    let below : a .block < pagesIn (a .size) (length (a .full .now)) = omega
     (arith, c .before .before .before .before .pages .ensures, c .before .before .before .if1 .left) in
-    let fits : pageAt pageSize (a .block) + pageSize ≤ length (a .full .now) = at .pre .0 (a .block) below in
-    let e : c .before .before .page-at .result ≡ pageAt pageSize (a .block) = c .before .before .page-at .ensures in
+    let fits : pageAt (a .size) (a .block) + a .size ≤ length (a .full .now) = at .pre .0 (a .block) below in
+    let e : c .before .before .page-at .result ≡ pageAt (a .size) (a .block) = c .before .before .page-at .ensures in
     omega arith
 
 fill-requires-2 : tie.Need-fill-requires-2
@@ -84,10 +91,10 @@ part-copy-end : tie.Need-part-copy-end
 part-copy-end c =
     let at = c .before .before .before .before .before .before .before in
     let a = at .args in
-    let below : a .block < pagesIn pageSize (length (a .full .now)) = omega
+    let below : a .block < pagesIn (a .size) (length (a .full .now)) = omega
     (arith, c .before .before .before .before .pages .ensures, c .before .before .before .if1 .left) in
-    let fits : pageAt pageSize (a .block) + pageSize ≤ length (a .full .now) = at .pre .0 (a .block) below in
-    let e : c .before .before .page-at .result ≡ pageAt pageSize (a .block) = c .before .before .page-at .ensures in
+    let fits : pageAt (a .size) (a .block) + a .size ≤ length (a .full .now) = at .pre .0 (a .block) below in
+    let e : c .before .before .page-at .result ≡ pageAt (a .size) (a .block) = c .before .before .page-at .ensures in
     omega arith
 
 copy-requires : tie.Need-copy-requires
@@ -100,16 +107,16 @@ returns-2 : tie.Need-returns-2
 returns-2 c =
     let at = c .before .before .before .before .before .before .before .before .before .before .before in
     let a = at .args in
-    let below : a .block < pagesIn pageSize (length (a .full .now)) = omega (
+    let below : a .block < pagesIn (a .size) (length (a .full .now)) = omega (
       arith,
       c .before .before .before .before .before .before .before .before .pages
           .ensures,
       c .before .before .before .before .before .before .before .if1 .left,
     ) in
-    let fits : pageAt pageSize (a .block) + pageSize ≤ length (a .full .now) = at .pre .0 (a .block) below in
-    let e : c .before .before .before .before .before .before .page-at .result ≡ pageAt pageSize (a .block) = c .before .before .before .before .before
+    let fits : pageAt (a .size) (a .block) + a .size ≤ length (a .full .now) = at .pre .0 (a .block) below in
+    let e : c .before .before .before .before .before .before .page-at .result ≡ pageAt (a .size) (a .block) = c .before .before .before .before .before
     .before .page-at .ensures in
-    zeros-stored pageSize (a .full .now) (a .block) (c .before .before .before .before .before .before .page-at .result) (a .page .now)
+    zeros-stored (a .size) (a .full .now) (a .block) (c .before .before .before .before .before .before .page-at .result) (a .page .now)
     (c .before .before .fill .last .0) e below fits (kindNumber (a .kind))
     (other-kind (ap kindNumber (c .before .before .before .before .enum-told .given .1)) (omega arith)) (c .before .before .fill .ensures)
 
@@ -120,16 +127,16 @@ returns-3 : tie.Need-returns-3
 returns-3 c =
     let at = c .before .before .before .before .before .before .before .before .before .before .before in
     let a = at .args in
-    let below : a .block < pagesIn pageSize (length (a .full .now)) = omega (
+    let below : a .block < pagesIn (a .size) (length (a .full .now)) = omega (
       arith,
       c .before .before .before .before .before .before .before .before .pages
           .ensures,
       c .before .before .before .before .before .before .before .if1 .left,
     ) in
-    let fits : pageAt pageSize (a .block) + pageSize ≤ length (a .full .now) = at .pre .0 (a .block) below in
-    let e : c .before .before .before .before .before .before .page-at .result ≡ pageAt pageSize (a .block) = c .before .before .before .before .before
+    let fits : pageAt (a .size) (a .block) + a .size ≤ length (a .full .now) = at .pre .0 (a .block) below in
+    let e : c .before .before .before .before .before .before .page-at .result ≡ pageAt (a .size) (a .block) = c .before .before .before .before .before
     .before .page-at .ensures in
-    zeros-stored pageSize (a .full .now) (a .block) (c .before .before .before .before .before .before .page-at .result) (a .page .now)
+    zeros-stored (a .size) (a .full .now) (a .block) (c .before .before .before .before .before .before .page-at .result) (a .page .now)
     (c .before .before .fill2 .last .0) e below fits (kindNumber (a .kind))
     (other-kind (ap kindNumber (c .before .before .before .before .enum-told2 .given .1)) (omega arith)) (c .before .before .fill2 .ensures)
 
@@ -140,16 +147,16 @@ returns-4 : tie.Need-returns-4
 returns-4 c =
     let at = c .before .before .before .before .before .before .before .before .before .before .before in
     let a = at .args in
-    let below : a .block < pagesIn pageSize (length (a .full .now)) = omega (
+    let below : a .block < pagesIn (a .size) (length (a .full .now)) = omega (
       arith,
       c .before .before .before .before .before .before .before .before .pages
           .ensures,
       c .before .before .before .before .before .before .before .if1 .left,
     ) in
-    let fits : pageAt pageSize (a .block) + pageSize ≤ length (a .full .now) = at .pre .0 (a .block) below in
-    let e : c .before .before .before .before .before .before .page-at .result ≡ pageAt pageSize (a .block) = c .before .before .before .before .before
+    let fits : pageAt (a .size) (a .block) + a .size ≤ length (a .full .now) = at .pre .0 (a .block) below in
+    let e : c .before .before .before .before .before .before .page-at .result ≡ pageAt (a .size) (a .block) = c .before .before .before .before .before
     .before .page-at .ensures in
-    page-stored pageSize (a .full .now) (a .block) (c .before .before .before .before .before .before .page-at .result) (a .page .now)
+    page-stored (a .size) (a .full .now) (a .block) (c .before .before .before .before .before .before .page-at .result) (a .page .now)
     (c .before .before .copy .last .0) e below fits (kindNumber (a .kind)) (ap kindNumber (c .before .before .before .before .enum-told3 .given .1))
     (at .pre .1) (c .before .before .copy .ensures)
 
