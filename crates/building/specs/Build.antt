@@ -64,14 +64,21 @@ pub record BuildOutcome : Type 0 where
   pub block : ℕ
   pub map : List ℕ
 
+-- done, and refused: the map keeps every byte
+abbrev pub buildDone : List ℕ → BuildOutcome
+buildDone map = record { number = 0; block = 0; map = map }
+
+abbrev pub buildRefused : ℕ → ℕ → List ℕ → BuildOutcome
+buildRefused number block map = record { number = number; block = block; map = map }
+
 unfoldable pub buildOutcome : ℕ → List ℕ → List ℕ → List ℕ → BuildOutcome
 buildOutcome P patch full map =
     let fault = buildFault P patch full in
     decided (firstOf (buildRows P patch full map))
     (decided (fault .number)
-    (record { number = 0; block = 0; map = splice map 0 (builtMap patch) })
-    (λ n. record { number = n; block = fault .block; map = map }))
-    (λ n. record { number = n; block = 0; map = map })
+    (buildDone (splice map 0 (builtMap patch)))
+    (λ n. buildRefused n (fault .block) map))
+    (λ n. buildRefused n 0 map)
 
 -- the paper's numbers for each case of the answer
 pub record BuildNumbers : Type 0 where

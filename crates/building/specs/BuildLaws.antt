@@ -22,7 +22,8 @@ use Rattle.blockmap.specs.Pairs.{mapBytes}
 use Rattle.store.specs.Block.{slotOf, placeOf, slotRows, fullRows, payloadRows}
 use Rattle.store.specs.Frame.{frameRows}
 use Rattle.store.specs.FrameLaws.{lengthsFit, frame-is, frame-sound}
-use Rattle.building.specs.Build.{placeRows, blockFault, buildFault, buildRows, builtMap, BuildOutcome, buildOutcome}
+use Rattle.building.specs.Build.{placeRows, blockFault, buildFault, buildRows, builtMap, BuildOutcome, buildOutcome, buildDone}
+use Rattle.building.specs.Build.{buildRefused}
 use Rattle.building.specs.Steps.{straysIn}
 
 -- A place
@@ -124,21 +125,21 @@ module _ (P : ℕ) (patch full map : List ℕ) where
       ∙ ap (λ (t : Bool). firstOf (frameRows P [] ((9 ⇐ t) ∷ []) patch full)) e
 
   pub build-refused : (k : ℕ) → firstOf (buildRows P patch full map) ≡ k → (k ≡ 0 → ⊥)
-      → buildOutcome P patch full map ≡ record { number = k; block = 0; map = map }
+      → buildOutcome P patch full map ≡ buildRefused k 0 map
   unfolding buildOutcome
   build-refused k e h = decided-refused _ _ (firstOf (buildRows P patch full map)) k e h
 
   module _ (e : firstOf (buildRows P patch full map) ≡ 0) where
     pub build-faulty : (k b : ℕ) → buildFault P patch full .number ≡ k → buildFault P patch full .block ≡ b → (k ≡ 0 → ⊥)
-        → buildOutcome P patch full map ≡ record { number = k; block = b; map = map }
+        → buildOutcome P patch full map ≡ buildRefused k b map
     unfolding buildOutcome
     build-faulty k b f g h =
         decided-done _ _ (firstOf (buildRows P patch full map)) e
         ∙ decided-refused _ _ (buildFault P patch full .number) k f h
-        ∙ ap (λ (x : ℕ). record { number = k; block = x; map = map }) g
+        ∙ ap (λ (x : ℕ). buildRefused k x map) g
 
     pub build-done : buildFault P patch full .number ≡ 0
-        → buildOutcome P patch full map ≡ record { number = 0; block = 0; map = splice map 0 (builtMap patch) }
+        → buildOutcome P patch full map ≡ buildDone (splice map 0 (builtMap patch))
     unfolding buildOutcome
     build-done f = decided-done _ _ (firstOf (buildRows P patch full map)) e ∙ decided-done _ _ (buildFault P patch full .number) f
 
@@ -147,9 +148,9 @@ module _ (P : ℕ) (patch full map : List ℕ) where
   byNumbers frame fault =
       decided frame
       (decided fault
-      (record { number = 0; block = 0; map = splice map 0 (builtMap patch) })
-      (λ n. record { number = n; block = buildFault P patch full .block; map = map }))
-      (λ n. record { number = n; block = 0; map = map })
+      (buildDone (splice map 0 (builtMap patch)))
+      (λ n. buildRefused n (buildFault P patch full .block) map))
+      (λ n. buildRefused n 0 map)
 
   -- accepted by its number: nothing was found
   pub build-zero : buildOutcome P patch full map .number ≡ 0

@@ -14,6 +14,7 @@ use Rattle.layout.specs.Lengths.{blocksIn, lengthRows}
 use Rattle.headers.specs.HeaderLaws.{headers-numbered}
 use Rattle.store.specs.Block.{slotRows, fullRows, payloadRows}
 use Rattle.building.specs.Build.{placeRows, faultGroups, faultRows, buildGroups, blockFault, buildFault, buildRows, BuildOutcome}
+use Rattle.building.specs.Build.{buildRefused}
 use Rattle.building.specs.Build.{buildOutcome}
 
 module _ (P : ℕ) (patch full : List ℕ) where
@@ -41,7 +42,7 @@ module _ (P : ℕ) (patch full : List ℕ) where
   unfolding buildOutcome
   build-number map =
       let frame : ℕ = firstOf (buildRows P patch full map) in
-      decided-or (λ (o : BuildOutcome). o .number) _ (λ (n : ℕ). record { number = n; block = 0; map = map }) frame (λ k. refl)
+      decided-or (λ (o : BuildOutcome). o .number) _ (λ (n : ℕ). buildRefused n 0 map) frame (λ k. refl)
       ∙ ap (λ (n : ℕ). orElse frame n)
       (decided-number (λ (o : BuildOutcome). o .number) _ _ (buildFault P patch full .number) refl (λ k. refl) ∙ fault-number)
       ∙ sym (first-append (buildRows P patch full map) blocksRows)

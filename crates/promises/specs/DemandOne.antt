@@ -24,6 +24,7 @@ use Rattle.blockmap.specs.declared.Looked.the-variants.{Done as LookedDone, Ref
 use Rattle.blockmap.specs.declared.Tallied.{Tallied}
 use Rattle.blockmap.specs.declared.Tallied.the-variants.{Done as TalliedDone, Refused as TalliedRefused}
 use Rattle.stream.specs.Calls.{ComparedNumbers, compareRows, comparedNumbers, Compare, AppliedNumbers, applyRows, appliedNumbers, Apply}
+use Rattle.stream.specs.Calls.{applyRefused}
 use Rattle.stream.specs.Given.{compare-exactly, apply-exactly}
 use Rattle.stream.specs.declared.Compared.{Compared}
 use Rattle.stream.specs.declared.Compared.the-variants.{Done as ComparedDone, Refused as ComparedRefused}
@@ -160,7 +161,7 @@ compare-zeros (ComparedDone k n e l) h = absurd (h refl)
 compare-zeros (ComparedRefused r) h = refl
 
 pub apply-zeros : (a : Applied) → (appliedNumbers a .number ≡ 0 → ⊥)
-    → appliedNumbers a ≡ record { number = appliedNumbers a .number; entries = 0; last = pos 0 }
+    → appliedNumbers a ≡ applyRefused (appliedNumbers a .number)
 apply-zeros (AppliedDone e l) h = absurd (h refl)
 apply-zeros (AppliedRefused r) h = refl
 

@@ -24,6 +24,7 @@ use Rattle.promises.specs.RunWords.{OverBases, FreshAreas}
 use Rattle.promises.specs.FreshLaws.{fresh-one}
 use Rattle.promises.specs.RunLaws.{last-decided, keeps-over, lasts-leave-same, lasts-list, reads-last, reads-base, build-accepts}
 use Rattle.promises.specs.RunLaws.{two-runs}
+use Rattle.reading.specs.Read.{readDone}
 
 module _ (s : Areas) (fresh : FreshAreas pageSize s) (os : List Operation) where
   -- (a) "only each block's last accepted write, in any order of blocks": every list of just those is accepted whole and leaves the same
@@ -49,7 +50,7 @@ module _ (s : Areas) (fresh : FreshAreas pageSize s) (os : List Operation) where
   -- or as its base where no write stands. A write is decided over a base page if its kind and its payload are Compare's over it;
   pub reads-as-last : (b : ℕ) → b < blocks (s .patch) → (w : Lent) → lastTo b (accepted pageSize s os) ≡ some (write w)
       → (base page : List ℕ) → PagesFit pageSize base page → Decided pageSize (pageOf pageSize base) w
-      → readAt pageSize (after pageSize s os) b base page ≡ record { number = 0; kind = decision pageSize w .kind; page = w .page }
+      → readAt pageSize (after pageSize s os) b base page ≡ readDone (decision pageSize w .kind) (w .page)
   reads-as-last b n w e base page f d = reads-last pageSize s fresh (lit≤ tt) os b n base page f w e d
 
   -- so over any base that stands for the page which that write had as its base
@@ -60,7 +61,7 @@ module _ (s : Areas) (fresh : FreshAreas pageSize s) (os : List Operation) where
   -- and over any base where no write stands
   pub reads-as-base : (b : ℕ) → b < blocks (s .patch) → ((w : Lent) → lastTo b (accepted pageSize s os) ≡ some (write w) → ⊥)
       → (base page : List ℕ) → PagesFit pageSize base page
-      → readAt pageSize (after pageSize s os) b base page ≡ record { number = 0; kind = 0; page = pageOf pageSize base }
+      → readAt pageSize (after pageSize s os) b base page ≡ readDone 0 (pageOf pageSize base)
   reads-as-base b n e base page f = reads-base pageSize s fresh (lit≤ tt) os b n base page f e
 
   -- and Build accepts

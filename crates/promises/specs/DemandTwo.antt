@@ -21,7 +21,7 @@ use Rattle.payload.specs.Spelling.{Spelled, Bytes}
 use Rattle.writer.specs.Writer.{placed}
 use Rattle.writer.specs.ReadBack.{pokes}
 use Rattle.store.specs.Block.{slotOf, placeOf}
-use Rattle.reading.specs.Read.{ReadOutcome, readOutcome}
+use Rattle.reading.specs.Read.{ReadOutcome, readOutcome, readDone, readRefused}
 use Rattle.writing.specs.Write.{WriteOutcome, writeOutcome}
 use Rattle.store.specs.Show.{Show}
 use Rattle.promises.specs.Words.{blocks, places, FrameFits, PatchOf, SoundSlot, PatchFits, ShowsNothing, Large, streamOf, Stored}
@@ -74,7 +74,7 @@ module _ (patch full : List ℕ) (b : ℕ) (base page : List ℕ) where
 
     -- "Reading back over the same base gives the written page": over a base that stands for the same page, into any page
     pub read-back : (base′ page′ : List ℕ) → pageOf pageSize base′ ≡ pageOf pageSize base → length page′ ≡ pageSize
-        → readOutcome pageSize (outcome .patch) (outcome .full) b base′ page′ ≡ record { number = 0; kind = outcome .kind; page = page }
+        → readOutcome pageSize (outcome .patch) (outcome .full) b base′ page′ ≡ readDone (outcome .kind) page
     read-back = reads-back pageSize patch full b base page (lit≤ tt) done
 
   -- and every other block reads as before, whatever it holds and whether or not the write was refused
@@ -85,20 +85,20 @@ module _ (patch full : List ℕ) (b : ℕ) (base page : List ℕ) where
   -- Every sound slot from elsewhere
 
   module _ (fits : FrameFits pageSize patch full base page) (below : b < blocks patch) where
-    pub empty-slot : slotOf patch b ≡ emptySlot → read ≡ record { number = 0; kind = 0; page = pageOf pageSize base }
+    pub empty-slot : slotOf patch b ≡ emptySlot → read ≡ readDone 0 (pageOf pageSize base)
     empty-slot = reads-empty pageSize patch full b base page fits below
 
     pub patch-slot : (payload : List ℕ) → PatchOf (slotOf patch b) payload → sound pageSize payload ≡ true
-        → read ≡ record { number = 0; kind = 1; page = applied (pageOf pageSize base) (payloadStream pageSize payload) }
+        → read ≡ readDone 1 (applied (pageOf pageSize base) (payloadStream pageSize payload))
     patch-slot = reads-patch pageSize patch full b base page fits below
 
     pub patch-slot-7 : (payload : List ℕ) → PatchOf (slotOf patch b) payload → sound pageSize payload ≡ false
-        → read ≡ record { number = 7; kind = 0; page = page }
+        → read ≡ readRefused 7 page
     patch-slot-7 = reads-unsound pageSize patch full b base page fits below
 
     -- the same by the entries that spell the payload: each value at its entry's place over the base, and 7 where no entries spell it
     pub patch-slot-spelled : (payload : List ℕ) → PatchOf (slotOf patch b) payload → (w : Spelled pageSize start payload)
-        → read ≡ record { number = 0; kind = 1; page = pokes (pageOf pageSize base) (placed 0 (w .entries)) }
+        → read ≡ readDone 1 (pokes (pageOf pageSize base) (placed 0 (w .entries)))
     patch-slot-spelled = reads-spelled pageSize patch full b base page fits below
 
     pub patch-slot-unspelled : Bytes patch → (payload : List ℕ) → PatchOf (slotOf patch b) payload
@@ -106,10 +106,10 @@ module _ (patch full : List ℕ) (b : ℕ) (base page : List ℕ) where
     patch-slot-unspelled = reads-unspelled pageSize patch full b base page fits below
 
     pub full-slot : slotOf patch b ≡ fullSlot → b < places pageSize full
-        → read ≡ record { number = 0; kind = 2; page = placeOf pageSize full b }
+        → read ≡ readDone 2 (placeOf pageSize full b)
     full-slot = reads-full pageSize patch full b base page fits below
 
-    pub full-slot-8 : slotOf patch b ≡ fullSlot → places pageSize full ≤ b → read ≡ record { number = 8; kind = 0; page = page }
+    pub full-slot-8 : slotOf patch b ≡ fullSlot → places pageSize full ≤ b → read ≡ readRefused 8 page
     full-slot-8 = reads-missing pageSize patch full b base page fits below
 
     -- "unless its payload is unsound or its full page missing": no other number is given for a sound slot

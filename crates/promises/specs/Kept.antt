@@ -25,7 +25,8 @@ use Rattle.store.specs.Format.{FormatOutcome, formatRows, formatOutcome}
 use Rattle.store.specs.Show.{showRows, showPlace}
 use Rattle.reading.specs.Read.{ReadOutcome, readRows, readOutcome}
 use Rattle.writing.specs.Write.{WriteOutcome, writeOutcome}
-use Rattle.building.specs.Build.{placeRows, blockFault, buildFault, BuildOutcome, buildRows, builtMap, buildOutcome}
+use Rattle.building.specs.Build.{placeRows, blockFault, buildFault, BuildOutcome, buildRows, builtMap, buildOutcome, buildDone}
+use Rattle.building.specs.Build.{buildRefused}
 use Rattle.store.specs.declared.Place.{Place}
 use Rattle.promises.specs.Words.{OfBlock, slot-6, payload-7, page-8, place-10}
 use Rattle.promises.specs.StoreLaws.{write-not}
@@ -114,8 +115,8 @@ build-kept P patch full map h =
   where
     built : ℕ → ℕ → ℕ → List ℕ → BuildOutcome
     built k n b done =
-        decided k (decided n (record { number = 0; block = 0; map = done }) (λ n. record { number = n; block = b; map = map }))
-        (λ n. record { number = n; block = 0; map = map })
+        decided k (decided n (buildDone done) (λ n. buildRefused n b map))
+        (λ n. buildRefused n 0 map)
 
     go : (k n b : ℕ) (done : List ℕ) → (n ≡ 0) ⊎ OfBlock n → (built k n b done .number ≡ 0 → ⊥)
         → (built k n b done .map ≡ map) × ((built k n b done .block ≡ 0) ⊎ OfBlock (built k n b done .number))

@@ -12,8 +12,8 @@ use Rattle.slots.specs.Slots.{SlotNumbers}
 use Rattle.slots.specs.Meaning.{empty-numbers}
 use Rattle.blockmap.specs.Pairs.{mapBytes}
 use Rattle.stream.specs.Calls.{pageOf}
-use Rattle.reading.specs.Read.{ReadOutcome}
-use Rattle.building.specs.Build.{buildOutcome, builtMap}
+use Rattle.reading.specs.Read.{ReadOutcome, readDone}
+use Rattle.building.specs.Build.{buildOutcome, builtMap, buildDone}
 use Rattle.promises.specs.Words.{blocks, PagesFit, FrameFits, SameFrame}
 use Rattle.promises.specs.Cells.{emptied-length, emptied-same}
 use Rattle.promises.specs.StoreLaws.{base-page-length}
@@ -108,27 +108,27 @@ module _ (P : ℕ) (s : Areas) (h : FreshAreas P s) where
 
       -- (c)
       pub reads-last : (w : Lent) → lastTo b (accepted P s os) ≡ some (write w) → Decided P (pageOf P base) w
-          → readAt P (after P s os) b base page ≡ record { number = 0; kind = decision P w .kind; page = w .page }
+          → readAt P (after P s os) b base page ≡ readDone (decision P w .kind) (w .page)
       reads-last w e d =
           let t = stands (store P) os (last-is P s os b ∙ e) in
           let here : cellAt P (after P s os) b ≡ cellFor P (decision P w) =
           write-left (store P) (store-laws P) s fresh os b in-frame w (last-is P s os b ∙ e) in
           let k = fit-kind P (decision P w) (compared-fit P small (pageOf P base) (decision P w) d) in
           let p = reading-laws P small .reads-cell (frameOf s) w (pageOf P base) (t .0) d in
-          read-is ∙ ap (readIn P (pageOf P base)) here ∙ (λ i. record { number = 0; kind = k i; page = p i })
+          read-is ∙ ap (readIn P (pageOf P base)) here ∙ (λ i. readDone (k i) (p i))
 
       pub reads-base : ((w : Lent) → lastTo b (accepted P s os) ≡ some (write w) → ⊥)
-          → readAt P (after P s os) b base page ≡ record { number = 0; kind = 0; page = pageOf P base }
+          → readAt P (after P s os) b base page ≡ readDone 0 (pageOf P base)
       reads-base n =
           let here : cellAt P (after P s os) b ≡ blankCell P =
           blank-left (store P) (store-laws P) s fresh os b in-frame (λ w e. n w (sym (last-is P s os b) ∙ e)) in
           let k = ap (λ (x : SlotNumbers). x .kind) empty-numbers in
           let p = blank-page P (pageOf P base) in
-          read-is ∙ ap (readIn P (pageOf P base)) here ∙ (λ i. record { number = 0; kind = k i; page = p i })
+          read-is ∙ ap (readIn P (pageOf P base)) here ∙ (λ i. readDone (k i) (p i))
 
   pub build-accepts : P ≤ 65536 → (os : List Operation) (map : List ℕ) → mapBytes (blocks (after P s os .patch)) ≤ length map
       → buildOutcome P (after P s os .patch) (after P s os .full) map
-      ≡ record { number = 0; block = 0; map = splice map 0 (builtMap (after P s os .patch)) }
+      ≡ buildDone (splice map 0 (builtMap (after P s os .patch)))
   build-accepts small os map long =
       let f : FrameFits P (after P s os .patch) (after P s os .full) [] (zeros P) =
       run-fits os [] (zeros P) (record { base-length = inl refl; page-length = zeros-length P }) in

@@ -4,7 +4,7 @@ use mathlib.Core.Path.{_≡_}
 use mathlib.Core.List.{List}
 use lib.ListN.{length}
 use Rattle.slots.specs.Slots.{slotNumbers}
-use Rattle.reading.specs.Read.{ReadOutcome}
+use Rattle.reading.specs.Read.{ReadOutcome, readDone}
 use Rattle.promises.specs.Words.{places}
 use Rattle.promises.specs.Decisions.{Decision, Cell, cellFor, Fit, pageIn, cellOf}
 use Rattle.promises.specs.Runs.{Reading}
@@ -25,7 +25,7 @@ reading P = record {
 
 -- what Read gives of a cell over a base page
 abbrev pub readIn : ℕ → List ℕ → Cell → ReadOutcome
-readIn P β c = record { number = 0; kind = slotNumbers (c .slot) .kind; page = pageIn P β c }
+readIn P β c = readDone (slotNumbers (c .slot) .kind) (pageIn P β c)
 
 -- a cell of a decision that can be carried out, at a block that has a place if it needs one
 pub record Held (P : ℕ) (full : List ℕ) (b : ℕ) (c : Cell) : Type 0 where

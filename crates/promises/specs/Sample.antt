@@ -23,7 +23,7 @@ use Rattle.store.specs.Block.{slotOf}
 use Rattle.store.specs.FrameLaws.{lengthsFit}
 use Rattle.store.specs.Format.{FormatOutcome, formatOutcome}
 use Rattle.store.specs.FormatLaws.{format-done}
-use Rattle.reading.specs.Read.{ReadOutcome}
+use Rattle.reading.specs.Read.{ReadOutcome, readDone}
 use Rattle.writing.specs.Write.{decidedKind, decidedStream}
 use Rattle.promises.specs.Words.{blocks, places, PagesFit, WriteGives, streamOf}
 use Rattle.promises.specs.Tables.{write-table}
@@ -186,7 +186,7 @@ reads os b h x f =
 
 -- where a fresh block reads as its base, so as zeros
 pub nothing-stands : (b : ℕ) → b < 2 → (base x : List ℕ) → PagesFit pageSize base x
-    → readAt pageSize sample b base x ≡ record { number = 0; kind = 0; page = pageOf pageSize base }
+    → readAt pageSize sample b base x ≡ readDone 0 (pageOf pageSize base)
 unfolding run taking lastTo lastSuch
 nothing-stands b h base x f =
     reads-base pageSize sample sample-fresh (lit≤ tt) [] b (rw (two-blocks []) h) base x f (λ w e. Option·none-ne-some _ e)

@@ -8,7 +8,7 @@ use lib.ListN.{length}
 use Rattle.layout.specs.Sizes.{room}
 use Rattle.stream.specs.Calls.{pageOf, kindFor}
 use Rattle.stream.specs.Kinds.{same-iff, kind-0, kind-1, kind-2}
-use Rattle.reading.specs.Read.{readOutcome}
+use Rattle.reading.specs.Read.{readOutcome, readDone}
 use Rattle.writing.specs.Write.{decidedStream, decidedKind, WriteOutcome, writeOutcome}
 use Rattle.promises.specs.Words.{blocks, places, FrameFits, Large, streamOf, WriteGives}
 use Rattle.promises.specs.FrameLaws.{frame-gives, frame-zero, frame-same, lengths-moved, headers-moved}
@@ -64,7 +64,7 @@ module _ (P : ℕ) (patch full : List ℕ) (b : ℕ) (base page : List ℕ) wher
   pub reads-back : P ≤ 65536 → writeOutcome P patch full b base page .number ≡ 0
       → (base′ page′ : List ℕ) → pageOf P base′ ≡ pageOf P base → length page′ ≡ P
       → readOutcome P (writeOutcome P patch full b base page .patch) (writeOutcome P patch full b base page .full) b base′ page′
-      ≡ record { number = 0; kind = writeOutcome P patch full b base page .kind; page = page }
+      ≡ readDone (writeOutcome P patch full b base page .kind) page
   reads-back small e base′ page′ q l =
       let a : Accepted P patch full b base page = accepted P patch full b base page e in
       let s = write-stored P patch full b base page e in

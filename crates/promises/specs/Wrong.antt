@@ -20,7 +20,7 @@ use Rattle.slots.specs.Slots.{patchSlot, SlotNumbers, slotNumbers, slotImage}
 use Rattle.slots.specs.Meaning.{empty-numbers}
 use Rattle.stream.specs.Calls.{pageOf, kindFor}
 use Rattle.store.specs.Block.{slotOf}
-use Rattle.reading.specs.Read.{ReadOutcome, readingNumbers, readNumbers, Read}
+use Rattle.reading.specs.Read.{ReadOutcome, readingNumbers, readNumbers, Read, readDone}
 use Rattle.writing.specs.Write.{decidedKind, decidedStream, WriteOutcome, writtenNumbers, writeNumbers, Write}
 use Rattle.reading.specs.declared.Reading.{Reading}
 use Rattle.writing.specs.declared.Written.{Written}
@@ -225,7 +225,7 @@ not-refused-stores-run claim = changes 0 (lit< tt) (sym refused-leaves ∙ sym (
 -- A Read that always gives the base
 
 unfoldable pub alwaysBase : Areas → ℕ → List ℕ → List ℕ → ReadOutcome
-alwaysBase s b base into = record { number = 0; kind = 0; page = pageOf pageSize base }
+alwaysBase s b base into = readDone 0 (pageOf pageSize base)
 
 pub not-always-base : (a : Reading) → readingNumbers a ≡ readNumbers (alwaysBase (T one) 0 [] two)
     → Read pageSize (T one .patch) (T one .full) 0 [] two a (alwaysBase (T one) 0 [] two .page)

@@ -8,15 +8,15 @@ use Rattle.slots.specs.Slots.{slotNumbers}
 use Rattle.payload.specs.Entries.{payloadStream, sound, applied}
 use Rattle.store.specs.Block.{slotOf, slotRows, fullRows, payloadRows}
 use Rattle.reading.specs.declared.Reading.{Reading}
-use Rattle.reading.specs.Read.{contents, ReadOutcome, readingNumbers, readNumbers}
+use Rattle.reading.specs.Read.{contents, ReadOutcome, readingNumbers, readNumbers, readDone, readRefused}
 
 -- what a read finds once the frame and the block number are sound
 unfoldable pub slotOutcome : ℕ → List ℕ → List ℕ → ℕ → List ℕ → List ℕ → ReadOutcome
 slotOutcome P patch full b base page =
     let s = slotOf patch b in
     decided (firstOf (slotRows s ++ (fullRows P s full b ++ payloadRows P s)))
-    (record { number = 0; kind = slotNumbers s .kind; page = contents P patch full b base })
-    (λ n. record { number = n; kind = 0; page = page })
+    (readDone (slotNumbers s .kind) (contents P patch full b base))
+    (λ n. readRefused n page)
 
 -- the same of the code's parts: a block below n over a base that is there, and a payload over one
 pub record BlockRead (P : ℕ) (patch full : List ℕ) (b : ℕ) (base page : List ℕ) (answer : Reading) (page′ : List ℕ) : Type 0 where

@@ -44,11 +44,18 @@ pub record ReadOutcome : Type 0 where
   pub kind : ℕ
   pub page : List ℕ
 
+-- done, and refused: the page keeps every byte, and the kind is 0
+abbrev pub readDone : ℕ → List ℕ → ReadOutcome
+readDone kind page = record { number = 0; kind = kind; page = page }
+
+abbrev pub readRefused : ℕ → List ℕ → ReadOutcome
+readRefused number page = record { number = number; kind = 0; page = page }
+
 unfoldable pub readOutcome : ℕ → List ℕ → List ℕ → ℕ → List ℕ → List ℕ → ReadOutcome
 readOutcome P patch full b base page =
     decided (firstOf (readRows P patch full b base page))
-    (record { number = 0; kind = slotNumbers (slotOf patch b) .kind; page = contents P patch full b base })
-    (λ n. record { number = n; kind = 0; page = page })
+    (readDone (slotNumbers (slotOf patch b) .kind) (contents P patch full b base))
+    (λ n. readRefused n page)
 
 -- the paper's numbers for each case of the answer
 pub record ReadNumbers : Type 0 where

@@ -18,7 +18,7 @@ use Rattle.stream.specs.Calls.{pageOf, pageRows}
 use Rattle.store.specs.Block.{slotOf, placeOf, blockRows, slotRows, fullRows, payloadRows}
 use Rattle.store.specs.Frame.{frameRows}
 use Rattle.reading.specs.declared.Reading.{Reading}
-use Rattle.reading.specs.Read.{readRows, contents, readOutcome}
+use Rattle.reading.specs.Read.{readRows, contents, readOutcome, readDone, readRefused}
 use Rattle.reading.specs.Parts.{slotOutcome, BlockRead, PatchRead}
 
 module _ (P : ℕ) (patch full : List ℕ) (b : ℕ) (base page : List ℕ) where
@@ -31,7 +31,7 @@ module _ (P : ℕ) (patch full : List ℕ) (b : ℕ) (base page : List ℕ) wher
 
   -- the frame's refusal is the call's
   pub read-frame : (k : ℕ) → firstOf (frameRows P (pageRows P base page) [] patch full) ≡ k → (k ≡ 0 → ⊥)
-      → readOutcome P patch full b base page ≡ record { number = k; kind = 0; page = page }
+      → readOutcome P patch full b base page ≡ readRefused k page
   unfolding readOutcome
   read-frame k e h =
       decided-refused _ _ (firstOf (readRows P patch full b base page)) k
@@ -42,7 +42,7 @@ module _ (P : ℕ) (patch full : List ℕ) (b : ℕ) (base page : List ℕ) wher
       ++ (slotRows (slotOf patch b) ++ (fullRows P (slotOf patch b) full b ++ (payloadRows P (slotOf patch b) ++ ([] ++ [])))))) h) h
 
   module _ (e : firstOf (frameRows P (pageRows P base page) [] patch full) ≡ 0) where
-    pub read-block : blocksIn (length patch) ≤ b → readOutcome P patch full b base page ≡ record { number = 5; kind = 0; page = page }
+    pub read-block : blocksIn (length patch) ≤ b → readOutcome P patch full b base page ≡ readRefused 5 page
     unfolding readOutcome
     read-block h =
         decided-refused _ _ (firstOf (readRows P patch full b base page)) 5
@@ -59,8 +59,8 @@ module _ (P : ℕ) (patch full : List ℕ) (b : ℕ) (base page : List ℕ) wher
     unfolding readOutcome slotOutcome
     read-slot h =
         let s : List ℕ = slotOf patch b in
-        ap (λ (n : ℕ). decided n (record { number = 0; kind = slotNumbers s .kind; page = contents P patch full b base })
-        (λ (n : ℕ). record { number = n; kind = 0; page = page }))
+        ap (λ (n : ℕ). decided n (readDone (slotNumbers s .kind) (contents P patch full b base))
+        (λ (n : ℕ). readRefused n page))
         (read-rows
         ∙ or-skip (firstOf (frameRows P (pageRows P base page) [] patch full))
         (firstOf (blockRows patch b ++ (slotRows s ++ (fullRows P s full b ++ (payloadRows P s ++ ([] ++ [])))))) e
@@ -71,34 +71,34 @@ module _ (P : ℕ) (patch full : List ℕ) (b : ℕ) (base page : List ℕ) wher
 -- by the slot's numbers
 module _ (P : ℕ) (patch full : List ℕ) (b : ℕ) (base page : List ℕ) where
   pub slot-unsound : slotNumbers (slotOf patch b) ≡ unsoundSlot
-      → slotOutcome P patch full b base page ≡ record { number = 6; kind = 0; page = page }
+      → slotOutcome P patch full b base page ≡ readRefused 6 page
   unfolding slotOutcome slotRows fullRows payloadRows firstOf orElse
   slot-unsound e = decided-refused _ _
       (firstOf (slotRows (slotOf patch b) ++ (fullRows P (slotOf patch b) full b ++ payloadRows P (slotOf patch b)))) 6 (rw e)
       (λ q. omega arith)
 
   pub slot-empty : slotNumbers (slotOf patch b) ≡ soundSlot 0 0
-      → slotOutcome P patch full b base page ≡ record { number = 0; kind = 0; page = pageOf P base }
+      → slotOutcome P patch full b base page ≡ readDone 0 (pageOf P base)
   unfolding slotOutcome slotRows fullRows payloadRows firstOf orElse contents
   slot-empty e = decided-done _ _
       (firstOf (slotRows (slotOf patch b) ++ (fullRows P (slotOf patch b) full b ++ payloadRows P (slotOf patch b)))) (rw e) ∙ rw e
 
   pub slot-missing : slotNumbers (slotOf patch b) ≡ soundSlot 2 0 → pagesIn P (length full) ≤ b
-      → slotOutcome P patch full b base page ≡ record { number = 8; kind = 0; page = page }
+      → slotOutcome P patch full b base page ≡ readRefused 8 page
   unfolding slotOutcome slotRows fullRows payloadRows firstOf orElse
   slot-missing e h =
       decided-refused _ _ (firstOf (slotRows (slotOf patch b) ++ (fullRows P (slotOf patch b) full b ++ payloadRows P (slotOf patch b))))
       8 (rw (e, le-leb (pagesIn P (length full)) b h)) (λ q. omega arith)
 
   pub slot-full : slotNumbers (slotOf patch b) ≡ soundSlot 2 0 → b < pagesIn P (length full)
-      → slotOutcome P patch full b base page ≡ record { number = 0; kind = 2; page = placeOf P full b }
+      → slotOutcome P patch full b base page ≡ readDone 2 (placeOf P full b)
   unfolding slotOutcome slotRows fullRows payloadRows firstOf orElse contents
   slot-full e h = decided-done _ _
       (firstOf (slotRows (slotOf patch b) ++ (fullRows P (slotOf patch b) full b ++ payloadRows P (slotOf patch b))))
       (rw (e, lt-leb (pagesIn P (length full)) b h)) ∙ rw e
 
   pub slot-broken : (n : ℕ) → slotNumbers (slotOf patch b) ≡ soundSlot 1 n → sound P (payloadOf (slotOf patch b)) ≡ false
-      → slotOutcome P patch full b base page ≡ record { number = 7; kind = 0; page = page }
+      → slotOutcome P patch full b base page ≡ readRefused 7 page
   unfolding slotOutcome slotRows fullRows payloadRows firstOf orElse
   slot-broken n e h = decided-refused _ _
       (firstOf (slotRows (slotOf patch b) ++ (fullRows P (slotOf patch b) full b ++ payloadRows P (slotOf patch b)))) 7 (rw (e, h))
@@ -106,7 +106,7 @@ module _ (P : ℕ) (patch full : List ℕ) (b : ℕ) (base page : List ℕ) wher
 
   pub slot-patched : (n : ℕ) → slotNumbers (slotOf patch b) ≡ soundSlot 1 n → sound P (payloadOf (slotOf patch b)) ≡ true
       → slotOutcome P patch full b base page
-      ≡ record { number = 0; kind = 1; page = applied (pageOf P base) (payloadStream P (payloadOf (slotOf patch b))) }
+      ≡ readDone 1 (applied (pageOf P base) (payloadStream P (payloadOf (slotOf patch b))))
   unfolding slotOutcome slotRows fullRows payloadRows firstOf orElse contents
   slot-patched n e h = decided-done _ _
       (firstOf (slotRows (slotOf patch b) ++ (fullRows P (slotOf patch b) full b ++ payloadRows P (slotOf patch b)))) (rw (e, h)) ∙ rw e
@@ -129,13 +129,13 @@ patch-read P patch full b base page n payload answer page′ told same-payload s
     go : (t : Bool) → sound P payload ≡ t → BlockRead P patch full b base page answer page′
     go true h =
         let e : slotOutcome P patch full b base page
-        ≡ record { number = 0; kind = 1; page = applied (pageOf P base) (payloadStream P (payloadOf (slotOf patch b))) } =
+        ≡ readDone 1 (applied (pageOf P base) (payloadStream P (payloadOf (slotOf patch b)))) =
         slot-patched P patch full b base page n told (ap (λ (l : List ℕ). sound P l) (sym same-payload) ∙ h) in
         record {
           numbers = rw e (r .numbers ∙ rw h);
           bytes = rw e (r .bytes ∙ rw (h, same-base′, same-payload));
         }
     go false h =
-        let e : slotOutcome P patch full b base page ≡ record { number = 7; kind = 0; page = page } =
+        let e : slotOutcome P patch full b base page ≡ readRefused 7 page =
         slot-broken P patch full b base page n told (ap (λ (l : List ℕ). sound P l) (sym same-payload) ∙ h) in
         record { numbers = rw e (r .numbers ∙ rw h); bytes = rw e (r .bytes ∙ rw h) }

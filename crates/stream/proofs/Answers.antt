@@ -24,6 +24,7 @@ use Rattle.payload.specs.StepLaws.{SoundAs}
 use Rattle.writer.specs.Steps.{near, Differs}
 use Rattle.stream.specs.Steps.{Applies, application, Compares}
 use Rattle.stream.specs.Calls.{pageOf, pagesFit, applyRows, Apply, appliedNumbers, kindFor, compareRows, comparison, compareNumbers, compareBuffer}
+use Rattle.stream.specs.Calls.{applyDone}
 use Rattle.stream.specs.Calls.{ComparedNumbers, comparedNumbers, Compare}
 use Rattle.stream.specs.Laws.{patch-fits, page-length, apply-number, apply-done, apply-not, compare-number, compare-done, compare-not}
 use Rattle.writer.specs.StepLaws.{differs-near}
@@ -49,7 +50,7 @@ applies-sound base payload page copied after e l l′ k s f g =
     let g′ : after ≡ applied c (payloadStream (reach (length page)) payload) =
     g ∙ ap (λ (x : List ℕ). applied x (payloadStream (reach (length x)) payload)) f ∙ ap (λ (x : ℕ). applied c (payloadStream (reach x) payload)) q in
     let z : appliedNumbers (AppliedDone e l′) ≡ application true (payloadStream (reach (length page)) payload) =
-    λ i. record { number = 0; entries = s .entries i; last = (k ∙ s .last) i } in
+    λ i. applyDone (s .entries i) ((k ∙ s .last) i) in
     record { numbers = rw (s .is) z; bytes = rw (s .is) g′ }
 
 pub apply-refused : (P : ℕ) (base payload page : List ℕ) → pagesFit P base page ≡ false → Apply P base payload page (AppliedRefused Page) page

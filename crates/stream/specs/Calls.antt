@@ -96,22 +96,26 @@ applyGroups P base payload page =
 unfoldable pub applyRows : ℕ → List ℕ → List ℕ → List ℕ → List Row
 applyRows P base payload page = ordered (applyGroups P base payload page)
 
-abbrev refusedApplication : ℕ → AppliedNumbers
-refusedApplication n = record { number = n; entries = 0; last = pos 0 }
+-- done, and refused: every other number is 0
+abbrev pub applyDone : ℕ → ℤ → AppliedNumbers
+applyDone entries last = record { number = 0; entries = entries; last = last }
+
+abbrev pub applyRefused : ℕ → AppliedNumbers
+applyRefused number = record { number = number; entries = 0; last = pos 0 }
 
 unfoldable pub applyNumbers : ℕ → List ℕ → List ℕ → List ℕ → AppliedNumbers
 applyNumbers P base payload page =
     decided (firstOf (applyRows P base payload page))
-    (record { number = 0; entries = entries (payloadStream P payload); last = last start (payloadStream P payload) })
-    refusedApplication
+    (applyDone (entries (payloadStream P payload)) (last start (payloadStream P payload)))
+    applyRefused
 
 unfoldable pub applyPage : ℕ → List ℕ → List ℕ → List ℕ → List ℕ
 applyPage P base payload page = decided (firstOf (applyRows P base payload page)) (applied (pageOf P base) (payloadStream P payload))
     (λ _. page)
 
 abbrev pub appliedNumbers : Applied → AppliedNumbers
-appliedNumbers (AppliedDone e l) = record { number = 0; entries = e; last = l }
-appliedNumbers (AppliedRefused r) = refusedApplication (refusalNumber r)
+appliedNumbers (AppliedDone e l) = applyDone e l
+appliedNumbers (AppliedRefused r) = applyRefused (refusalNumber r)
 
 pub record Apply (P : ℕ) (base payload page : List ℕ) (answer : Applied) (after : List ℕ) : Type 0 where
   pub numbers : appliedNumbers answer ≡ applyNumbers P base payload page

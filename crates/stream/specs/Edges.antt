@@ -17,6 +17,7 @@ use Rattle.layout.specs.Refusals.{firstOf}
 use Rattle.payload.specs.Entries.{stream, inPage, whole, sound, entries, last, put, applied, payloadStream, start}
 use Rattle.writer.specs.Differences.{Change, diffs, spelled, coded, lastPlace}
 use Rattle.stream.specs.Calls.{pageOf, pagesFit, kindFor, comparison, compareNumbers, compareBuffer, ComparedNumbers, applyRows}
+use Rattle.stream.specs.Calls.{applyDone, applyRefused}
 use Rattle.stream.specs.Calls.{applyNumbers, applyPage}
 use Rattle.stream.specs.Laws.{pages-fit, zeros-base, compare-number, compare-done, compare-written, compare-kept}
 use Rattle.stream.specs.Kinds.{diffs-none}
@@ -43,14 +44,14 @@ pub record FindsNone (base page : List ℕ) : Type 0 where
 -- Apply answers this, and leaves this page
 pub record Gives (payload : List ℕ) (count : ℕ) (at : ℤ) (page : List ℕ) : Type 0 where
   pub answer : (base : List ℕ) → ZeroBase base → (lent : List ℕ) → length lent ≡ pageSize
-      → applyNumbers pageSize base payload lent ≡ record { number = 0; entries = count; last = at }
+      → applyNumbers pageSize base payload lent ≡ applyDone count at
   pub bytes : (base : List ℕ) → ZeroBase base → (lent : List ℕ) → length lent ≡ pageSize
       → applyPage pageSize base payload lent ≡ page
 
 -- Apply refuses with 7, and leaves the page alone
 pub record Refuses (payload : List ℕ) : Type 0 where
   pub answer : (base : List ℕ) → ZeroBase base → (lent : List ℕ) → length lent ≡ pageSize
-      → applyNumbers pageSize base payload lent ≡ record { number = 7; entries = 0; last = pos 0 }
+      → applyNumbers pageSize base payload lent ≡ applyRefused 7
   pub bytes : (base : List ℕ) → ZeroBase base → (lent : List ℕ) → length lent ≡ pageSize → applyPage pageSize base payload lent ≡ lent
 
 -- a page of zeros with one byte, or two, changed
@@ -140,7 +141,7 @@ gives : (payload page : List ℕ) (count : ℕ) (at : ℤ) → sound pageSize pa
     → applied (zeros pageSize) (payloadStream pageSize payload) ≡ page → Gives payload count at page
 gives payload page count at s e f g = record {
   answer = λ base z lent h. apply-done pageSize base payload lent (number base z lent h) .0
-      ∙ (λ i. record { number = 0; entries = e i; last = f i });
+      ∙ (λ i. applyDone (e i) (f i));
   bytes = λ base z lent h. apply-done pageSize base payload lent (number base z lent h) .1
       ∙ ap (λ (b : List ℕ). applied b (payloadStream pageSize payload)) (zero-page base z) ∙ g;
 }

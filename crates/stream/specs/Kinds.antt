@@ -22,6 +22,7 @@ use Rattle.writer.specs.Differences.{Change, diffs, spelled, coded, written, la
 use Rattle.writer.specs.Writer.{diffs-rising}
 use Rattle.writer.specs.LastPlace.{LastDiffers, last-none, last-differs}
 use Rattle.stream.specs.Calls.{pageOf, pagesFit, kindFor, comparison, compareRows, compareNumbers, compareBuffer, ComparedNumbers}
+use Rattle.stream.specs.Calls.{applyDone}
 use Rattle.stream.specs.Calls.{applyRows, applyNumbers, applyPage}
 use Rattle.stream.specs.Laws.{page-length, present-length, kind-none, kind-large, kind-patch, patch-fits, compare-number}
 use Rattle.stream.specs.Laws.{compare-done, compare-written, apply-number, apply-done}
@@ -213,7 +214,7 @@ module _ (P : ℕ) (base page buffer : List ℕ) where
     -- Applying what Compare wrote to the same base gives the page, with Compare's own numbers.
     pub compare-apply : P ≤ 65536 → compareNumbers P base page buffer .kind ≡ 1 → (lent : List ℕ) → length lent ≡ P
         → (applyNumbers P base (take (compareNumbers P base page buffer .length) (compareBuffer P base page buffer)) lent
-        ≡ record { number = 0; entries = compareNumbers P base page buffer .entries; last = compareNumbers P base page buffer .last })
+        ≡ applyDone (compareNumbers P base page buffer .entries) (compareNumbers P base page buffer .last))
         × (applyPage P base (take (compareNumbers P base page buffer .length) (compareBuffer P base page buffer)) lent ≡ page)
     unfolding comparison written part pagesFit
     compare-apply small k lent l =
@@ -231,12 +232,8 @@ module _ (P : ℕ) (base page buffer : List ℕ) where
         let d = apply-done P base w lent a in (
           ap (λ (x : List ℕ). applyNumbers P base x lent) t
               ∙ d .0
-              ∙ (λ i. record {
-                number = 0;
-                entries = (b .entries ∙ sym (ap (λ (x : ComparedNumbers). x .entries) numbers)) i;
-                last =
-                    (b .last ∙ sym (ap (λ (x : ComparedNumbers). x .last) numbers)) i;
-              }),
+              ∙ (λ i. applyDone ((b .entries ∙ sym (ap (λ (x : ComparedNumbers). x .entries) numbers)) i)
+              ((b .last ∙ sym (ap (λ (x : ComparedNumbers). x .last) numbers)) i)),
           ap (λ (x : List ℕ). applyPage P base x lent) t ∙ d .1 ∙ b .page,
         )
       where

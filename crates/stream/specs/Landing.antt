@@ -14,7 +14,7 @@ use Rattle.layout.specs.Sizes.{room}
 use Rattle.layout.specs.Numbers.{le}
 use Rattle.payload.specs.Entries.{Stream, entry, code, inPage, stream, start, payloadStream, sound, entries, last, put, applied}
 use Rattle.writer.specs.Differences.{Change, lastPlace}
-use Rattle.stream.specs.Calls.{pageOf, pagesFit, appliedNumbers, Apply}
+use Rattle.stream.specs.Calls.{pageOf, pagesFit, appliedNumbers, Apply, applyDone}
 use Rattle.writer.specs.Steps.{before}
 use Rattle.stream.specs.Laws.{pages-fit, present-length, apply-number, apply-done, apply-not}
 use Rattle.payload.specs.EntryLaws.{short-in, long-in}
@@ -165,7 +165,7 @@ module _ (P : ℕ) (base payload page : List ℕ) (answer : Applied) (after : Li
       record {
         numbers =
             applied-one answer (Done (length es) (lastPlace start (placed 0 es)))
-            (call .numbers ∙ d .0 ∙ (λ i. record { number = 0; entries = l .count i; last = l .last start i }));
+            (call .numbers ∙ d .0 ∙ (λ i. applyDone (l .count i) (l .last start i)));
         last-at = last-some 0 (placed 0 es) (placed-rising es 0);
         page = q;
         rising = placed-rising es 0;

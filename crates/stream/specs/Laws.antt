@@ -19,6 +19,7 @@ use Rattle.layout.specs.Groups.{ordered}
 use Rattle.payload.specs.Entries.{payloadStream, sound, entries, last, start, applied}
 use Rattle.writer.specs.Differences.{diffs, coded}
 use Rattle.stream.specs.Calls.{pageOf, pagesFit, kindFor, compareRows, comparison, compareNumbers, compareBuffer, ComparedNumbers}
+use Rattle.stream.specs.Calls.{applyDone, applyRefused}
 use Rattle.stream.specs.Calls.{applyRows, applyNumbers, applyPage}
 
 -- Pages
@@ -96,7 +97,7 @@ module _ (P : ℕ) (base payload page : List ℕ) where
 
   pub apply-done : firstOf (applyRows P base payload page) ≡ 0
       → (applyNumbers P base payload page
-      ≡ record { number = 0; entries = entries (payloadStream P payload); last = last start (payloadStream P payload) })
+      ≡ applyDone (entries (payloadStream P payload)) (last start (payloadStream P payload)))
       × (applyPage P base payload page ≡ applied (pageOf P base) (payloadStream P payload))
   unfolding applyNumbers applyPage
   apply-done e = (
@@ -106,7 +107,7 @@ module _ (P : ℕ) (base payload page : List ℕ) where
   )
 
   pub apply-not : (m : ℕ) → firstOf (applyRows P base payload page) ≡ suc m
-      → (applyNumbers P base payload page ≡ record { number = suc m; entries = 0; last = pos 0 }) × (applyPage P base payload page ≡ page)
+      → (applyNumbers P base payload page ≡ applyRefused (suc m)) × (applyPage P base payload page ≡ page)
   unfolding applyNumbers applyPage
   apply-not m e = (
     decided-refused _ _ (firstOf (applyRows P base payload page)) (suc m) e (λ q. omega arith),

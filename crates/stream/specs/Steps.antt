@@ -9,15 +9,15 @@ use lib.IntN.{pos}
 use Rattle.span.specs.Bytes.{splice}
 use Rattle.writer.specs.Differences.{diffs, written}
 use Rattle.payload.specs.Entries.{Stream, start, payloadStream, sound, entries as entriesOf, last as lastOf, applied}
-use Rattle.stream.specs.Calls.{kindFor, comparison, comparedNumbers, AppliedNumbers, appliedNumbers}
+use Rattle.stream.specs.Calls.{kindFor, comparison, comparedNumbers, AppliedNumbers, appliedNumbers, applyDone, applyRefused}
 use Rattle.stream.specs.declared.Compared.{Compared}
 use Rattle.stream.specs.declared.Applied.{Applied}
 
 -- Apply to a base that is there: it is laid over the page as far as both go, and the payload over that
 
 abbrev pub application : Bool → Stream → AppliedNumbers
-application true s = record { number = 0; entries = entriesOf s; last = lastOf start s }
-application false s = record { number = 7; entries = 0; last = pos 0 }
+application true s = applyDone (entriesOf s) (lastOf start s)
+application false s = applyRefused 7
 
 pub record Applies (n : ℕ) (base payload page : List ℕ) (answer : Applied) (after : List ℕ) : Type 0 where
   pub numbers : appliedNumbers answer ≡ application (sound n payload) (payloadStream n payload)

@@ -1,4 +1,4 @@
-use Rattle.reading.specs.Read.{readOutcome}
+use Rattle.reading.specs.Read.{readOutcome, readRefused}
 use Rattle.reading.specs.Parts.{slotOutcome}
 use Rattle.reading.specs.ReadLaws.{read-frame, read-block, read-slot, same-base}
 use Rattle.store.specs.Frame.{frameRows}
@@ -66,7 +66,7 @@ returns c =
     let a = c .before .before .before .before .before .before .before .before .before .before .before .args in
     let told = framed (c .before .before) in
     let e : readOutcome pageSize (a .patch .now) (a .full .now) (a .block) (a .base .now) (a .page .now)
-    ≡ record { number = 5; kind = 0; page = a .page .now } = read-block pageSize (a .patch .now) (a .full .now) (a .block) (a .base .now) (a .page .now)
+    ≡ readRefused 5 (a .page .now) = read-block pageSize (a .patch .now) (a .full .now) (a .block) (a .base .now) (a .page .now)
     (told .0) (omega (arith, c .before .blocks2 .ensures, c .if1 .taken)) in
     record { numbers = rw e; bytes = rw e }
 
@@ -134,7 +134,7 @@ returns-3 c =
     (refusalNumber r) (c .before .before .before .before .pages-fit .ensures) (sym (ap faultNumber (c .before .r .given .1))
     ∙ c .before .before .before .frame-fault .ensures) in
     let e : readOutcome pageSize (a .patch .now) (a .full .now) (a .block) (a .base .now) (a .page .now)
-    ≡ record { number = refusalNumber r; kind = 0; page = a .page .now } = read-frame pageSize (a .patch .now) (a .full .now) (a .block) (a .base .now)
+    ≡ readRefused (refusalNumber r) (a .page .now) = read-frame pageSize (a .patch .now) (a .full .now) (a .block) (a .base .now)
     (a .page .now) (refusalNumber r) told (refusal-some r) in
     record { numbers = rw e; bytes = rw e }
 

@@ -18,6 +18,7 @@ use Prim.Native.Nat.{ℕ, _<_}
 use borrow.Author.Needs.{needs}
 use Rattle.reading.proofs.read_block.Statement.{statement}
 use Rattle.reading.proofs.read_block.Tie as tie
+use Rattle.reading.specs.Read.{readDone, readRefused}
 
 slot-at-requires : tie.Need-slot-at-requires
 slot-at-requires c κs = search needs
@@ -63,7 +64,7 @@ returns c =
     let numbers : stateNumbers (c .before .before .before .before .slot-state .result) ≡ slotNumbers s = c .before .before .before .before .slot-state
     .ensures ∙ ap (λ (l : List ℕ). slotNumbers l) same-slot in
     let e : slotOutcome (a .size) (a .patch .now) (a .full .now) (a .block) (a .base .now) (a .page .now)
-    ≡ record { number = 8; kind = 0; page = a .page .now } =
+    ≡ readRefused 8 (a .page .now) =
     slot-missing (a .size) (a .patch .now) (a .full .now) (a .block) (a .base .now) (a .page .now) (sym numbers
     ∙ ap stateNumbers (c .before .before .enum-told3 .given .1)) (omega (arith, c .before .pages .ensures, c .if1 .taken)) in
     record { numbers = rw e; bytes = rw e }
@@ -88,7 +89,7 @@ returns-2 c =
     let numbers : stateNumbers (c .before .before .slot-state .result) ≡ slotNumbers s = c .before .before .slot-state .ensures
     ∙ ap (λ (l : List ℕ). slotNumbers l) same-slot in
     let e : slotOutcome (a .size) (a .patch .now) (a .full .now) (a .block) (a .base .now) (a .page .now)
-    ≡ record { number = 6; kind = 0; page = a .page .now } =
+    ≡ readRefused 6 (a .page .now) =
     slot-unsound (a .size) (a .patch .now) (a .full .now) (a .block) (a .base .now) (a .page .now) (sym numbers ∙ ap stateNumbers (c .enum-told .given .1)) in
     record { numbers = rw e; bytes = rw e }
 
@@ -107,7 +108,7 @@ returns-3 c =
     let numbers : stateNumbers (c .before .before .before .before .before .before .slot-state .result) ≡ slotNumbers s = c .before .before .before .before
     .before .before .slot-state .ensures ∙ ap (λ (l : List ℕ). slotNumbers l) same-slot in
     let e : slotOutcome (a .size) (a .patch .now) (a .full .now) (a .block) (a .base .now) (a .page .now)
-    ≡ record { number = 0; kind = 0; page = pageOf (a .size) (a .base .now) } =
+    ≡ readDone 0 (pageOf (a .size) (a .base .now)) =
     slot-empty (a .size) (a .patch .now) (a .full .now) (a .block) (a .base .now) (a .page .now) (sym numbers
     ∙ ap stateNumbers (c .before .before .before .before .enum-told2 .given .1)) in
     let lb : length (a .base .now) ≡ a .size = at .pre .0 .0 in
@@ -168,7 +169,7 @@ returns-5 c =
       c .before .before .before .before .before .before .if1 .left,
     ) in
     let e : slotOutcome (a .size) (a .patch .now) (a .full .now) (a .block) (a .base .now) (a .page .now)
-    ≡ record { number = 0; kind = 2; page = placeOf (a .size) (a .full .now) (a .block) } =
+    ≡ readDone 2 (placeOf (a .size) (a .full .now) (a .block)) =
     slot-full (a .size) (a .patch .now) (a .full .now) (a .block) (a .base .now) (a .page .now) (sym numbers
     ∙ ap stateNumbers (c .before .before .before .before .before .before .before .before .enum-told3 .given .1)) below in
     let p : c .before .before .before .part3 .result .now ≡ part (pageAt (a .size) (a .block)) (a .size) (a .full .now) = c .before .before .before .part3

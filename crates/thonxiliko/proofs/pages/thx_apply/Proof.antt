@@ -1,6 +1,6 @@
 use Rattle.thonxiliko.specs.Widths.{apply-fits}
 use Rattle.thonxiliko.specs.PageLaws.{apply-held}
-use Rattle.stream.specs.Calls.{appliedNumbers}
+use Rattle.stream.specs.Calls.{appliedNumbers, applyDone, applyRefused}
 use lib.IntN.{ℤ, pos}
 use mir.ValLaws.{toZ-ofZ}
 use mir.Syntax.{w32}
@@ -37,7 +37,7 @@ returns c =
     let l : ℤ = told .0 .1 .0 in
     let fits : SFits w32 l = record { sfits = c .known-told .given .1 .0 .1 } in
     apply-held (c .before .before .before .before .before .apply .ensures)
-    ((λ i. record { number = 0; entries = told .0 .0; last = toZ-ofZ w32 l fits i }) ∙ ap appliedNumbers (sym (told .1)))
+    ((λ i. applyDone (told .0 .0) (toZ-ofZ w32 l fits i)) ∙ ap appliedNumbers (sym (told .1)))
 
 same-length-2 : tie.Need-same-length-2
 same-length-2 c = search needs
@@ -46,7 +46,7 @@ returns-2 : tie.Need-returns-2
 returns-2 c =
     let told = c .before .before .refusal .given in
     apply-held (c .before .before .before .before .before .before .apply .ensures)
-    ((λ i. record { number = c .refusal-number .ensures i; entries = 0; last = pos 0 }) ∙ ap appliedNumbers (sym (told .1)))
+    ((λ i. applyRefused (c .refusal-number .ensures i)) ∙ ap appliedNumbers (sym (told .1)))
 
 pub thx-apply-spec : {M : Type 1} → statement M
 thx-apply-spec =
