@@ -2,8 +2,8 @@
 use Prim.Native.Nat.{ℕ, _≤_, _<_}
 use native.Mathlib.Omega.{arith}
 use mathlib.Core.Path.{_≡_, sym, ap, _∙_, subst}
-use mathlib.Core.Bool.{Bool, true, false, not}
-use mathlib.Core.List.{List, [], _∷_}
+use mathlib.Core.Bool.{Bool, true}
+use mathlib.Core.List.{List, []}
 use lib.Dec.{leb, ltb}
 use lib.ListN.{length}
 use borrow.Author.Tests.{leb-true}
@@ -19,17 +19,21 @@ use Rattle.payload.specs.Steps.{reach, checkedNumbers, checkNumbers}
 use Rattle.payload.specs.StepLaws.{Judges, judged}
 use Rattle.payload.specs.declared.Checked.{Checked}
 use Rattle.payload.specs.declared.Checked.the-variants.{Unsound as Broken, Sound}
-use Rattle.span.specs.Laws.{and-left}
-use Rattle.layout.specs.Refusals.{_⇐_, firstOf}
-use Rattle.layout.specs.Lengths.{blocksIn, pagesIn, patchFits, fullFits}
-use Rattle.layout.specs.LengthLaws.{patch-fits-is, most-blocks}
+use Rattle.layout.specs.Refusals.{firstOf}
+use Rattle.layout.specs.Lengths.{blocksIn, pagesIn}
+use Rattle.layout.specs.LengthLaws.{patch-fits-is}
 use Rattle.blockmap.specs.Pairs.{mapBytes}
 use Rattle.store.specs.Block.{slotOf, placeOf, Sized}
-use Rattle.store.specs.Frame.{frameRows}
+use Rattle.store.specs.Open.{openRows, openNumbers, openedNumbers}
+use Rattle.store.specs.OpenLaws.{opened-frame, opened-refused}
+use Rattle.store.specs.declared.Opened.{Opened}
+use Rattle.store.specs.declared.Opened.the-variants.{Refused, Frame}
+use Rattle.layout.specs.Numbers.{refusalNumber}
+use Rattle.layout.specs.declared.Refusal.{Refusal}
 use Rattle.building.specs.Build.{blockFault, buildRows}
 use Rattle.building.specs.Steps.{straysIn}
 use Rattle.building.specs.BuildLaws.{block-unsound, block-full-none, block-full, block-payload, block-patch, block-empty}
-use Rattle.building.specs.BuildLaws.{not-fits, build-frame, frame-none}
+use Rattle.building.specs.BuildLaws.{not-fits, build-frame}
 
 pub place-told : (P : ℕ) (full : List ℕ) (b at : ℕ) (r : Bool) → at ≡ pageAt P b → r ≡ same (part at P full) (zeros P)
     → same (placeOf P full b) (zeros P) ≡ r
@@ -82,20 +86,38 @@ module _ (P : ℕ) (patch full : List ℕ) (b at : ℕ) (slot : List ℕ) (r : S
     pub told-patched : {count : ℕ} {last : ℤ} → j ≡ Sound count last → straysIn P full b ≡ blockFault P patch full b
     told-patched w = sym (block-patch P patch full b n (state q) (is-sound ∙ subst (λ (x : Checked). Judges P payload x) w (judged P payload j numbers) .is))
 
--- the frame, as the code asks for it
-module _ (P : ℕ) (patch full map : List ℕ) (n k x : ℕ) (e : n ≡ blocksIn (length patch)) (f : k ≡ mapBytes n)
-    (g : x ≡ firstOf (frameRows P ((1 ⇐ false) ∷ []) ((9 ⇐ not (leb k (length map))) ∷ []) patch full)) where
-  pub frame-told : firstOf (buildRows P patch full map) ≡ x
-  frame-told =
-      build-frame P patch full map (leb k (length map))
-      (ap (λ (m : ℕ). ltb (length map) m) (sym (f ∙ ap mapBytes e)) ∙ not-fits k (length map))
-      ∙ sym g
+-- what a call with a map is told: its own rows, and what it works with, by the opened size
+pub record Lent (P : ℕ) (patch full map : List ℕ) (size n m : ℕ) : Type 0 where
+  pub none : firstOf (buildRows P patch full map) ≡ 0
+  pub own : size ≡ P
+  pub blocks : n ≡ blocksIn (length patch)
+  pub places : m ≡ pagesIn size (length full)
+  pub slots : length patch ≡ slotAt n
+  pub few : n ≤ segment
+  pub enough : mapBytes n ≤ length map
 
-  pub fits-told : x ≡ 0 → (length patch ≡ slotAt n) × (n ≤ segment) × (mapBytes n ≤ length map)
-  fits-told z =
-      let w = frame-none P patch full (leb k (length map)) (sym g ∙ z) in
-      let fit : patchFits P (length patch) ≡ true =
-      and-left (patchFits P (length patch)) (fullFits P (blocksIn (length patch)) (length full)) (w .0) in
-      let is = patch-fits-is P (length patch) fit in
-      let long : k ≤ length map = leb-true k (length map) (w .1) in
-      (is .0 ∙ ap (λ (b : ℕ). slotAt b) (sym e), omega (arith, is .1, most-blocks P), omega arith)
+module _ (P : ℕ) (patch full map : List ℕ) (n k : ℕ) (x : Opened) (e : n ≡ blocksIn (length patch)) (f : k ≡ mapBytes n)
+    (told : openedNumbers x ≡ openNumbers P true (leb k (length map)) patch full) where
+  rows : firstOf (buildRows P patch full map) ≡ firstOf (openRows P true (leb k (length map)) patch full)
+  rows = build-frame P patch full map (leb k (length map))
+      (ap (λ (m : ℕ). ltb (length map) m) (sym (f ∙ ap mapBytes e)) ∙ not-fits k (length map))
+
+  pub lent-refused : (r : Refusal) → x ≡ Refused r → firstOf (buildRows P patch full map) ≡ refusalNumber r
+  lent-refused r is = rows ∙ opened-refused P true (leb k (length map)) patch full r (sym (ap openedNumbers is) ∙ told)
+
+  pub lent-frame : (size b m : ℕ) → x ≡ Frame size b m → Lent P patch full map size b m
+  lent-frame size b m is =
+      let o = opened-frame P true (leb k (length map)) patch full size b m (sym (ap openedNumbers is) ∙ told) in
+      let own : size ≡ P = o .own in
+      let blocks : b ≡ blocksIn (length patch) = o .blocks in
+      let long : k ≤ length map = leb-true k (length map) (o .framed .buffers-fit) in
+      let same-map : mapBytes b ≡ k = sym (f ∙ ap mapBytes (e ∙ sym blocks)) in
+      record {
+        none = rows ∙ o .framed .none;
+        own = own;
+        blocks = blocks;
+        places = o .places ∙ ap (λ (s : ℕ). pagesIn s (length full)) (sym own);
+        slots = patch-fits-is P (length patch) (o .framed .patch-fit) .0 ∙ ap (λ (b : ℕ). slotAt b) (sym blocks);
+        few = omega (arith, blocks, o .framed .few-blocks);
+        enough = omega arith;
+      }

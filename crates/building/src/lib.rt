@@ -5,6 +5,7 @@ use layout::Layout;
 use layout::Refusal;
 use payload::Checked;
 use slots::SlotState;
+use store::Opened;
 ghost use Prim.Native.Nat.{_≤_};
 ghost use mathlib.Core.Path.{_≡_};
 ghost use lib.ListN.{length};
@@ -12,6 +13,7 @@ ghost use Rattle.span.specs.Bytes.{splice};
 ghost use Rattle.layout.specs.Sizes.{pageSize, segment, slotAt};
 ghost use Rattle.layout.specs.Numbers.{kindNumber, faultNumber};
 ghost use Rattle.layout.specs.FirstFault.{firstFault};
+ghost use Rattle.layout.specs.Lengths.{pagesIn};
 ghost use Rattle.blockmap.specs.Pairs.{mapBytes};
 ghost use Rattle.blockmap.specs.Pack.{pairOf, pairIn, packedByte, packed};
 ghost use Rattle.store.specs.Block.{Sized};
@@ -25,10 +27,11 @@ pub enum Built {
 }
 
 // Stray bytes in the place of a block whose slot is not FULL_REF. A block not below m has no place.
-fn place_fault(size: u32, full: &[u8], block: u32) -> Fault
+fn place_fault(size: u32, m: u32, full: &[u8], block: u32) -> Fault
+    requires { ⌜ m ≡ pagesIn size (length (now full)) ⌝ }
     ensures { λ r. ⌜ faultNumber r ≡ straysIn size (now (full .entry)) block ⌝ }
 {
-    if layout::area::pages(size, full.len()) <= block as usize {
+    if m <= block {
         return Fault::Nothing;
     }
     if span::zero_part(full, Layout::page_at(size, block), size as usize) {
@@ -38,15 +41,15 @@ fn place_fault(size: u32, full: &[u8], block: u32) -> Fault
 }
 
 // What is wrong first with one block: its slot, a full page that is not there, its payload, its place.
-fn block_fault(size: u32, patch: &[u8], full: &[u8], block: u32) -> Fault
-    requires { ⌜ Sized size ⌝ }
+fn block_fault(size: u32, m: u32, patch: &[u8], full: &[u8], block: u32) -> Fault
+    requires { ⌜ Sized size × (m ≡ pagesIn size (length (now full))) ⌝ }
     ensures { λ r. ⌜ faultNumber r ≡ blockFault size (now (patch .entry)) (now (full .entry)) block ⌝ }
 {
     let slot = span::part(patch, Layout::slot_at(block), Layout::SLOT);
     match slots::slot_state(slot) {
         SlotState::Unsound => Fault::Found(Refusal::Slot),
         SlotState::Full => {
-            if layout::area::pages(size, full.len()) <= block as usize {
+            if m <= block {
                 return Fault::Found(Refusal::FullPage);
             }
             Fault::Nothing
@@ -58,21 +61,21 @@ fn block_fault(size: u32, patch: &[u8], full: &[u8], block: u32) -> Fault
                 Checked::Sound {
                     entries: _,
                     last: _,
-                } => place_fault(size, full, block),
+                } => place_fault(size, m, full, block),
             }
         }
-        SlotState::Empty => place_fault(size, full, block),
+        SlotState::Empty => place_fault(size, m, full, block),
     }
 }
 
 // The first fault of n blocks in rising order, with its block.
-fn first_fault(size: u32, patch: &[u8], full: &[u8], n: usize) -> Built
-    requires { ⌜ (n ≤ segment) × Sized size ⌝ }
+fn first_fault(size: u32, m: u32, patch: &[u8], full: &[u8], n: usize) -> Built
+    requires { ⌜ (n ≤ segment) × Sized size × (m ≡ pagesIn size (length (now full))) ⌝ }
     ensures { λ r. ⌜ builtNumbers r ≡ faultNumbers (firstFault (blockFault size (now (patch .entry)) (now (full .entry))) 0 n) ⌝ }
 {
     let mut block = 0;
     while block < n {
-        match block_fault(size, patch, full, block as u32) {
+        match block_fault(size, m, patch, full, block as u32) {
             Fault::Found(refusal) => {
                 return Built::Refused { refusal, block };
             }
@@ -140,16 +143,15 @@ fn write_map(patch: &[u8], n: usize, map: &mut [u8])
 pub fn build(patch: &[u8], full: &[u8], map: &mut [u8]) -> Built
     ensures { λ r. ⌜ Build pageSize (now (patch .entry)) (now (full .entry)) (now (map .entry)) r (now (map .exit)) ⌝ }
 {
-    let size = Layout::PAGE as u32;
-    let n = layout::area::blocks(patch.len());
-    let fits = blockmap::map_bytes(n) <= map.len();
-    match store::frame::frame_fault(size, true, fits, patch, full) {
-        Fault::Found(refusal) => Built::Refused { refusal, block: 0 },
-        Fault::Nothing => {
-            match first_fault(size, patch, full, n) {
+    let page_size = Layout::PAGE as u32;
+    let needed = blockmap::map_bytes(layout::area::blocks(patch.len()));
+    match store::frame::open(page_size, true, needed <= map.len(), patch, full) {
+        Opened::Refused(refusal) => Built::Refused { refusal, block: 0 },
+        Opened::Frame { size, n, m } => {
+            match first_fault(size, m, patch, full, n as usize) {
                 Built::Refused { refusal, block } => Built::Refused { refusal, block },
                 Built::Done => {
-                    write_map(patch, n, map);
+                    write_map(patch, n as usize, map);
                     Built::Done
                 }
             }

@@ -23,8 +23,11 @@ use Rattle.stream.specs.Calls.{kindFor}
 use Rattle.stream.specs.Steps.{Applies}
 use Rattle.stream.specs.Only.{applied-one}
 use Rattle.stream.specs.declared.Applied.{Applied}
+use Rattle.store.specs.Open.{FrameNumbers, openedNumbers}
+use Rattle.store.specs.OpenLaws.{opened-one}
+use Rattle.store.specs.declared.Opened.{Opened}
 
--- `headers::patch_fault`, `headers::headers_fault`, `store::frame::frame_fault`
+-- `headers::patch_fault`, `headers::headers_fault`
 pub one-fault : (n : ℕ) (a b : Fault) → faultNumber a ≡ n → faultNumber b ≡ n → a ≡ b
 one-fault n a b x y = fault-one a b (x ∙ sym y)
   where
@@ -33,6 +36,10 @@ one-fault n a b x y = fault-one a b (x ∙ sym y)
     fault-one Nothing (Found r) e = absurd (refusal-some r (sym e))
     fault-one (Found r) Nothing e = absurd (refusal-some r e)
     fault-one (Found q) (Found r) e = ap Found (refusal-one q r e)
+
+-- `store::frame::open`
+pub one-frame : (k : FrameNumbers) (a b : Opened) → openedNumbers a ≡ k → openedNumbers b ≡ k → a ≡ b
+one-frame k a b x y = opened-one a b (x ∙ sym y)
 
 -- `stream::kind_for`
 pub one-kind : (n : ℕ) (a b : Kind) → kindNumber a ≡ kindFor n → kindNumber b ≡ kindFor n → a ≡ b

@@ -1,14 +1,15 @@
 // Read: a block's page, as it stands now.
-use layout::Fault;
 use layout::Kind;
 use layout::Layout;
 use layout::Refusal;
 use slots::SlotState;
+use store::Opened;
 use stream::Applied;
 ghost use mathlib.Core.Path.{_≡_};
 ghost use Prim.Native.Nat.{_≤_};
 ghost use lib.ListN.{length};
 ghost use Rattle.layout.specs.Sizes.{pageSize};
+ghost use Rattle.layout.specs.Lengths.{pagesIn};
 ghost use Rattle.payload.specs.Steps.{farthest};
 ghost use Rattle.store.specs.Block.{Places, Sized};
 ghost use Rattle.reading.specs.Parts.{BlockRead, PatchRead};
@@ -35,9 +36,10 @@ fn read_patch(base: &[u8], payload: &[u8], page: &mut [u8]) -> Reading
     }
 }
 
-// A block below n, over a base that is there.
+// A block below n, over a base that is there, beside m pages.
 fn read_block(
     size: u32,
+    m: u32,
     patch: &[u8],
     full: &[u8],
     block: u32,
@@ -45,7 +47,7 @@ fn read_block(
     page: &mut [u8],
 ) -> Reading
     requires { ⌜ (length (now base) ≡ size) × (length (now page) ≡ size) × Sized size ⌝ }
-    requires { ⌜ Places size (now full) ⌝ }
+    requires { ⌜ (m ≡ pagesIn size (length (now full))) × Places size (now full) ⌝ }
     ensures { λ r. ⌜ BlockRead size (now (patch .entry)) (now (full .entry)) block (now (base .entry)) (now (page .entry)) r
         (now (page .exit)) ⌝ }
 {
@@ -58,7 +60,7 @@ fn read_block(
         }
         SlotState::Patch(n) => read_patch(base, span::part(slot, Layout::PAYLOAD_AT, n), page),
         SlotState::Full => {
-            if layout::area::pages(size, full.len()) <= (block as usize) {
+            if m <= block {
                 return Reading::Refused(Refusal::FullPage);
             }
             span::copy(
@@ -75,19 +77,19 @@ pub fn read(patch: &[u8], full: &[u8], block: usize, base: &[u8], page: &mut [u8
     ensures { λ r. ⌜ Read pageSize (now (patch .entry)) (now (full .entry)) block (now (base .entry)) (now (page .entry)) r
         (now (page .exit)) ⌝ }
 {
-    let size = Layout::PAGE as u32;
-    let fit = stream::pages_fit(size, base, page);
-    match store::frame::frame_fault(size, fit, true, patch, full) {
-        Fault::Found(r) => Reading::Refused(r),
-        Fault::Nothing => {
-            if layout::area::blocks(patch.len()) <= block {
+    let page_size = Layout::PAGE as u32;
+    let fit = stream::pages_fit(page_size, base, page);
+    match store::frame::open(page_size, fit, true, patch, full) {
+        Opened::Refused(r) => Reading::Refused(r),
+        Opened::Frame { size, n, m } => {
+            if (n as usize) <= block {
                 return Reading::Refused(Refusal::Block);
             }
             if base.len() == 0 {
                 let zeros = [0u8; Layout::PAGE];
-                return read_block(size, patch, full, block as u32, &zeros, page);
+                return read_block(size, m, patch, full, block as u32, &zeros, page);
             }
-            read_block(size, patch, full, block as u32, base, page)
+            read_block(size, m, patch, full, block as u32, base, page)
         }
     }
 }

@@ -9,3 +9,5 @@ pub mod FrameLaws
 pub mod JudgeLaws
 pub mod ShowLaws
 pub mod BlockLaws
+pub mod Open
+pub mod OpenLaws

@@ -8,6 +8,12 @@ pub mod show;
 use layout::Kind;
 use layout::Refusal;
 
+// The frame of two areas: the page size, n and m, or the first of what is wrong before any block is looked at.
+pub enum Opened {
+    Refused(Refusal),
+    Frame { size: u32, n: u32, m: u32 },
+}
+
 // What Format answers.
 pub enum Formatted {
     Done,

@@ -5,6 +5,7 @@ ghost use mathlib.Core.Path.{_≡_};
 ghost use Prim.Native.Nat.{_+_, _≤_};
 ghost use lib.ListN.{length};
 ghost use Rattle.layout.specs.Sizes.{slotSize, slotAt, room};
+ghost use Rattle.layout.specs.Lengths.{pagesIn};
 ghost use Rattle.layout.specs.Numbers.{kindNumber};
 ghost use Rattle.store.specs.Block.{Places};
 ghost use Rattle.writing.specs.Carry.{carriedPatch, carriedFull};
@@ -19,13 +20,13 @@ fn store_slot(patch: &mut [u8], block: u32, kind: Kind, payload: &[u8])
     slots::put_slot(&mut patch[at..end], kind, payload);
 }
 
-// The block's place in the full area, if there is one: the page for FULL_REF, zeros for any other kind.
-fn store_place(size: u32, full: &mut [u8], block: u32, kind: Kind, page: &[u8])
-    requires { ⌜ Places size (now full) ⌝ }
+// The block's place in the full area of m pages, if there is one: the page for FULL_REF, zeros for any other kind.
+fn store_place(size: u32, m: u32, full: &mut [u8], block: u32, kind: Kind, page: &[u8])
+    requires { ⌜ (m ≡ pagesIn size (length (now full))) × Places size (now full) ⌝ }
     requires { ⌜ length (now page) ≡ size ⌝ }
     ensures { λ _. ⌜ now (full .exit) ≡ carriedFull size (now (full .entry)) block (kindNumber kind) (now (page .entry)) ⌝ }
 {
-    if layout::area::pages(size, full.len()) <= (block as usize) {
+    if m <= block {
         return;
     }
     let at = Layout::page_at(size, block);
@@ -40,6 +41,7 @@ fn store_place(size: u32, full: &mut [u8], block: u32, kind: Kind, page: &[u8])
 // Page then slot for FULL_REF, slot then zeroed place for the other kinds: a stop in between leaves the block as before or as new.
 pub(crate) fn carry_out(
     size: u32,
+    m: u32,
     patch: &mut [u8],
     full: &mut [u8],
     block: u32,
@@ -48,23 +50,23 @@ pub(crate) fn carry_out(
     page: &[u8],
 )
     requires { ⌜ (slotAt block + slotSize ≤ length (now patch)) × (length (now payload) ≤ room) ⌝ }
-    requires { ⌜ Places size (now full) ⌝ }
+    requires { ⌜ (m ≡ pagesIn size (length (now full))) × Places size (now full) ⌝ }
     requires { ⌜ length (now page) ≡ size ⌝ }
     ensures { λ _. ⌜ (now (patch .exit) ≡ carriedPatch (now (patch .entry)) block (kindNumber kind) (now (payload .entry)))
         × (now (full .exit) ≡ carriedFull size (now (full .entry)) block (kindNumber kind) (now (page .entry))) ⌝ }
 {
     match kind {
         Kind::Full => {
-            store_place(size, full, block, kind, page);
+            store_place(size, m, full, block, kind, page);
             store_slot(patch, block, kind, payload);
         }
         Kind::Empty => {
             store_slot(patch, block, kind, payload);
-            store_place(size, full, block, kind, page);
+            store_place(size, m, full, block, kind, page);
         }
         Kind::Patch => {
             store_slot(patch, block, kind, payload);
-            store_place(size, full, block, kind, page);
+            store_place(size, m, full, block, kind, page);
         }
     }
 }

@@ -1,10 +1,10 @@
 // Write: Compare's decision, and carrying it out.
 mod carry;
 
-use layout::Fault;
 use layout::Kind;
 use layout::Layout;
 use layout::Refusal;
+use store::Opened;
 ghost use mathlib.Core.Path.{_≡_};
 ghost use mathlib.Core.Bool.{_&&_, cond};
 ghost use Prim.Native.Nat.{_+_, _≤_};
@@ -23,14 +23,14 @@ pub enum Written {
     Refused(Refusal),
 }
 
-// Whether a full page is needed for a block that has no place.
-fn place_missing(size: u32, kind: Kind, full_length: usize, block: u32) -> bool
-    ensures { λ r. ⌜ r ≡ (eqb (kindNumber kind) 2 && leb (pagesIn size «full_length») block) ⌝ }
+// Whether a full page is needed for a block that has no place among m.
+fn place_missing(kind: Kind, m: u32, block: u32) -> bool
+    ensures { λ r. ⌜ r ≡ (eqb (kindNumber kind) 2 && leb m block) ⌝ }
 {
     match kind {
         Kind::Empty => false,
         Kind::Patch => false,
-        Kind::Full => layout::area::pages(size, full_length) <= (block as usize),
+        Kind::Full => m <= block,
     }
 }
 
@@ -45,9 +45,10 @@ fn room_used(kind: Kind, length: usize) -> usize
     }
 }
 
-// A block below n, over a base that is there.
+// A block below n, over a base that is there, beside m pages.
 fn write_block(
     size: u32,
+    m: u32,
     patch: &mut [u8],
     full: &mut [u8],
     block: u32,
@@ -56,7 +57,7 @@ fn write_block(
 ) -> Written
     requires { ⌜ (length (now base) ≡ size) × (length (now page) ≡ size) × Sized size ⌝ }
     requires { ⌜ slotAt block + slotSize ≤ length (now patch) ⌝ }
-    requires { ⌜ Places size (now full) ⌝ }
+    requires { ⌜ (m ≡ pagesIn size (length (now full))) × Places size (now full) ⌝ }
     ensures { λ r. ⌜ BlockWrite size (now (patch .entry)) (now (full .entry)) block (now (base .entry)) (now (page .entry)) r
         (now (patch .exit)) (now (full .exit)) ⌝ }
 {
@@ -64,11 +65,11 @@ fn write_block(
     let d = writer::stream_of(base, page, &mut room);
     let length = d.length;
     let kind = stream::kind_for(length);
-    if place_missing(size, kind, full.len(), block) {
+    if place_missing(kind, m, block) {
         return Written::Refused(Refusal::FullPage);
     }
     let used = room_used(kind, length);
-    carry::carry_out(size, patch, full, block, kind, &room[0..used], page);
+    carry::carry_out(size, m, patch, full, block, kind, &room[0..used], page);
     Written::Done { kind, length }
 }
 
@@ -77,19 +78,19 @@ pub fn write(patch: &mut [u8], full: &mut [u8], block: usize, base: &[u8], page:
     ensures { λ r. ⌜ Write pageSize (now (patch .entry)) (now (full .entry)) block (now (base .entry)) (now (page .entry)) r
         (now (patch .exit)) (now (full .exit)) ⌝ }
 {
-    let size = Layout::PAGE as u32;
-    let fit = stream::pages_fit(size, base, page);
-    match store::frame::frame_fault(size, fit, true, patch, full) {
-        Fault::Found(r) => Written::Refused(r),
-        Fault::Nothing => {
-            if layout::area::blocks(patch.len()) <= block {
+    let page_size = Layout::PAGE as u32;
+    let fit = stream::pages_fit(page_size, base, page);
+    match store::frame::open(page_size, fit, true, patch, full) {
+        Opened::Refused(r) => Written::Refused(r),
+        Opened::Frame { size, n, m } => {
+            if (n as usize) <= block {
                 return Written::Refused(Refusal::Block);
             }
             if base.len() == 0 {
                 let zeros = [0u8; Layout::PAGE];
-                return write_block(size, patch, full, block as u32, &zeros, page);
+                return write_block(size, m, patch, full, block as u32, &zeros, page);
             }
-            write_block(size, patch, full, block as u32, base, page)
+            write_block(size, m, patch, full, block as u32, base, page)
         }
     }
 }

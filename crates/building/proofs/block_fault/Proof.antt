@@ -20,17 +20,14 @@ enum-told c = search needs
 enum-told-2 : tie.Need-enum-told-2
 enum-told-2 c = search needs
 
-pages-requires : tie.Need-pages-requires
-pages-requires c κs = search needs
-
 returns : tie.Need-returns
 returns c =
-    let s = c .before .before .before .before in
+    let s = c .before .before .before in
     let a = s .before .before .before .before .before .args in
     told-full-none (a .size) (a .patch .now) (a .full .now) (a .block)
     (s .before .before .slot-at .result) (s .before .part .result .now) (s .slot-state .result)
     (s .before .before .slot-at .ensures) (s .before .part .ensures .0) (s .slot-state .ensures)
-    (c .before .before .enum-told2 .given .1) (omega (arith, c .before .pages .ensures, c .if1 .taken))
+    (c .before .enum-told2 .given .1) (omega (arith, s .before .before .before .before .before .pre .1, c .if1 .taken))
 
 enum-known-n : tie.Need-enum-known-n
 enum-known-n c = search needs
@@ -67,12 +64,12 @@ returns-2 c =
 
 returns-3 : tie.Need-returns-3
 returns-3 c =
-    let s = c .before .before .before .before in
+    let s = c .before .before .before in
     let a = s .before .before .before .before .before .args in
     told-full (a .size) (a .patch .now) (a .full .now) (a .block)
     (s .before .before .slot-at .result) (s .before .part .result .now) (s .slot-state .result)
     (s .before .before .slot-at .ensures) (s .before .part .ensures .0) (s .slot-state .ensures)
-    (c .before .before .enum-told2 .given .1) (omega (arith, c .before .pages .ensures, c .if1 .left))
+    (c .before .enum-told2 .given .1) (omega (arith, s .before .before .before .before .before .pre .1, c .if1 .left))
 
 returns-4 : tie.Need-returns-4
 returns-4 c =
@@ -83,7 +80,7 @@ returns-4 c =
     (s .before .before .slot-at .result) (s .before .part .result .now) (s .slot-state .result)
     (s .before .before .slot-at .ensures) (s .before .part .ensures .0) (s .slot-state .ensures)
     (k .before .before .before .n .given .0 .0) (k .before .part2 .result .now) (k .check .result)
-    (k .before .before .before .n .given .1) (k .before .part2 .ensures .0) (s .before .before .before .before .before .pre) (k .check .ensures)
+    (k .before .before .before .n .given .1) (k .before .part2 .ensures .0) (s .before .before .before .before .before .pre .0) (k .check .ensures)
     (c .enum-told3 .given .1)
 
 returns-5 : tie.Need-returns-5
@@ -96,7 +93,7 @@ returns-5 c =
     (s .before .before .slot-at .result) (s .before .part .result .now) (s .slot-state .result)
     (s .before .before .slot-at .ensures) (s .before .part .ensures .0) (s .slot-state .ensures)
     (k .before .before .before .n .given .0 .0) (k .before .part2 .result .now) (k .check .result)
-    (k .before .before .before .n .given .1) (k .before .part2 .ensures .0) (s .before .before .before .before .before .pre) (k .check .ensures)
+    (k .before .before .before .n .given .1) (k .before .part2 .ensures .0) (s .before .before .before .before .before .pre .0) (k .check .ensures)
     (c .before .enum-told4 .given .1)
 
 returns-6 : tie.Need-returns-6
@@ -118,7 +115,6 @@ block-fault-spec =
     slot-state-requires
     enum-told
     enum-told-2
-    pages-requires
     returns
     enum-known-n
     part-requires-2

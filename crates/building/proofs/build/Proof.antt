@@ -1,25 +1,48 @@
-use Rattle.building.proofs.BuildTold.{frame-told, fits-told}
+use Rattle.building.proofs.BuildTold.{Lent, lent-refused, lent-frame}
 use Rattle.building.specs.BuildLaws.{build-refused, build-faulty, build-done}
 use Rattle.building.specs.MapLaws.{built-kinds}
 use Rattle.building.specs.Steps.{faultNumbers, kindPair}
 use Rattle.building.specs.Build.{blockFault, buildFault, BuildNumbers, builtNumbers}
+use Rattle.building.specs.declared.Built.{Built}
 use Rattle.building.specs.declared.Built.the-variants.{Done, Refused}
 use Rattle.blockmap.specs.Pack.{packed}
 use Rattle.layout.specs.FirstFault.{firstFault}
-use Rattle.layout.specs.Numbers.{faultNumber, refusalNumber}
+use Rattle.layout.specs.Numbers.{refusalNumber}
 use Rattle.layout.specs.NumberLaws.{refusal-some}
+use Rattle.layout.specs.Sizes.{pageSize}
 use Rattle.span.specs.Bytes.{splice}
 use Prim.Native.Nat.{ℕ}
 use native.Mathlib.Omega.{arith}
-use Rattle.layout.specs.Sizes.{pageSize}
 use mathlib.Core.Path.{_≡_, sym, ap, _∙_}
 use mathlib.Core.List.{List}
 use borrow.Author.Needs.{needs}
 use Rattle.building.proofs.build.Statement.{statement}
 use Rattle.building.proofs.build.Tie as tie
 
-cast-size : tie.Need-cast-size
-cast-size c = search needs
+-- where the frame is opened, it has these numbers
+opened : (c : tie.After-size)
+    → let a = c .before .before .before .before .before .before .before .before .args in
+    Lent pageSize (a .patch .now) (a .full .now) (a .map .now) (c .size .given .0 .0) (c .size .given .0 .1 .0) (c .size .given .0 .1 .1 .0)
+opened c =
+    let f = c .before .before in
+    let a = f .before .before .before .before .before .before .args in
+    let n = f .before .before .blocks2 in
+    let k = f .before .map-bytes in
+    lent-frame pageSize (a .patch .now) (a .full .now) (a .map .now) (n .result) (k .result) (f .open .result) (n .ensures) (k .ensures) (f .open .ensures)
+    (c .size .given .0 .0) (c .size .given .0 .1 .0) (c .size .given .0 .1 .1 .0) (c .size .given .1)
+
+-- and the first fault that was told is that of the call's own size and n
+fault-is : (P : ℕ) (patch full : List ℕ) (size n b : ℕ) (x y : Built) → size ≡ P → n ≡ b
+    → builtNumbers x ≡ faultNumbers (firstFault (blockFault size patch full) 0 n) → x ≡ y
+    → faultNumbers (firstFault (blockFault P patch full) 0 b) ≡ builtNumbers y
+fault-is P patch full size n b x y own blocks told is =
+    ap (λ (k : ℕ). faultNumbers (firstFault (blockFault k patch full) 0 b)) (sym own)
+    ∙ ap (λ (k : ℕ). faultNumbers (firstFault (blockFault size patch full) 0 k)) (sym blocks)
+    ∙ sym told
+    ∙ ap builtNumbers is
+
+cast-page-size : tie.Need-cast-page-size
+cast-page-size c = search needs
 
 blocks-requires : tie.Need-blocks-requires
 blocks-requires c κs = search needs
@@ -27,75 +50,62 @@ blocks-requires c κs = search needs
 map-bytes-requires : tie.Need-map-bytes-requires
 map-bytes-requires c κs = search needs
 
-frame-fault-requires : tie.Need-frame-fault-requires
-frame-fault-requires c κs = search needs
+open-requires : tie.Need-open-requires
+open-requires c κs = search needs
 
 enum-known-refusal : tie.Need-enum-known-refusal
 enum-known-refusal c = search needs
 
-enum-told : tie.Need-enum-told
-enum-told c = search needs
+enum-known-size : tie.Need-enum-known-size
+enum-known-size c = search needs
+
+cast-first-fault : tie.Need-cast-first-fault
+cast-first-fault c = search needs
 
 first-fault-requires : tie.Need-first-fault-requires
 first-fault-requires c κs =
-    let g = c .before .before in
-    let a = g .before .before .before .before .before .before .args in
-    let n = g .before .before .blocks2 in
-    let k = g .before .map-bytes in
-    let w =
-    fits-told pageSize (a .patch .now) (a .full .now) (a .map .now) (n .result) (k .result) (faultNumber (g .frame-fault .result))
-    (n .ensures) (k .ensures) (g .frame-fault .ensures) (ap faultNumber (c .enum-told .given .1)) in
-    (w .1, (omega arith, omega arith))
+    let o = opened (c .before) in
+    (o .few, (omega (arith, o .own), omega (arith, o .own)), o .places)
 
 enum-known-refusal-2 : tie.Need-enum-known-refusal-2
 enum-known-refusal-2 c = search needs
 
-enum-told-2 : tie.Need-enum-told-2
-enum-told-2 c = search needs
+enum-told : tie.Need-enum-told
+enum-told c = search needs
+
+cast-write-map : tie.Need-cast-write-map
+cast-write-map c = search needs
 
 write-map-requires : tie.Need-write-map-requires
 write-map-requires c κs =
-    let g = c .before .before .before .before .before .before in
-    let a = g .before .before .before .before .before .before .args in
-    let n = g .before .before .blocks2 in
-    let k = g .before .map-bytes in
-    let w =
-    fits-told pageSize (a .patch .now) (a .full .now) (a .map .now) (n .result) (k .result) (faultNumber (g .frame-fault .result))
-    (n .ensures) (k .ensures) (g .frame-fault .ensures) (ap faultNumber (c .before .before .before .before .enum-told .given .1)) in
-    w
+    let o = opened (c .before .before .before .before .before) in
+    (o .slots, o .few, o .enough)
 
 returns : tie.Need-returns
 returns c =
-    let g = c .before .before .before in
-    let a = g .before .before .before .before .before .before .args in
-    let n = g .before .before .blocks2 in
-    let k = g .before .map-bytes in
+    let f = c .before .before .before in
+    let a = f .before .before .before .before .before .before .args in
+    let n = f .before .before .blocks2 in
+    let k = f .before .map-bytes in
     let r = c .before .refusal .given .0 .0 in
-    let f =
-    frame-told pageSize (a .patch .now) (a .full .now) (a .map .now) (n .result) (k .result) (faultNumber (g .frame-fault .result))
-    (n .ensures) (k .ensures) (g .frame-fault .ensures)
-    ∙ ap faultNumber (c .before .refusal .given .1) in
-    let e = build-refused pageSize (a .patch .now) (a .full .now) (a .map .now) (refusalNumber r) f (refusal-some r) in
+    let told =
+    lent-refused pageSize (a .patch .now) (a .full .now) (a .map .now) (n .result) (k .result) (f .open .result)
+    (n .ensures) (k .ensures) (f .open .ensures) r (c .before .refusal .given .1) in
+    let e = build-refused pageSize (a .patch .now) (a .full .now) (a .map .now) (refusalNumber r) told (refusal-some r) in
     record { numbers = rw e; bytes = rw e }
 
 returns-2 : tie.Need-returns-2
 returns-2 c =
-    let g = c .before .before .before .before .before .before in
-    let a = g .before .before .before .before .before .before .args in
-    let n = g .before .before .blocks2 in
-    let k = g .before .map-bytes in
+    let w = c .before .before .before .before .before in
+    let a = w .before .before .before .before .before .before .before .before .args in
+    let o = opened w in
     let r = c .before .refusal2 .given .0 .0 in
     let b = c .before .refusal2 .given .0 .1 .0 in
-    let f =
-    frame-told pageSize (a .patch .now) (a .full .now) (a .map .now) (n .result) (k .result) (faultNumber (g .frame-fault .result))
-    (n .ensures) (k .ensures) (g .frame-fault .ensures)
-    ∙ ap faultNumber (c .before .before .before .before .enum-told .given .1) in
+    let f = c .before .before .before .first-fault in
     let t : faultNumbers (buildFault pageSize (a .patch .now) (a .full .now)) ≡ builtNumbers (Refused r b) =
-    ap (λ (k : ℕ). faultNumbers (firstFault (blockFault pageSize (a .patch .now) (a .full .now)) 0 k)) (sym (n .ensures))
-    ∙ sym (c .before .before .before .first-fault .ensures)
-    ∙ ap builtNumbers (c .before .refusal2 .given .1) in
+    fault-is pageSize (a .patch .now) (a .full .now) _ _ _ (f .result) (Refused r b) (o .own) (o .blocks) (f .ensures) (c .before .refusal2 .given .1) in
     let e =
-    build-faulty pageSize (a .patch .now) (a .full .now) (a .map .now) f (refusalNumber r) b
+    build-faulty pageSize (a .patch .now) (a .full .now) (a .map .now) (o .none) (refusalNumber r) b
     (ap (λ (x : BuildNumbers). x .number) t) (ap (λ (x : BuildNumbers). x .block) t) (refusal-some r) in
     record { numbers = rw e; bytes = rw e }
 
@@ -104,26 +114,21 @@ same-length c = search needs
 
 returns-3 : tie.Need-returns-3
 returns-3 c =
-    let g = c .before .before .before .before .before .before .before .before .before in
-    let a = g .before .before .before .before .before .before .args in
-    let n = g .before .before .blocks2 in
-    let k = g .before .map-bytes in
-    let f =
-    frame-told pageSize (a .patch .now) (a .full .now) (a .map .now) (n .result) (k .result) (faultNumber (g .frame-fault .result))
-    (n .ensures) (k .ensures) (g .frame-fault .ensures)
-    ∙ ap faultNumber (c .before .before .before .before .before .before .before .enum-told .given .1) in
+    let w = c .before .before .before .before .before .before .before .before in
+    let a = w .before .before .before .before .before .before .before .before .args in
+    let o = opened w in
+    let f = c .before .before .before .before .before .before .first-fault in
     let t : faultNumbers (buildFault pageSize (a .patch .now) (a .full .now)) ≡ builtNumbers Done =
-    ap (λ (k : ℕ). faultNumbers (firstFault (blockFault pageSize (a .patch .now) (a .full .now)) 0 k)) (sym (n .ensures))
-    ∙ sym (c .before .before .before .before .before .before .first-fault .ensures)
-    ∙ ap builtNumbers (c .before .before .before .before .enum-told2 .given .1) in
+    fault-is pageSize (a .patch .now) (a .full .now) _ _ _ (f .result) Done (o .own) (o .blocks) (f .ensures)
+    (c .before .before .before .before .enum-told .given .1) in
     let z : buildFault pageSize (a .patch .now) (a .full .now) .number ≡ 0 = ap (λ (x : BuildNumbers). x .number) t in
-    let e = build-done pageSize (a .patch .now) (a .full .now) (a .map .now) f z in
+    let e = build-done pageSize (a .patch .now) (a .full .now) (a .map .now) (o .none) z in
     record {
       numbers = rw e;
       bytes =
           rw e
           (c .before .before .write-map .ensures
-          ∙ ap (λ (k : ℕ). splice (a .map .now) 0 (packed (kindPair (a .patch .now)) k)) (n .ensures)
+          ∙ ap (λ (k : ℕ). splice (a .map .now) 0 (packed (kindPair (a .patch .now)) k)) (o .blocks)
           ∙ ap (λ (m : List ℕ). splice (a .map .now) 0 m) (sym (built-kinds pageSize (a .patch .now) (a .full .now) z)));
     }
 
@@ -131,15 +136,17 @@ pub build-spec : {M : Type 1} → statement M
 build-spec =
     tie.close
     (tie.spec
-    cast-size
+    cast-page-size
     blocks-requires
     map-bytes-requires
-    frame-fault-requires
+    open-requires
     enum-known-refusal
-    enum-told
+    enum-known-size
+    cast-first-fault
     first-fault-requires
     enum-known-refusal-2
-    enum-told-2
+    enum-told
+    cast-write-map
     write-map-requires
     returns
     returns-2

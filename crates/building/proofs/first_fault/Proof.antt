@@ -12,12 +12,12 @@ use Rattle.building.proofs.first_fault.Statement.{statement}
 use Rattle.building.proofs.first_fault.Tie as tie
 
 abbrev Inv-loop : tie.InvT-loop
-Inv-loop size patch full n block₀ block =
+Inv-loop size m patch full n block₀ block =
     let test : ℕ → ℕ = blockFault size patch full in
     (block ≤ n) × (firstFault test 0 n ≡ firstFault test block (n - block))
 
 abbrev μ-loop : tie.MeasureT-loop
-μ-loop size patch full n block₀ block = n - block
+μ-loop size m patch full n block₀ block = n - block
 
 loop-holds : tie.Need-loop-holds Inv-loop μ-loop
 loop-holds c =

@@ -6,13 +6,11 @@ use borrow.Author.Needs.{needs}
 use Rattle.building.proofs.place_fault.Statement.{statement}
 use Rattle.building.proofs.place_fault.Tie as tie
 
-pages-requires : tie.Need-pages-requires
-pages-requires c κs = search needs
-
 returns : tie.Need-returns
 returns c =
-    let a = c .before .before .before .args in
-    sym (no-place (a .size) (a .full .now) (a .block) (omega (arith, c .before .pages .ensures, c .if1 .taken)))
+    let at = c .before .before in
+    let a = at .args in
+    sym (no-place (a .size) (a .full .now) (a .block) (omega (arith, at .pre, c .if1 .taken)))
 
 page-at-requires : tie.Need-page-at-requires
 page-at-requires c κs = search needs
@@ -24,7 +22,7 @@ returns-2 : tie.Need-returns-2
 returns-2 c =
     let f = c .before .before .page-at in
     let z = c .before .zero-part in
-    let a = c .before .before .before .before .before .before .args in
+    let a = c .before .before .before .before .before .args in
     let told = place-told (a .size) (a .full .now) (a .block) (f .result) (z .result) (f .ensures) (z .ensures) in
     sym (clean-place (a .size) (a .full .now) (a .block) (told ∙ c .if2 .taken))
 
@@ -32,12 +30,12 @@ returns-3 : tie.Need-returns-3
 returns-3 c =
     let f = c .before .before .page-at in
     let z = c .before .zero-part in
-    let a = c .before .before .before .before .before .before .args in
+    let a = c .before .before .before .before .before .args in
     let told = place-told (a .size) (a .full .now) (a .block) (f .result) (z .result) (f .ensures) (z .ensures) in
-    let page = c .before .before .before .before .pages .ensures in
+    let page = c .before .before .before .before .before .pre in
     sym (stray-place (a .size) (a .full .now) (a .block) (omega (arith, page, c .before .before .before .if1 .left)) (told ∙ c .if2 .left))
 
 pub place-fault-spec : {M : Type 1} → statement M
 place-fault-spec =
     tie.close
-    (tie.spec pages-requires returns page-at-requires zero-part-requires returns-2 returns-3)
+    (tie.spec returns page-at-requires zero-part-requires returns-2 returns-3)

@@ -50,23 +50,20 @@ read-patch-requires c κs = search needs
 enum-told-3 : tie.Need-enum-told-3
 enum-told-3 c = search needs
 
-pages-requires : tie.Need-pages-requires
-pages-requires c κs = search needs
-
 returns : tie.Need-returns
 unfolding slotOf
 returns c =
-    let at = c .before .before .before .before .before .before .before .before .before .before .before in
+    let at = c .before .before .before .before .before .before .before .before .before .before in
     let a = at .args in
     let s : List ℕ = slotOf (a .patch .now) (a .block) in
-    let same-slot : c .before .before .before .before .before .part .result .now ≡ s = c .before .before .before .before .before .part .ensures .0
-    ∙ ap (λ (k : ℕ). part k slotSize (a .patch .now)) (c .before .before .before .before .before .before .slot-at .ensures) in
-    let numbers : stateNumbers (c .before .before .before .before .slot-state .result) ≡ slotNumbers s = c .before .before .before .before .slot-state
+    let same-slot : c .before .before .before .before .part .result .now ≡ s = c .before .before .before .before .part .ensures .0
+    ∙ ap (λ (k : ℕ). part k slotSize (a .patch .now)) (c .before .before .before .before .before .slot-at .ensures) in
+    let numbers : stateNumbers (c .before .before .before .slot-state .result) ≡ slotNumbers s = c .before .before .before .slot-state
     .ensures ∙ ap (λ (l : List ℕ). slotNumbers l) same-slot in
     let e : slotOutcome (a .size) (a .patch .now) (a .full .now) (a .block) (a .base .now) (a .page .now)
     ≡ readRefused 8 (a .page .now) =
     slot-missing (a .size) (a .patch .now) (a .full .now) (a .block) (a .base .now) (a .page .now) (sym numbers
-    ∙ ap stateNumbers (c .before .before .enum-told3 .given .1)) (omega (arith, c .before .pages .ensures, c .if1 .taken)) in
+    ∙ ap stateNumbers (c .before .enum-told3 .given .1)) (omega (arith, at .pre .1 .0, c .if1 .taken)) in
     record { numbers = rw e; bytes = rw e }
 
 page-at-requires : tie.Need-page-at-requires
@@ -153,29 +150,29 @@ same-length-3 c = search needs
 returns-5 : tie.Need-returns-5
 unfolding slotOf placeOf
 returns-5 c =
-    let at = c .before .before .before .before .before .before .before .before .before .before .before .before .before .before .before .before .before in
+    let at = c .before .before .before .before .before .before .before .before .before .before .before .before .before .before .before .before in
     let a = at .args in
     let s : List ℕ = slotOf (a .patch .now) (a .block) in
-    let same-slot : c .before .before .before .before .before .before .before .before .before .before .before .part .result .now
-    ≡ s = c .before .before .before .before .before .before .before .before .before .before .before .part .ensures .0
-    ∙ ap (λ (k : ℕ). part k slotSize (a .patch .now)) (c .before .before .before .before .before .before .before .before .before .before .before .before
+    let same-slot : c .before .before .before .before .before .before .before .before .before .before .part .result .now
+    ≡ s = c .before .before .before .before .before .before .before .before .before .before .part .ensures .0
+    ∙ ap (λ (k : ℕ). part k slotSize (a .patch .now)) (c .before .before .before .before .before .before .before .before .before .before .before
     .slot-at .ensures) in
-    let numbers : stateNumbers (c .before .before .before .before .before .before .before .before .before .before .slot-state .result)
-    ≡ slotNumbers s = c .before .before .before .before .before .before .before .before .before .before .slot-state .ensures
+    let numbers : stateNumbers (c .before .before .before .before .before .before .before .before .before .slot-state .result)
+    ≡ slotNumbers s = c .before .before .before .before .before .before .before .before .before .slot-state .ensures
     ∙ ap (λ (l : List ℕ). slotNumbers l) same-slot in
     let below : a .block < pagesIn (a .size) (length (a .full .now)) = omega (
       arith,
-      c .before .before .before .before .before .before .before .pages .ensures,
+      at .pre .1 .0,
       c .before .before .before .before .before .before .if1 .left,
     ) in
     let e : slotOutcome (a .size) (a .patch .now) (a .full .now) (a .block) (a .base .now) (a .page .now)
     ≡ readDone 2 (placeOf (a .size) (a .full .now) (a .block)) =
     slot-full (a .size) (a .patch .now) (a .full .now) (a .block) (a .base .now) (a .page .now) (sym numbers
-    ∙ ap stateNumbers (c .before .before .before .before .before .before .before .before .enum-told3 .given .1)) below in
+    ∙ ap stateNumbers (c .before .before .before .before .before .before .before .enum-told3 .given .1)) below in
     let p : c .before .before .before .part3 .result .now ≡ part (pageAt (a .size) (a .block)) (a .size) (a .full .now) = c .before .before .before .part3
     .ensures .0 ∙ ap (λ (k : ℕ). part k (a .size) (a .full .now)) (c .before .before .before .before .page-at .ensures) in
     let l : length (c .before .before .before .part3 .result .now) ≡ a .size = ap (λ (x : List ℕ). length x) p
-    ∙ part-length (pageAt (a .size) (a .block)) (a .size) (a .full .now) (at .pre .1 (a .block) below) in
+    ∙ part-length (pageAt (a .size) (a .block)) (a .size) (a .full .now) (at .pre .1 .1 (a .block) below) in
     record {
       numbers = rw e;
       bytes = rw e (copied-page (a .size) (a .page .now) (c .before .before .before .part3 .result .now) (c .before .before .copy2 .last .0) (at .pre .0 .1) l
@@ -196,7 +193,6 @@ read-block-spec =
     part-requires-2
     read-patch-requires
     enum-told-3
-    pages-requires
     returns
     page-at-requires
     part-requires-3

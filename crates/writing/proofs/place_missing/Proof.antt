@@ -1,6 +1,3 @@
-use lib.Dec.{leb}
-use mathlib.Core.Path.{ap}
-use Prim.Native.Nat.{ℕ}
 use borrow.Author.Needs.{needs}
 use Rattle.writing.proofs.place_missing.Statement.{statement}
 use Rattle.writing.proofs.place_missing.Tie as tie
@@ -14,9 +11,6 @@ enum-told-2 c = search needs
 enum-told-3 : tie.Need-enum-told-3
 enum-told-3 c = search needs
 
-pages-requires : tie.Need-pages-requires
-pages-requires c κs = search needs
-
 returns : tie.Need-returns
 returns c =
     rw (c .enum-told .given .1)
@@ -27,9 +21,8 @@ returns-2 c =
 
 returns-3 : tie.Need-returns-3
 returns-3 c =
-    rw (c .before .enum-told3 .given .1) (ap (λ (n : ℕ). leb n (c .before .before .before .args .block)) (c .pages .ensures))
+    rw (c .enum-told3 .given .1)
 
 pub place-missing-spec : {M : Type 1} → statement M
 place-missing-spec =
-    tie.close
-    (tie.spec enum-told enum-told-2 enum-told-3 pages-requires returns returns-2 returns-3)
+    tie.close (tie.spec enum-told enum-told-2 enum-told-3 returns returns-2 returns-3)

@@ -41,7 +41,8 @@ returns c =
     (c .before .before .kind-for .ensures) in
     let m = c .before .place-missing in
     let t : (eqb (decidedKind (a .size) (a .base .now) (a .page .now)) 2 && leb (pagesIn (a .size) (length (a .full .now))) (a .block)) ≡ true =
-    sym (ap (λ (n : ℕ). eqb n 2 && leb (pagesIn (a .size) (length (a .full .now))) (a .block)) kind) ∙ sym (m .ensures) ∙ c .if1 .taken in
+    sym (ap (λ (n : ℕ). eqb n 2 && leb (pagesIn (a .size) (length (a .full .now))) (a .block)) kind)
+    ∙ sym (m .ensures ∙ ap (λ (n : ℕ). eqb k 2 && leb n (a .block)) (at .pre .1 .1 .0)) ∙ c .if1 .taken in
     let e : blockOutcome (a .size) (a .patch .now) (a .full .now) (a .block) (a .base .now) (a .page .now)
     ≡ record { number = 8; kind = 0; length = 0; patch = a .patch .now; full = a .full .now } = block-missing (a .size) (a .patch .now) (a .full .now)
     (a .block) (a .base .now) (a .page .now) t in
@@ -107,7 +108,8 @@ returns-2 c =
     (c .before .before .before .before .before .before .before .before .before .before .before .before .kind-for .ensures) in
     let m = c .before .before .before .before .before .before .before .before .before .before .before .place-missing in
     let t : (eqb (decidedKind (a .size) (a .base .now) (a .page .now)) 2 && leb (pagesIn (a .size) (length (a .full .now))) (a .block)) ≡ false =
-    sym (ap (λ (n : ℕ). eqb n 2 && leb (pagesIn (a .size) (length (a .full .now))) (a .block)) kind) ∙ sym (m .ensures)
+    sym (ap (λ (n : ℕ). eqb n 2 && leb (pagesIn (a .size) (length (a .full .now))) (a .block)) kind)
+    ∙ sym (m .ensures ∙ ap (λ (n : ℕ). eqb k 2 && leb n (a .block)) (at .pre .1 .1 .0))
     ∙ c .before .before .before .before .before .before .before .before .before .before .if1 .left in
     let e : blockOutcome (a .size) (a .patch .now) (a .full .now) (a .block) (a .base .now) (a .page .now)
     ≡ record {

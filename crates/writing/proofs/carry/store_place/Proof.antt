@@ -13,24 +13,22 @@ use Rattle.writing.proofs.carry.store_place.Tie as tie
 other-kind : {k j : ℕ} → k ≡ j → (j ≡ 2 → ⊥) → k ≡ 2 → ⊥
 other-kind e h q = h (sym e ∙ q)
 
-pages-requires : tie.Need-pages-requires
-pages-requires c κs = search needs
-
 returns : tie.Need-returns
 returns c =
-    let a = c .before .before .before .before .args in
-    nothing-stored (a .size) (a .full .now) (a .block) (kindNumber (a .kind)) (a .page .now) (omega (arith, c .before .pages .ensures, c .if1 .taken))
+    let at = c .before .before .before in
+    let a = at .args in
+    nothing-stored (a .size) (a .full .now) (a .block) (kindNumber (a .kind)) (a .page .now) (omega (arith, at .pre .0 .0, c .if1 .taken))
 
 page-at-requires : tie.Need-page-at-requires
 page-at-requires c κs = search needs
 
 add-end : tie.Need-add-end
 add-end c =
-    let at = c .before .before .before .before .before in
+    let at = c .before .before .before .before in
     let a = at .args in
     let below : a .block < pagesIn (a .size) (length (a .full .now)) = omega
-    (arith, c .before .before .pages .ensures, c .before .if1 .left) in
-    let fits : pageAt (a .size) (a .block) + a .size ≤ length (a .full .now) = at .pre .0 (a .block) below in
+    (arith, at .pre .0 .0, c .before .if1 .left) in
+    let fits : pageAt (a .size) (a .block) + a .size ≤ length (a .full .now) = at .pre .0 .1 (a .block) below in
     let e : c .page-at .result ≡ pageAt (a .size) (a .block) = c .page-at .ensures in
     omega arith
 
@@ -45,11 +43,11 @@ part-fill-start c = search needs
 
 part-fill-end : tie.Need-part-fill-end
 part-fill-end c =
-    let at = c .before .before .before .before .before .before .before in
+    let at = c .before .before .before .before .before .before in
     let a = at .args in
     let below : a .block < pagesIn (a .size) (length (a .full .now)) = omega
-    (arith, c .before .before .before .before .pages .ensures, c .before .before .before .if1 .left) in
-    let fits : pageAt (a .size) (a .block) + a .size ≤ length (a .full .now) = at .pre .0 (a .block) below in
+    (arith, at .pre .0 .0, c .before .before .before .if1 .left) in
+    let fits : pageAt (a .size) (a .block) + a .size ≤ length (a .full .now) = at .pre .0 .1 (a .block) below in
     let e : c .before .before .page-at .result ≡ pageAt (a .size) (a .block) = c .before .before .page-at .ensures in
     omega arith
 
@@ -67,11 +65,11 @@ part-fill-start-2 c = search needs
 
 part-fill-end-2 : tie.Need-part-fill-end-2
 part-fill-end-2 c =
-    let at = c .before .before .before .before .before .before .before in
+    let at = c .before .before .before .before .before .before in
     let a = at .args in
     let below : a .block < pagesIn (a .size) (length (a .full .now)) = omega
-    (arith, c .before .before .before .before .pages .ensures, c .before .before .before .if1 .left) in
-    let fits : pageAt (a .size) (a .block) + a .size ≤ length (a .full .now) = at .pre .0 (a .block) below in
+    (arith, at .pre .0 .0, c .before .before .before .if1 .left) in
+    let fits : pageAt (a .size) (a .block) + a .size ≤ length (a .full .now) = at .pre .0 .1 (a .block) below in
     let e : c .before .before .page-at .result ≡ pageAt (a .size) (a .block) = c .before .before .page-at .ensures in
     omega arith
 
@@ -89,11 +87,11 @@ part-copy-start c = search needs
 
 part-copy-end : tie.Need-part-copy-end
 part-copy-end c =
-    let at = c .before .before .before .before .before .before .before in
+    let at = c .before .before .before .before .before .before in
     let a = at .args in
     let below : a .block < pagesIn (a .size) (length (a .full .now)) = omega
-    (arith, c .before .before .before .before .pages .ensures, c .before .before .before .if1 .left) in
-    let fits : pageAt (a .size) (a .block) + a .size ≤ length (a .full .now) = at .pre .0 (a .block) below in
+    (arith, at .pre .0 .0, c .before .before .before .if1 .left) in
+    let fits : pageAt (a .size) (a .block) + a .size ≤ length (a .full .now) = at .pre .0 .1 (a .block) below in
     let e : c .before .before .page-at .result ≡ pageAt (a .size) (a .block) = c .before .before .page-at .ensures in
     omega arith
 
@@ -105,15 +103,14 @@ same-length c = search needs
 
 returns-2 : tie.Need-returns-2
 returns-2 c =
-    let at = c .before .before .before .before .before .before .before .before .before .before .before in
+    let at = c .before .before .before .before .before .before .before .before .before .before in
     let a = at .args in
     let below : a .block < pagesIn (a .size) (length (a .full .now)) = omega (
       arith,
-      c .before .before .before .before .before .before .before .before .pages
-          .ensures,
+      at .pre .0 .0,
       c .before .before .before .before .before .before .before .if1 .left,
     ) in
-    let fits : pageAt (a .size) (a .block) + a .size ≤ length (a .full .now) = at .pre .0 (a .block) below in
+    let fits : pageAt (a .size) (a .block) + a .size ≤ length (a .full .now) = at .pre .0 .1 (a .block) below in
     let e : c .before .before .before .before .before .before .page-at .result ≡ pageAt (a .size) (a .block) = c .before .before .before .before .before
     .before .page-at .ensures in
     zeros-stored (a .size) (a .full .now) (a .block) (c .before .before .before .before .before .before .page-at .result) (a .page .now)
@@ -125,15 +122,14 @@ same-length-2 c = search needs
 
 returns-3 : tie.Need-returns-3
 returns-3 c =
-    let at = c .before .before .before .before .before .before .before .before .before .before .before in
+    let at = c .before .before .before .before .before .before .before .before .before .before in
     let a = at .args in
     let below : a .block < pagesIn (a .size) (length (a .full .now)) = omega (
       arith,
-      c .before .before .before .before .before .before .before .before .pages
-          .ensures,
+      at .pre .0 .0,
       c .before .before .before .before .before .before .before .if1 .left,
     ) in
-    let fits : pageAt (a .size) (a .block) + a .size ≤ length (a .full .now) = at .pre .0 (a .block) below in
+    let fits : pageAt (a .size) (a .block) + a .size ≤ length (a .full .now) = at .pre .0 .1 (a .block) below in
     let e : c .before .before .before .before .before .before .page-at .result ≡ pageAt (a .size) (a .block) = c .before .before .before .before .before
     .before .page-at .ensures in
     zeros-stored (a .size) (a .full .now) (a .block) (c .before .before .before .before .before .before .page-at .result) (a .page .now)
@@ -145,15 +141,14 @@ same-length-3 c = search needs
 
 returns-4 : tie.Need-returns-4
 returns-4 c =
-    let at = c .before .before .before .before .before .before .before .before .before .before .before in
+    let at = c .before .before .before .before .before .before .before .before .before .before in
     let a = at .args in
     let below : a .block < pagesIn (a .size) (length (a .full .now)) = omega (
       arith,
-      c .before .before .before .before .before .before .before .before .pages
-          .ensures,
+      at .pre .0 .0,
       c .before .before .before .before .before .before .before .if1 .left,
     ) in
-    let fits : pageAt (a .size) (a .block) + a .size ≤ length (a .full .now) = at .pre .0 (a .block) below in
+    let fits : pageAt (a .size) (a .block) + a .size ≤ length (a .full .now) = at .pre .0 .1 (a .block) below in
     let e : c .before .before .before .before .before .before .page-at .result ≡ pageAt (a .size) (a .block) = c .before .before .before .before .before
     .before .page-at .ensures in
     page-stored (a .size) (a .full .now) (a .block) (c .before .before .before .before .before .before .page-at .result) (a .page .now)
@@ -164,7 +159,6 @@ pub store-place-spec : {M : Type 1} → statement M
 store-place-spec =
     tie.close
     (tie.spec
-    pages-requires
     returns
     page-at-requires
     add-end
