@@ -66,10 +66,10 @@ pub record BuildOutcome : Type 0 where
 
 -- done, and refused: the map keeps every byte
 abbrev pub buildDone : List ℕ → BuildOutcome
-buildDone map = buildDone map
+buildDone map = record { number = 0; block = 0; map = map }
 
 abbrev pub buildRefused : ℕ → ℕ → List ℕ → BuildOutcome
-buildRefused number block map = buildRefused number block map
+buildRefused number block map = record { number = number; block = block; map = map }
 
 unfoldable pub buildOutcome : ℕ → List ℕ → List ℕ → List ℕ → BuildOutcome
 buildOutcome P patch full map =

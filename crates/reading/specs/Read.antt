@@ -46,10 +46,10 @@ pub record ReadOutcome : Type 0 where
 
 -- done, and refused: the page keeps every byte, and the kind is 0
 abbrev pub readDone : ℕ → List ℕ → ReadOutcome
-readDone kind page = readDone kind page
+readDone kind page = record { number = 0; kind = kind; page = page }
 
 abbrev pub readRefused : ℕ → List ℕ → ReadOutcome
-readRefused number page = readRefused number page
+readRefused number page = record { number = number; kind = 0; page = page }
 
 unfoldable pub readOutcome : ℕ → List ℕ → List ℕ → ℕ → List ℕ → List ℕ → ReadOutcome
 readOutcome P patch full b base page =

@@ -98,10 +98,10 @@ applyRows P base payload page = ordered (applyGroups P base payload page)
 
 -- done, and refused: every other number is 0
 abbrev pub applyDone : ℕ → ℤ → AppliedNumbers
-applyDone entries last = applyDone entries last
+applyDone entries last = record { number = 0; entries = entries; last = last }
 
 abbrev pub applyRefused : ℕ → AppliedNumbers
-applyRefused number = applyRefused number
+applyRefused number = record { number = number; entries = 0; last = pos 0 }
 
 unfoldable pub applyNumbers : ℕ → List ℕ → List ℕ → List ℕ → AppliedNumbers
 applyNumbers P base payload page =
