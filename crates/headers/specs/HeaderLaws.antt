@@ -49,24 +49,34 @@ module _ (fields area : List ℕ) (size : ℕ) (h : restAt ≤ length fields) (k
       )
 
 -- what the two headers give together
+pub headers-are : (P : ℕ) (patch full : List ℕ)
+    → firstOf (headerRows P patch full) ≡ orElse (firstOf (patchHeadRows P patch)) (firstOf (fullHeadRows P full))
+unfolding headerRows
+headers-are P patch full = first-append (patchHeadRows P patch) (fullHeadRows P full)
+
+pub full-absent : (P : ℕ) (full : List ℕ) → length full ≡ 0 → firstOf (fullHeadRows P full) ≡ 0
+unfolding fullHeadRows firstOf
+full-absent P full e = rw (eq-eqb (length full) 0 e)
+
+pub full-present : (P : ℕ) (full : List ℕ) → (length full ≡ 0 → ⊥)
+    → firstOf (fullHeadRows P full) ≡ firstOf (headRows (fullHeader P) fullHead full)
+unfolding fullHeadRows
+full-present P full h = rw (ne-eqb (length full) 0 h)
+
 pub headers-none : (P : ℕ) (patch full : List ℕ) → firstOf (patchHeadRows P patch) ≡ 0 → length full ≡ 0
     → firstOf (headerRows P patch full) ≡ 0
-unfolding headerRows fullHeadRows firstOf
-headers-none P patch full e f = first-append (patchHeadRows P patch) (fullHeadRows P full)
-    ∙ or-skip (firstOf (patchHeadRows P patch)) (firstOf (fullHeadRows P full)) e ∙ rw (eq-eqb (length full) 0 f)
+headers-none P patch full e f = headers-are P patch full ∙ or-skip (firstOf (patchHeadRows P patch)) (firstOf (fullHeadRows P full)) e
+    ∙ full-absent P full f
 
 pub headers-patch : (P k : ℕ) (patch full : List ℕ) → firstOf (patchHeadRows P patch) ≡ k → (k ≡ 0 → ⊥)
     → firstOf (headerRows P patch full) ≡ k
-unfolding headerRows
-headers-patch P k patch full e h =
-    first-append (patchHeadRows P patch) (fullHeadRows P full) ∙ ap (λ (n : ℕ). orElse n (firstOf (fullHeadRows P full))) e
+headers-patch P k patch full e h = headers-are P patch full ∙ ap (λ (n : ℕ). orElse n (firstOf (fullHeadRows P full))) e
     ∙ or-some k (firstOf (fullHeadRows P full)) h
 
 pub headers-full : (P : ℕ) (patch full : List ℕ) → firstOf (patchHeadRows P patch) ≡ 0 → (length full ≡ 0 → ⊥)
     → firstOf (headerRows P patch full) ≡ firstOf (headRows (fullHeader P) fullHead full)
-unfolding headerRows fullHeadRows
-headers-full P patch full e f = first-append (patchHeadRows P patch) (fullHeadRows P full)
-    ∙ or-skip (firstOf (patchHeadRows P patch)) (firstOf (fullHeadRows P full)) e ∙ rw (ne-eqb (length full) 0 f)
+headers-full P patch full e f = headers-are P patch full ∙ or-skip (firstOf (patchHeadRows P patch)) (firstOf (fullHeadRows P full)) e
+    ∙ full-present P full f
 
 pub headers-numbered : (P : ℕ) (patch full : List ℕ) → Numbered (headerRows P patch full)
 unfolding headerRows patchHeadRows fullHeadRows headRows

@@ -3,3 +3,5 @@ pub mod FreshLaws
 pub mod HeaderLaws
 pub mod Headers
 pub mod Meaning
+pub mod Stored
+pub mod StoredLaws

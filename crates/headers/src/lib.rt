@@ -4,13 +4,43 @@ use layout::Layout;
 use layout::Refusal;
 ghost use mathlib.Core.Path.{_≡_};
 ghost use Prim.Native.Nat.{_≤_};
-ghost use lib.ListN.{length, take};
-ghost use Rattle.span.specs.Bytes.{zeros, splice};
-ghost use Rattle.layout.specs.Sizes.{restAt};
-ghost use Rattle.layout.specs.Numbers.{faultNumber};
+ghost use lib.ListN.{length, take, getD};
+ghost use Rattle.span.specs.Bytes.{zeros, part, splice};
+ghost use Rattle.layout.specs.Sizes.{fullHead, sizeWidth, restAt};
+ghost use Rattle.layout.specs.Numbers.{faultNumber, number};
 ghost use Rattle.layout.specs.Refusals.{firstOf};
-ghost use Rattle.headers.specs.Headers.{patchFields, fullFields, header, headRows, patchHeadRows, headerRows};
+ghost use Rattle.headers.specs.Headers.{patchFields, fullFields, header, headRows, patchHeadRows, fullHeadRows, headerRows};
+ghost use Rattle.headers.specs.Stored.{storedSize, patchImageRows, fullImageRows, sizeRows};
 ghost use Rattle.headers.specs.Fresh.{freshPatch, freshFull};
+
+// A byte of an area, zero past its end.
+fn byte_at(area: &[u8], at: usize) -> u8
+    ensures { λ r. ⌜ r ≡ getD (now (area .entry)) at 0 ⌝ }
+{
+    if area.len() <= at {
+        return 0;
+    }
+    area[at]
+}
+
+// The number in the four bytes from a place in a header on, as far as the area goes.
+fn number_4(area: &[u8], at: usize) -> u32
+    requires { ⌜ at ≤ fullHead ⌝ }
+    ensures { λ r. ⌜ r ≡ number (part at sizeWidth (now (area .entry))) ⌝ }
+{
+    let a = byte_at(area, at);
+    let b = byte_at(area, at + 1);
+    let c = byte_at(area, at + 2);
+    let d = byte_at(area, at + 3);
+    (a as u32) + 256 * ((b as u32) + 256 * ((c as u32) + 256 * (d as u32)))
+}
+
+// The page size that an area's header gives.
+pub fn stored_size(area: &[u8]) -> u32
+    ensures { λ r. ⌜ r ≡ storedSize (now (area .entry)) ⌝ }
+{
+    number_4(area, Layout::PAGE_SIZE_AT)
+}
 
 // The fields that begin a patch area of pages of this size: magic, version, flags, page size, slot size.
 fn patch_fields(size: u32) -> [u8; Layout::PATCH_FIELDS]
@@ -97,27 +127,62 @@ fn head_fault(area: &[u8], fields: &[u8], size: usize) -> Fault
     Fault::Nothing
 }
 
+// What is wrong first with a patch area's header, compared with the image of the page size that it gives itself.
+fn patch_image_fault(patch: &[u8]) -> Fault
+    ensures { λ r. ⌜ faultNumber r ≡ firstOf (patchImageRows (now (patch .entry))) ⌝ }
+{
+    let fields = patch_fields(stored_size(patch));
+    head_fault(patch, &fields, Layout::PATCH_HEAD)
+}
+
+// The same of a full area.
+fn full_image_fault(full: &[u8]) -> Fault
+    ensures { λ r. ⌜ faultNumber r ≡ firstOf (fullImageRows (now (full .entry))) ⌝ }
+{
+    let fields = full_fields(stored_size(full));
+    head_fault(full, &fields, Layout::FULL_HEAD)
+}
+
+// A header that gives another page size than this.
+fn size_fault(size: u32, area: &[u8]) -> Fault
+    ensures { λ r. ⌜ faultNumber r ≡ firstOf (sizeRows size (now (area .entry))) ⌝ }
+{
+    if stored_size(area) == size {
+        return Fault::Nothing;
+    }
+    Fault::Found(Refusal::Header)
+}
+
 // What is wrong first with the header of a patch area of pages of this size.
 pub fn patch_fault(size: u32, patch: &[u8]) -> Fault
     ensures { λ r. ⌜ faultNumber r ≡ firstOf (patchHeadRows size (now (patch .entry))) ⌝ }
 {
-    let fields = patch_fields(size);
-    head_fault(patch, &fields, Layout::PATCH_HEAD)
+    match patch_image_fault(patch) {
+        Fault::Found(r) => Fault::Found(r),
+        Fault::Nothing => size_fault(size, patch),
+    }
 }
 
-// What is wrong first with both headers. A full area of length 0 has none.
+// What is wrong first with the header of a full area of pages of this size. One of length 0 has none.
+fn full_fault(size: u32, full: &[u8]) -> Fault
+    ensures { λ r. ⌜ faultNumber r ≡ firstOf (fullHeadRows size (now (full .entry))) ⌝ }
+{
+    if full.len() == 0 {
+        return Fault::Nothing;
+    }
+    match full_image_fault(full) {
+        Fault::Found(r) => Fault::Found(r),
+        Fault::Nothing => size_fault(size, full),
+    }
+}
+
+// What is wrong first with both headers.
 pub fn headers_fault(size: u32, patch: &[u8], full: &[u8]) -> Fault
     ensures { λ r. ⌜ faultNumber r ≡ firstOf (headerRows size (now (patch .entry)) (now (full .entry))) ⌝ }
 {
     match patch_fault(size, patch) {
         Fault::Found(r) => Fault::Found(r),
-        Fault::Nothing => {
-            if full.len() == 0 {
-                return Fault::Nothing;
-            }
-            let fields = full_fields(size);
-            head_fault(full, &fields, Layout::FULL_HEAD)
-        }
+        Fault::Nothing => full_fault(size, full),
     }
 }
 
