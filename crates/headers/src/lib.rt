@@ -154,7 +154,7 @@ fn size_fault(size: u32, area: &[u8]) -> Fault
 }
 
 // What is wrong first with the header of a patch area of pages of this size.
-pub fn patch_fault(size: u32, patch: &[u8]) -> Fault
+fn patch_fault(size: u32, patch: &[u8]) -> Fault
     ensures { λ r. ⌜ faultNumber r ≡ firstOf (patchHeadRows size (now (patch .entry))) ⌝ }
 {
     match patch_image_fault(patch) {

@@ -27,7 +27,7 @@ use Rattle.store.specs.Open.{FrameNumbers, openedNumbers}
 use Rattle.store.specs.OpenLaws.{opened-one}
 use Rattle.store.specs.declared.Opened.{Opened}
 
--- `headers::patch_fault`, `headers::headers_fault`
+-- `headers::headers_fault`
 pub one-fault : (n : ℕ) (a b : Fault) → faultNumber a ≡ n → faultNumber b ≡ n → a ≡ b
 one-fault n a b x y = fault-one a b (x ∙ sym y)
   where

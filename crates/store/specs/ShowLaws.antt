@@ -2,23 +2,36 @@
 use Prim.Native.Nat.{ℕ, zero, suc, _+_, _≤_, _<_}
 use native.Mathlib.Omega.{arith}
 use mathlib.Core.Path.{_≡_, refl, sym, ap, _∙_}
-use mathlib.Core.Bool.{Bool, true, false, not, cond, _&&_}
+use mathlib.Core.Bool.{Bool, true, false, not, cond, _&&_, and-true}
 use mathlib.Core.List.{List, [], _∷_}
 use lib.Dec.{leb}
 use borrow.Author.Tests.{le-leb, lt-leb, leb-true, leb-false}
 use lib.ListN.{length}
 use Rattle.span.specs.Laws.{and-left, and-right}
 use Rattle.layout.specs.Sizes.{payloadAt, slotAt, slotSize, room}
-use Rattle.layout.specs.LengthLaws.{slot-within}
+use Rattle.layout.specs.LengthLaws.{slot-within, absent-fits}
 use Rattle.layout.specs.Refusals.{_⇐_, firstOf, orElse}
 use Rattle.layout.specs.RefusalLaws.{first-append, or-some, decided-done, decided-refused}
 use Rattle.layout.specs.Groups.{ordered}
-use Rattle.headers.specs.Headers.{patchHeadRows}
+use Rattle.headers.specs.Headers.{patchHeadRows, headerRows}
+use Rattle.headers.specs.HeaderLaws.{headers-are, full-absent}
 use Rattle.layout.specs.Lengths.{blocksIn, patchFits}
 use Rattle.slots.specs.Slots.{isPatch, payloadLength}
 use Rattle.store.specs.Block.{slotOf}
 use Rattle.store.specs.Show.{showRows, showPlace}
+use Rattle.layout.specs.Numbers.{refusalNumber}
+use Rattle.layout.specs.NumberLaws.{refusal-some}
+use Rattle.layout.specs.declared.Refusal.{Refusal}
+use Rattle.store.specs.Open.{openRows, openNumbers, openedNumbers}
+use Rattle.store.specs.OpenLaws.{opened-frame, opened-refused}
+use Rattle.store.specs.FrameLaws.{frame-is, frameBy}
+use Rattle.store.specs.declared.Opened.the-variants.{Refused, Frame}
 use Rattle.store.specs.declared.Place.{Place}
+
+or-zero : (n : ℕ) → orElse n 0 ≡ n
+unfolding orElse
+or-zero zero = refl
+or-zero (suc n) = refl
 
 -- the rows, one after the other
 show-rows : (P : ℕ) (patch : List ℕ) (b : ℕ)
@@ -61,6 +74,35 @@ module _ (P : ℕ) (patch : List ℕ) (b : ℕ) where
     unfolding orElse showPlace
     show-done h g = sym (decided-done _ _ (firstOf (showRows P patch b)) (show-rows P patch b
         ∙ rw (e, f, lt-leb (blocksIn (length patch)) b h, g)))
+
+-- A frame with no full area is what Show opens
+
+module _ (P : ℕ) (patch : List ℕ) where
+  alone : firstOf (openRows P true true patch []) ≡ orElse (cond (not (patchFits P (length patch))) 2 0) (firstOf (patchHeadRows P patch))
+  unfolding frameBy orElse
+  alone =
+      let heads : firstOf (headerRows P patch []) ≡ firstOf (patchHeadRows P patch) = headers-are P patch []
+      ∙ ap (λ (k : ℕ). orElse (firstOf (patchHeadRows P patch)) k) (full-absent P [] refl) ∙ or-zero (firstOf (patchHeadRows P patch)) in
+      frame-is P patch [] true true ∙ rw (absent-fits P (blocksIn (length patch)), and-true (patchFits P (length patch)), heads)
+
+  heads-told : (k : ℕ) → patchFits P (length patch) ≡ true → firstOf (openRows P true true patch []) ≡ k → firstOf (patchHeadRows P patch) ≡ k
+  unfolding orElse
+  heads-told k fit e = sym (alone ∙ rw fit) ∙ e
+
+  pub opened-wrong : (b : ℕ) (r : Refusal) → openedNumbers (Refused r) ≡ openNumbers P true true patch []
+      → record { at = 0; len = 0 } ≡ showPlace P patch b
+  opened-wrong b r told = go (patchFits P (length patch)) refl
+    where
+      go : (t : Bool) → patchFits P (length patch) ≡ t → record { at = 0; len = 0 } ≡ showPlace P patch b
+      go true fit = show-header P patch b (refusalNumber r) fit
+          (heads-told (refusalNumber r) fit (opened-refused P true true patch [] r told)) (refusal-some r)
+      go false fit = show-length P patch b fit
+
+  pub opened-alone : (size n m : ℕ) → openedNumbers (Frame size n m) ≡ openNumbers P true true patch []
+      → (patchFits P (length patch) ≡ true) × (firstOf (patchHeadRows P patch) ≡ 0) × (n ≡ blocksIn (length patch))
+  opened-alone size n m told =
+      let o = opened-frame P true true patch [] size n m told in
+      (o .framed .patch-fit, heads-told 0 (o .framed .patch-fit) (o .framed .none), o .blocks)
 
 -- the part lies in the patch area
 pub show-within : (P : ℕ) (patch : List ℕ) (b : ℕ) → showPlace P patch b .at + showPlace P patch b .len ≤ length patch
