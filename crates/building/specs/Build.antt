@@ -6,6 +6,7 @@ use mathlib.Core.List.{List, [], _∷_}
 use lib.Dec.{eqb, ltb}
 use lib.ListN.{length}
 use Rattle.span.specs.Bytes.{zeros, same, splice}
+use Rattle.layout.specs.Sizes.{fullKind}
 use Rattle.layout.specs.Numbers.{refusalNumber}
 use Rattle.layout.specs.Refusals.{Row, _⇐_, firstOf, decided}
 use Rattle.layout.specs.Groups.{Grouped, ordered, _▸_}
@@ -23,7 +24,7 @@ use Rattle.building.specs.declared.Built.the-variants.{Done, Refused}
 -- "place in the full area not zero, slot not FULL_REF"
 unfoldable pub placeRows : ℕ → List ℕ → List ℕ → ℕ → List Row
 placeRows P s full b =
-    (10 ⇐ not (eqb (slotNumbers s .kind) 2) && (ltb b (pagesIn P (length full)) && not (same (placeOf P full b) (zeros P)))) ∷ []
+    (10 ⇐ not (eqb (slotNumbers s .kind) fullKind) && (ltb b (pagesIn P (length full)) && not (same (placeOf P full b) (zeros P)))) ∷ []
 
 -- what may be wrong with one block, and what is
 abbrev pub faultGroups : ℕ → List ℕ → List ℕ → ℕ → List Grouped

@@ -7,7 +7,7 @@ use lib.Dec.{eqb}
 use lib.ListN.{length as lengthOf}
 use lib.IntN.{ℤ, pos}
 use Rattle.span.specs.Bytes.{part}
-use Rattle.layout.specs.Sizes.{slotSize, payloadAt}
+use Rattle.layout.specs.Sizes.{slotSize, payloadAt, patchKind}
 use Rattle.layout.specs.Numbers.{kindNumber, refusalNumber}
 use Rattle.layout.specs.Refusals.{Row, _⇐_, firstOf, decided}
 use Rattle.layout.specs.Groups.{Grouped, ordered, _▸_}
@@ -26,7 +26,7 @@ abbrev pub infoGroups : ℕ → List ℕ → List Grouped
 infoGroups P bytes =
     (group.lengths ▸ (2 ⇐ not (eqb (lengthOf bytes) slotSize)) ∷ [])
     ∷ (group.slot ▸ (6 ⇐ not (eqb (slotNumbers bytes .number) 0)) ∷ [])
-    ∷ (group.payload ▸ (7 ⇐ eqb (slotNumbers bytes .kind) 1 && not (sound P (payloadIn bytes))) ∷ [])
+    ∷ (group.payload ▸ (7 ⇐ eqb (slotNumbers bytes .kind) patchKind && not (sound P (payloadIn bytes))) ∷ [])
     ∷ []
 
 unfoldable pub infoRows : ℕ → List ℕ → List Row

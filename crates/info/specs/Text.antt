@@ -5,6 +5,7 @@ use mathlib.Core.Bool.{cond}
 use mathlib.Core.List.{List, [], _∷_, _++_}
 use lib.Dec.{eqb, ltb}
 use lib.IntN.{ℤ, pos, negsuc}
+use Rattle.layout.specs.Sizes.{emptyKind, patchKind}
 use Rattle.span.specs.Ascii.{ascii}
 use Rattle.info.specs.Info.{InfoNumbers}
 
@@ -30,7 +31,7 @@ unfoldable pub numberLine : List ℕ → ℕ → List ℕ
 numberLine word n = word ++ (decimal n ++ ascii "\n")
 
 unfoldable pub kindLine : ℕ → List ℕ
-kindLine k = cond (eqb k 0) (ascii "kind empty\n") (cond (eqb k 1) (ascii "kind patch\n") (ascii "kind full\n"))
+kindLine k = cond (eqb k emptyKind) (ascii "kind empty\n") (cond (eqb k patchKind) (ascii "kind patch\n") (ascii "kind full\n"))
 
 -- −1 stands for no position: no other position is below 0
 unfoldable pub lastLine : ℤ → List ℕ

@@ -7,7 +7,7 @@ use mathlib.Core.List.{List}
 use lib.Dec.{eqb}
 use lib.ListN.{length}
 use Rattle.span.specs.Bytes.{zeros}
-use Rattle.layout.specs.Sizes.{room}
+use Rattle.layout.specs.Sizes.{room, emptyKind, patchKind, fullKind}
 use Rattle.slots.specs.Slots.{emptySlot, payloadOf, slotNumbers, slotImage}
 use Rattle.payload.specs.Entries.{payloadStream, applied, sound}
 use Rattle.writer.specs.Differences.{written}
@@ -25,7 +25,7 @@ pub record Cell : Type 0 where
 
 -- what a decision leaves
 abbrev pub cellFor : ℕ → Decision → Cell
-cellFor P d = record { slot = slotImage (d .kind) (d .payload); place = cond (eqb (d .kind) 2) (d .page) (zeros P) }
+cellFor P d = record { slot = slotImage (d .kind) (d .payload); place = cond (eqb (d .kind) fullKind) (d .page) (zeros P) }
 
 -- a block that nothing was written to
 abbrev pub blankCell : ℕ → Cell
@@ -33,22 +33,22 @@ blankCell P = record { slot = emptySlot; place = zeros P }
 
 -- the decisions that can be carried out: the payload counts only for PATCH, the page only for FULL_REF
 pub data Fit (P : ℕ) (d : Decision) : Type 0 where
-  empty : d .kind ≡ 0 → Fit P d
-  patch : d .kind ≡ 1 → 1 ≤ length (d .payload) → length (d .payload) ≤ room → sound P (d .payload) ≡ true → Fit P d
-  full : d .kind ≡ 2 → length (d .page) ≡ P → Fit P d
+  empty : d .kind ≡ emptyKind → Fit P d
+  patch : d .kind ≡ patchKind → 1 ≤ length (d .payload) → length (d .payload) ≤ room → sound P (d .payload) ≡ true → Fit P d
+  full : d .kind ≡ fullKind → length (d .page) ≡ P → Fit P d
 
 -- decided by Compare over a base page
 pub record Compared (P : ℕ) (β : List ℕ) (d : Decision) : Type 0 where
   pub base-length : length β ≡ P
   pub page-length : length (d .page) ≡ P
   pub kind : d .kind ≡ kindFor (length (written β (d .page)))
-  pub payload : d .kind ≡ 1 → d .payload ≡ written β (d .page)
+  pub payload : d .kind ≡ patchKind → d .payload ≡ written β (d .page)
 
 -- what a cell holds over a base page, by its slot's kind
 unfoldable pub pageIn : ℕ → List ℕ → Cell → List ℕ
 pageIn P β c =
-    cond (eqb (slotNumbers (c .slot) .kind) 0) β
-    (cond (eqb (slotNumbers (c .slot) .kind) 1) (applied β (payloadStream P (payloadOf (c .slot)))) (c .place))
+    cond (eqb (slotNumbers (c .slot) .kind) emptyKind) β
+    (cond (eqb (slotNumbers (c .slot) .kind) patchKind) (applied β (payloadStream P (payloadOf (c .slot)))) (c .place))
 
 -- the cell of a page over a base page
 unfoldable pub cellOf : ℕ → List ℕ → List ℕ → Cell

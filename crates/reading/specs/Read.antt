@@ -5,6 +5,7 @@ use mathlib.Core.Bool.{cond}
 use mathlib.Core.List.{List, [], _∷_}
 use lib.Dec.{eqb}
 use lib.ListN.{length}
+use Rattle.layout.specs.Sizes.{emptyKind, patchKind}
 use Rattle.layout.specs.Numbers.{kindNumber, refusalNumber}
 use Rattle.layout.specs.Refusals.{Row, firstOf, decided}
 use Rattle.layout.specs.Groups.{Grouped, ordered, _▸_}
@@ -36,8 +37,8 @@ readRows P patch full b base page = ordered (readGroups P patch full b base page
 unfoldable pub contents : ℕ → List ℕ → List ℕ → ℕ → List ℕ → List ℕ
 contents P patch full b base =
     let s = slotOf patch b in
-    cond (eqb (slotNumbers s .kind) 0) (pageOf P base)
-    (cond (eqb (slotNumbers s .kind) 1) (applied (pageOf P base) (payloadStream P (payloadOf s))) (placeOf P full b))
+    cond (eqb (slotNumbers s .kind) emptyKind) (pageOf P base)
+    (cond (eqb (slotNumbers s .kind) patchKind) (applied (pageOf P base) (payloadStream P (payloadOf s))) (placeOf P full b))
 
 pub record ReadOutcome : Type 0 where
   pub number : ℕ

@@ -5,7 +5,7 @@ use mathlib.Core.List.{List, [], _∷_}
 use lib.Dec.{leb, eqb}
 use lib.ListN.{length}
 use Rattle.span.specs.Bytes.{part}
-use Rattle.layout.specs.Sizes.{slotSize, slotAt, pageAt}
+use Rattle.layout.specs.Sizes.{slotSize, slotAt, pageAt, patchKind, fullKind}
 use Rattle.layout.specs.Refusals.{Row, _⇐_}
 use Rattle.layout.specs.Lengths.{blocksIn, pagesIn}
 use Rattle.slots.specs.Slots.{slotNumbers, payloadOf}
@@ -36,7 +36,7 @@ unfoldable pub slotRows : List ℕ → List Row
 slotRows s = (6 ⇐ not (eqb (slotNumbers s .number) 0)) ∷ []
 
 unfoldable pub fullRows : ℕ → List ℕ → List ℕ → ℕ → List Row
-fullRows P s full b = (8 ⇐ eqb (slotNumbers s .kind) 2 && leb (pagesIn P (length full)) b) ∷ []
+fullRows P s full b = (8 ⇐ eqb (slotNumbers s .kind) fullKind && leb (pagesIn P (length full)) b) ∷ []
 
 unfoldable pub payloadRows : ℕ → List ℕ → List Row
-payloadRows P s = (7 ⇐ eqb (slotNumbers s .kind) 1 && not (sound P (payloadOf s))) ∷ []
+payloadRows P s = (7 ⇐ eqb (slotNumbers s .kind) patchKind && not (sound P (payloadOf s))) ∷ []

@@ -85,7 +85,8 @@ module _ (P : ℕ) (patch : List ℕ) where
       ∙ ap (λ (k : ℕ). orElse (firstOf (patchHeadRows P patch)) k) (full-absent P [] refl) ∙ or-zero (firstOf (patchHeadRows P patch)) in
       frame-is P patch [] true true ∙ rw (absent-fits P (blocksIn (length patch)), and-true (patchFits P (length patch)), heads)
 
-  heads-told : (k : ℕ) → patchFits P (length patch) ≡ true → firstOf (openRows P true true patch []) ≡ k → firstOf (patchHeadRows P patch) ≡ k
+  heads-told : (k : ℕ) → patchFits P (length patch) ≡ true → firstOf (openRows P true true patch []) ≡ k
+      → firstOf (patchHeadRows P patch) ≡ k
   unfolding orElse
   heads-told k fit e = sym (alone ∙ rw fit) ∙ e
 

@@ -8,7 +8,7 @@ use lib.Dec.{eqb, leb, ltb}
 use lib.ListN.{length}
 use lib.IntN.{ℤ, pos}
 use Rattle.span.specs.Bytes.{zeros, splice}
-use Rattle.layout.specs.Sizes.{room}
+use Rattle.layout.specs.Sizes.{room, emptyKind, patchKind, fullKind}
 use Rattle.layout.specs.Numbers.{kindNumber, refusalNumber}
 use Rattle.layout.specs.Refusals.{Row, _⇐_, firstOf, decided}
 use Rattle.layout.specs.Groups.{Grouped, ordered, _▸_}
@@ -42,7 +42,7 @@ pub record ComparedNumbers : Type 0 where
 
 -- same, patch or large, by the stream's length
 unfoldable pub kindFor : ℕ → ℕ
-kindFor n = cond (eqb n 0) 0 (cond (leb n room) 1 2)
+kindFor n = cond (eqb n 0) emptyKind (cond (leb n room) patchKind fullKind)
 
 abbrev pub compareGroups : ℕ → List ℕ → List ℕ → List ℕ → List Grouped
 compareGroups P base page buffer =
@@ -69,7 +69,7 @@ compareNumbers P base page buffer = decided (firstOf (compareRows P base page bu
 -- "Only for patch is the payload written; later bytes of the buffer stay."
 unfoldable pub compareBuffer : ℕ → List ℕ → List ℕ → List ℕ → List ℕ
 compareBuffer P base page buffer =
-    cond (eqb (compareNumbers P base page buffer .kind) 1) (splice buffer 0 (coded 0 (diffs 0 (pageOf P base) page))) buffer
+    cond (eqb (compareNumbers P base page buffer .kind) patchKind) (splice buffer 0 (coded 0 (diffs 0 (pageOf P base) page))) buffer
 
 -- the paper's numbers for each case of the answer
 abbrev pub comparedNumbers : Compared → ComparedNumbers

@@ -5,6 +5,7 @@ use mathlib.Core.Bool.{_&&_}
 use mathlib.Core.List.{List, [], _∷_}
 use lib.Dec.{eqb, leb}
 use lib.ListN.{length}
+use Rattle.layout.specs.Sizes.{fullKind}
 use Rattle.layout.specs.Refusals.{_⇐_, firstOf, decided}
 use Rattle.layout.specs.Lengths.{pagesIn}
 use Rattle.writing.specs.declared.Written.{Written}
@@ -16,7 +17,7 @@ unfoldable pub blockOutcome : ℕ → List ℕ → List ℕ → ℕ → List ℕ
 blockOutcome P patch full b base page =
     let stream = decidedStream P base page in
     let kind = decidedKind P base page in
-    decided (firstOf ((8 ⇐ eqb kind 2 && leb (pagesIn P (length full)) b) ∷ []))
+    decided (firstOf ((8 ⇐ eqb kind fullKind && leb (pagesIn P (length full)) b) ∷ []))
     (record {
       number = 0;
       kind = kind;

@@ -5,6 +5,7 @@ use mathlib.Core.Bool.{_&&_}
 use mathlib.Core.List.{List, [], _∷_}
 use lib.Dec.{eqb, leb}
 use lib.ListN.{length}
+use Rattle.layout.specs.Sizes.{fullKind}
 use Rattle.layout.specs.Numbers.{kindNumber, refusalNumber}
 use Rattle.layout.specs.Refusals.{Row, _⇐_, firstOf, decided}
 use Rattle.layout.specs.Groups.{Grouped, ordered, _▸_}
@@ -32,7 +33,7 @@ writeGroups P patch full b base page =
     ∷ (group.lengths ▸ lengthRows P (length patch) (length full))
     ∷ (group.headers ▸ headerRows P patch full)
     ∷ (group.block ▸ blockRows patch b)
-    ∷ (group.full ▸ (8 ⇐ eqb (decidedKind P base page) 2 && leb (pagesIn P (length full)) b) ∷ [])
+    ∷ (group.full ▸ (8 ⇐ eqb (decidedKind P base page) fullKind && leb (pagesIn P (length full)) b) ∷ [])
     ∷ []
 
 unfoldable pub writeRows : ℕ → List ℕ → List ℕ → ℕ → List ℕ → List ℕ → List Row
