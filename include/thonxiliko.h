@@ -12,8 +12,9 @@
  *
  * thx_format makes both areas empty. A page is written with thx_write and read back with thx_read,
  * always together with its page in the base. thx_build checks a whole store and makes a map that
- * tells for each block where its page is. Both areas and all pages are the caller's memory. The
- * library opens no file, allocates nothing and keeps nothing between two calls.
+ * tells for each block where its page is. thx_show and thx_next look into a slot: where its bytes
+ * lie, and what they say. Both areas and all pages are the caller's memory. The library opens no
+ * file, allocates nothing and keeps nothing between two calls.
  *
  *
  * LINKING
@@ -68,7 +69,7 @@
  * byte 255 is followed by a jump of 16 bits, which may be any number. A position starts at -1 and
  * grows by jump + 1 with each entry. It must stay at or below 8,191, and the value replaces the
  * base's byte there. A payload is sound if it has 1 to 504 bytes and is used up by whole entries
- * that stay in the page.
+ * that stay in the page. An entry that is cut off or leaves the page is not sound.
  *
  * The stream of a page is what the library itself makes of it: one entry for each byte that differs
  * from the base, in rising order, and no other; jumps below 255 in one byte, others in the long
@@ -89,7 +90,7 @@
  *    4  THX_BAD_VERSION       the version in a header is wrong
  *    5  THX_BAD_BLOCK         the block is not below n
  *    6  THX_BAD_SLOT          the slot is not sound
- *    7  THX_BAD_PAYLOAD       the payload is not sound
+ *    7  THX_BAD_PAYLOAD       the payload is not sound (thx_next: no entry can be read here)
  *    8  THX_NO_FULL_PAGE      a full page is needed for a block that is not below m
  *    9  THX_SHORT_BUFFER      the payload buffer or the map buffer is too short
  *   10  THX_STRAY_PAGE        thx_build: the block's place in the full area is not zero although
@@ -103,8 +104,20 @@
  * thx_build takes blocks in rising order and stops at the first that is at fault.
  *
  * On every refusal all buffers keep every byte they had, and every other member of the answer is 0
- * (`last` too), except that thx_build gives the block with 6, 7, 8 and 10. A refusal is given
- * whenever its condition holds and no earlier one does, and at no other time.
+ * (`last` too), with two exceptions:
+ *
+ *   thx_build gives the block with 6, 7, 8 and 10;
+ *   thx_apply, thx_read and thx_build give the offset with 7.
+ *
+ * A refusal is given whenever its condition holds and no earlier one does, and at no other time.
+ * thx_next is no part of this: it has an order of its own, and where it gives no entry it stands
+ * still, which is no refusal. See there.
+ *
+ * Offset. With 7, `offset` is where the first entry that is not sound starts: the place of its jump
+ * code, counted from the payload's first byte. For an empty payload and for one of more than 504
+ * bytes it is 0, whatever the entries are. With any other number, 0 (done) too, `offset` is 0.
+ * Where a payload was damaged, the damage mostly lies before the offset: a wrong jump moves every
+ * entry after it, and the payload breaks further on. thx_next steps through it from the beginning.
  *
  *
  * BUFFERS
@@ -121,7 +134,8 @@
  * thx_read on one store, into two pages. Two of thx_write on one store may not, even for different
  * blocks. The library takes no lock.
  *
- * Numbers may be anything up to 2^64 - 1: a block or an n that is too large is refused.
+ * Numbers may be anything that their type holds: a block or an n that is too large is refused, and
+ * thx_next takes any place and any position.
  */
 #ifndef THONXILIKO_H
 #define THONXILIKO_H
@@ -174,14 +188,15 @@ extern "C" {
 
 typedef struct { uint32_t number; } thx_done;
 typedef struct { uint32_t number, kind, length, entries; int32_t last; } thx_compared;
-typedef struct { uint32_t number, entries; int32_t last; } thx_applied;
+typedef struct { uint32_t number, entries; int32_t last; uint32_t offset; } thx_applied;
 typedef struct { uint32_t number, kind, length; } thx_judged;
 typedef struct { uint64_t at, len; } thx_part; /* patch[at .. at + len]; both 0 for an empty part */
-typedef struct { uint32_t number, kind; } thx_reading;
+typedef struct { uint32_t number, kind, offset; } thx_reading;
 typedef struct { uint32_t number, kind, length; } thx_written;
-typedef struct { uint32_t number; uint64_t block; } thx_built;
+typedef struct { uint32_t number; uint64_t block; uint32_t offset; } thx_built;
 typedef struct { uint32_t number, pair; } thx_pair;
 typedef struct { uint32_t number; uint64_t patch, full; } thx_tallied;
+typedef struct { uint32_t number, found; uint64_t at; int32_t position; uint32_t value; } thx_entry;
 
 /*
  * Format: make both areas new and empty.
@@ -216,10 +231,45 @@ thx_compared thx_compare(const uint8_t *base, size_t base_len, const uint8_t *pa
  * Refuses, in this order: 1 if base_len is not 0 or 8,192 or page_len is not 8,192; 7 if the
  * payload is not sound. An empty payload is not sound, nor is one of more than 504 bytes.
  * Writes: all 8,192 bytes of `page`.
- * Answers: entries the number of entries applied; last the position of the last one.
+ * Answers: entries the number of entries applied;
+ *          last    the position of the last one;
+ *          offset  with 7, where the payload breaks; else 0.
  */
 thx_applied thx_apply(const uint8_t *base, size_t base_len, const uint8_t *payload,
                       size_t payload_len, uint8_t *page, size_t page_len);
+
+/*
+ * Next: one entry of a payload. Called again and again it reads the payload through.
+ *
+ * `at` is the place in the payload where the entry starts, `position` the position of the entry
+ * before it. A reader begins with 0 and -1. After an entry it goes on with the `at` and `position`
+ * that were given back. So it gives the entries that thx_apply applies, in their order. Where
+ * thx_apply gives 7 and an offset, it gives the entries before that offset and stops there.
+ *
+ * Answers, the first that holds:
+ *   number 7, found 0   the payload is empty or has more than 504 bytes, wherever `at` is;
+ *   number 0, found 0   `at` is at or past the payload's length: the end;
+ *   number 7, found 0   `position` is not from -1 to 8,191;
+ *   number 7, found 0   the entry at `at` is cut off or leaves the page;
+ *   number 0, found 1   an entry: `position` and `value` are its own, the next one starts at `at`.
+ * Without an entry (found 0) `at` and `position` are given back as they were given, and `value` is
+ * 0: the reader stands where it stood. Asked again it answers the same.
+ * Writes: nothing.
+ *
+ * All entries of a payload, and how it came out:
+ *
+ *   thx_entry e = {0, 0, 0, -1, 0};
+ *   do {
+ *       e = thx_next(payload, payload_len, e.at, e.position);
+ *       if (e.found)
+ *           printf("byte %d becomes %u\n", (int)e.position, (unsigned)e.value);
+ *   } while (e.found);
+ *   if (e.number == THX_DONE)
+ *       printf("end\n");
+ *   else
+ *       printf("stopped at offset %u\n", (unsigned)e.at);
+ */
+thx_entry thx_next(const uint8_t *payload, size_t payload_len, uint64_t at, int32_t position);
 
 /*
  * Judge: whether one slot is sound. The payload's entries are not looked at.
@@ -250,7 +300,8 @@ thx_part thx_show(const uint8_t *patch, size_t patch_len, uint64_t block);
  * Other blocks are not looked at.
  * Writes: all 8,192 bytes of `page`: the base for EMPTY, the base with the payload's entries for
  * PATCH, the page in the full area for FULL_REF.
- * Answers: the kind of the block's slot.
+ * Answers: kind    of the block's slot;
+ *          offset  with 7, where the block's payload breaks; else 0.
  */
 thx_reading thx_read(const uint8_t *patch, size_t patch_len, const uint8_t *full, size_t full_len,
                      uint64_t block, const uint8_t *base, size_t base_len, uint8_t *page,
@@ -284,7 +335,8 @@ thx_written thx_write(uint8_t *patch, size_t patch_len, uint8_t *full, size_t fu
  * is not sound, 10 if it is not FULL_REF and its place in the full area is not all zero.
  * Writes: the first n / 4 bytes of the map, rounded up. Unused pairs of the last byte are 0; later
  * bytes stay.
- * Answers: block: the block at fault with 6, 7, 8 and 10, else 0.
+ * Answers: block   the block at fault with 6, 7, 8 and 10, else 0;
+ *          offset  with 7, where the payload of that block breaks; else 0.
  */
 thx_built thx_build(const uint8_t *patch, size_t patch_len, const uint8_t *full, size_t full_len,
                     uint8_t *map, size_t map_len);

@@ -37,6 +37,7 @@ static const struct {
     {"thx_build", BIT(PATCH) | BIT(FULL) | BIT(MAP), BIT(MAP)},
     {"thx_look_up", BIT(MAP), 0},
     {"thx_tally", BIT(MAP), 0},
+    {"thx_next", BIT(PAYLOAD), 0},
 };
 
 int takes(int call, int role) {
@@ -76,8 +77,9 @@ ask sound_ask(int call) {
     memset(&a, 0, sizeof a);
     a.call = call;
     memcpy(a.length, sound, sizeof sound);
-    a.length[PAYLOAD] = call == APPLY ? 2 : 504;
+    a.length[PAYLOAD] = call == APPLY || call == NEXT ? 2 : 504;
     a.n = 3;
+    a.position = -1;
     return a;
 }
 
@@ -119,14 +121,14 @@ static answer call_on_areas(const ask *a, uint8_t *const at[ROLES]) {
     } else if (a->call == READ) {
         thx_reading r = thx_read(at[PATCH], len[PATCH], at[FULL], len[FULL], a->block, at[BASE],
                                  len[BASE], at[PAGE], len[PAGE]);
-        return give(r.number, r.kind, 0, 0, 0);
+        return give(r.number, r.kind, r.offset, 0, 0);
     } else if (a->call == WRITE) {
         thx_written r = thx_write(at[PATCH], len[PATCH], at[FULL], len[FULL], a->block, at[BASE],
                                   len[BASE], at[PAGE], len[PAGE]);
         return give(r.number, r.kind, r.length, 0, 0);
     } else {
         thx_built r = thx_build(at[PATCH], len[PATCH], at[FULL], len[FULL], at[MAP], len[MAP]);
-        return give(r.number, (int64_t)r.block, 0, 0, 0);
+        return give(r.number, (int64_t)r.block, r.offset, 0, 0);
     }
 }
 
@@ -139,7 +141,7 @@ static answer call_on(const ask *a, uint8_t *const at[ROLES]) {
     } else if (a->call == APPLY) {
         thx_applied r = thx_apply(at[BASE], len[BASE], at[PAYLOAD], len[PAYLOAD], at[PAGE],
                                   len[PAGE]);
-        return give(r.number, r.entries, r.last, 0, 0);
+        return give(r.number, r.entries, r.last, r.offset, 0);
     } else if (a->call == JUDGE) {
         thx_judged r = thx_judge(at[SLOT], len[SLOT]);
         return give(r.number, r.kind, r.length, 0, 0);
@@ -149,22 +151,25 @@ static answer call_on(const ask *a, uint8_t *const at[ROLES]) {
     } else if (a->call == TALLY) {
         thx_tallied r = thx_tally(at[MAP], len[MAP], a->n);
         return give(r.number, (int64_t)r.patch, (int64_t)r.full, 0, 0);
+    } else if (a->call == NEXT) {
+        thx_entry r = thx_next(at[PAYLOAD], len[PAYLOAD], a->at, a->position);
+        return give(r.number, r.found, (int64_t)r.at, r.position, r.value);
     }
     return call_on_areas(a, at);
 }
 
 /* A check of a call; if it does not hold the whole ask is told. */
 static void check_call(int holds, const char *what, const ask *a) {
-    char text[300] = "";
+    char text[400] = "";
     if (!holds) {
         const size_t *len = a->length;
         snprintf(text, sizeof text,
                  "%s of %s: patch %lu, full %lu, base %lu, page %lu, payload %lu, map %lu, "
-                 "slot %lu; block %lu, n %lu; bytes made wrong: %d",
+                 "slot %lu; block %lu, n %lu, at %lu, position %ld; bytes made wrong: %d",
                  what, calls[a->call].name, (unsigned long)len[PATCH], (unsigned long)len[FULL],
                  (unsigned long)len[BASE], (unsigned long)len[PAGE], (unsigned long)len[PAYLOAD],
                  (unsigned long)len[MAP], (unsigned long)len[SLOT], (unsigned long)a->block,
-                 (unsigned long)a->n, a->pokes);
+                 (unsigned long)a->n, (unsigned long)a->at, (long)a->position, a->pokes);
     }
     check(holds, text, __FILE__, __LINE__);
 }

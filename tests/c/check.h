@@ -14,7 +14,7 @@
 void check(int holds, const char *what, const char *file, int line);
 #define CHECK(condition) check((condition) ? 1 : 0, #condition, __FILE__, __LINE__)
 
-enum { FORMAT, COMPARE, APPLY, JUDGE, SHOW, READ, WRITE, BUILD, LOOK_UP, TALLY, CALLS };
+enum { FORMAT, COMPARE, APPLY, JUDGE, SHOW, READ, WRITE, BUILD, LOOK_UP, TALLY, NEXT, CALLS };
 enum { PATCH, FULL, BASE, PAGE, PAYLOAD, MAP, SLOT, ROLES };
 #define BIT(number) (1u << (number))
 
@@ -30,6 +30,8 @@ typedef struct {
     size_t length[ROLES]; /* those of buffers that the call does not take are not used */
     uint64_t n;           /* for Look up and Tally; the others see n in the patch area */
     uint64_t block;       /* it also chooses Compare's and Write's page and Judge's slot */
+    uint64_t at;          /* for Next */
+    int32_t position;     /* for Next */
     uint8_t *nowhere;     /* the pointer lent for a buffer of length 0 */
     int pokes;
     poke wrong[2];
@@ -50,9 +52,11 @@ void try_call(const ask *asked, const answer *wanted);
 answer answer_of(const ask *asked);
 void change(const ask *asked, uint8_t *const bytes[ROLES]);
 
-/* refusals.c and lengths.c: tests. */
+/* refusals.c, lengths.c and payloads.c: tests. */
 void every_refusal(void);
 void every_length(void);
 void every_number(void);
+void every_step(void);
+void every_payload(void);
 
 #endif

@@ -59,14 +59,20 @@ static uint8_t map[1];
 static void structs(void) {
     CHECK(sizeof(thx_done) == 4);
     CHECK(sizeof(thx_compared) == 20 && offsetof(thx_compared, last) == 16);
-    CHECK(sizeof(thx_applied) == 12 && offsetof(thx_applied, last) == 8);
+    CHECK(sizeof(thx_applied) == 16 && offsetof(thx_applied, last) == 8);
+    CHECK(offsetof(thx_applied, offset) == 12);
     CHECK(sizeof(thx_judged) == 12 && offsetof(thx_judged, length) == 8);
     CHECK(sizeof(thx_part) == 16 && offsetof(thx_part, len) == 8);
-    CHECK(sizeof(thx_reading) == 8 && offsetof(thx_reading, kind) == 4);
+    CHECK(sizeof(thx_reading) == 12 && offsetof(thx_reading, kind) == 4);
+    CHECK(offsetof(thx_reading, offset) == 8);
     CHECK(sizeof(thx_written) == 12 && offsetof(thx_written, length) == 8);
-    CHECK(sizeof(thx_built) == 16 && offsetof(thx_built, block) == 8);
+    CHECK(sizeof(thx_built) == 24 && offsetof(thx_built, block) == 8);
+    CHECK(offsetof(thx_built, offset) == 16);
     CHECK(sizeof(thx_pair) == 8 && offsetof(thx_pair, pair) == 4);
     CHECK(sizeof(thx_tallied) == 24 && offsetof(thx_tallied, full) == 16);
+    CHECK(sizeof(thx_entry) == 24 && offsetof(thx_entry, found) == 4);
+    CHECK(offsetof(thx_entry, at) == 8 && offsetof(thx_entry, position) == 16);
+    CHECK(offsetof(thx_entry, value) == 20);
 }
 
 static const uint8_t stream[2] = {0x00, 0x07};
@@ -90,6 +96,7 @@ static void example_page(void) {
     memset(again, 0xEE, sizeof again);
     applied = thx_apply(base, sizeof base, stream, sizeof stream, again, sizeof again);
     CHECK(applied.number == THX_DONE && applied.entries == 1 && applied.last == 0);
+    CHECK(applied.offset == 0);
     CHECK(memcmp(again, page, sizeof page) == 0);
 }
 
@@ -118,7 +125,7 @@ static void example_block(void) {
 
     memset(again, 0xEE, sizeof again);
     reading = thx_read(patch, sizeof patch, full, sizeof full, 1, NULL, 0, again, sizeof again);
-    CHECK(reading.number == THX_DONE && reading.kind == THX_KIND_PATCH);
+    CHECK(reading.number == THX_DONE && reading.kind == THX_KIND_PATCH && reading.offset == 0);
     CHECK(memcmp(again, page, sizeof page) == 0);
 }
 
@@ -136,7 +143,7 @@ static void example_map(void) {
     CHECK(memcmp(full + THX_FULL_HEADER_SIZE, page, sizeof page) == 0);
 
     built = thx_build(patch, sizeof patch, full, sizeof full, map, sizeof map);
-    CHECK(built.number == THX_DONE && built.block == 0 && map[0] == 0x09);
+    CHECK(built.number == THX_DONE && built.block == 0 && built.offset == 0 && map[0] == 0x09);
     pair = thx_look_up(map, sizeof map, 2, 0);
     CHECK(pair.number == THX_DONE && pair.pair == THX_PAIR_FULL);
     pair = thx_look_up(map, sizeof map, 2, 1);
@@ -175,6 +182,10 @@ static void sizes(void) {
               == area_number);
         CHECK(thx_format(patch, sizeof patch, full, THX_FULL_HEADER_SIZE + THX_PAGE_SIZE + more)
                   .number == area_number);
+        /* The longest payload, of entries 00 00. A longer one has none, a shorter one breaks. */
+        CHECK(thx_next(room, THX_PAYLOAD_SIZE + more, 502, 250).found == (more == 0 ? 1u : 0u));
+        CHECK(thx_apply(NULL, 0, room, THX_PAYLOAD_SIZE + more, result, THX_PAGE_SIZE).offset
+              == (more < 0 ? 502u : 0u));
         /* A longer payload buffer and a smaller n are as good. */
         CHECK(thx_compare(NULL, 0, page, THX_PAGE_SIZE, result, THX_PAYLOAD_SIZE + more).number
               == (more < 0 ? THX_SHORT_BUFFER : THX_DONE));
@@ -249,6 +260,8 @@ int main(void) {
         every_refusal();
         every_length();
         every_number();
+        every_step();
+        every_payload();
     }
     printf("%lu checks, %lu failed\n", checks, failures);
     return failures == 0 ? EXIT_SUCCESS : EXIT_FAILURE;

@@ -50,6 +50,35 @@ void every_length(void) {
     }
 }
 
+/*
+ * Every length of a payload from 0 to 506, read from the places near its edges and from any other,
+ * with positions on both sides of each edge.
+ */
+void every_step(void) {
+    static const int32_t positions[] = {-1,   0,    8183, 8184,      8190,
+                                        8191, 8192, -2,   INT32_MAX, INT32_MIN};
+    static const uint64_t far[] = {506, 507, UINT64_C(0x100000000), UINT64_C(0x100000002),
+                                   UINT64_C(0x8000000000000000), UINT64_C(0xFFFFFFFFFFFFFFFF)};
+    ask a = sound_ask(NEXT);
+    size_t k, length, position;
+    for (length = 0; length <= 506; length++) {
+        a.length[PAYLOAD] = length;
+        for (position = 0; position < sizeof positions / sizeof positions[0]; position++) {
+            a.position = positions[position];
+            for (k = 0; k < 4; k++) {
+                a.at = k;
+                try_by_rules(&a);
+                a.at = length - 2 + k; /* of a payload of 0 or 1 bytes far past its end */
+                try_by_rules(&a);
+            }
+            for (k = 0; k < sizeof far / sizeof far[0]; k++) {
+                a.at = far[k];
+                try_by_rules(&a);
+            }
+        }
+    }
+}
+
 /* Where a number could be cut to 31 or 32 bits, or a product with 512 or 8,192 could wrap. */
 static const uint64_t numbers[] = {
     0, 1, 2, 3, 4, 5, 1999, 2000, 131071, 131072, 131073,

@@ -6,16 +6,17 @@
 
 #include <string.h>
 
-enum { LENGTH, BYTE, COUNT, BLOCK };
+enum { LENGTH, BYTE, COUNT, BLOCK, PLACE, POSITION };
 
 typedef struct {
     unsigned calls;
     uint32_t number, paper;
-    int sort;       /* what is wrong: a length, a byte, n or the block */
+    int sort;       /* what is wrong: a length, a byte, n, the block, or a reader's start */
     int role;       /* the buffer, for a length and a byte */
-    size_t at;      /* the length, the place of the byte, or n */
+    size_t at;      /* the length, the place of the byte, n, a reader's place or position */
     uint8_t value;  /* the byte */
     uint64_t block; /* the block asked for or, with Build, at fault */
+    int64_t offset; /* where the payload breaks */
 } row;
 
 /* The block does not matter. */
@@ -28,49 +29,61 @@ typedef struct {
 
 /* In the order of document 01: of two rows for one call the upper one is given. */
 static const row rows[] = {
-    {PAGES, THX_BAD_PAGE_LENGTH, 1, LENGTH, BASE, 8191, 0, ANY},
-    {PAGES, THX_BAD_PAGE_LENGTH, 1, LENGTH, PAGE, 8191, 0, ANY},
-    {AREAS | BIT(FORMAT) | BIT(SHOW), THX_BAD_AREA_LENGTH, 2, LENGTH, PATCH, 2047, 0, ANY},
-    {AREAS | BIT(FORMAT), THX_BAD_AREA_LENGTH, 2, LENGTH, FULL, 4095, 0, ANY},
-    {AREAS | BIT(FORMAT), THX_BAD_AREA_LENGTH, 2, LENGTH, FULL, 36864, 0, ANY}, /* m over n */
-    {BIT(JUDGE), THX_BAD_AREA_LENGTH, 2, LENGTH, SLOT, 511, 0, ANY},
-    {MAPS, THX_BAD_AREA_LENGTH, 2, COUNT, 0, 131073, 0, ANY},
-    {BIT(COMPARE), THX_SHORT_BUFFER, 9, LENGTH, PAYLOAD, 503, 0, ANY},
-    {MAPS | BIT(BUILD), THX_SHORT_BUFFER, 9, LENGTH, MAP, 0, 0, ANY},
-    {AREAS | BIT(SHOW), THX_BAD_HEADER, 3, BYTE, PATCH, 0, 'b', ANY},
-    {AREAS | BIT(SHOW), THX_BAD_VERSION, 4, BYTE, PATCH, 8, 1, ANY},
-    {AREAS | BIT(SHOW), THX_BAD_HEADER, 3, BYTE, PATCH, 10, 1, ANY},
-    {AREAS | BIT(SHOW), THX_BAD_HEADER, 3, BYTE, PATCH, 13, 0, ANY},
-    {AREAS | BIT(SHOW), THX_BAD_HEADER, 3, BYTE, PATCH, 17, 0, ANY},
-    {AREAS | BIT(SHOW), THX_BAD_HEADER, 3, BYTE, PATCH, 511, 1, ANY},
-    {AREAS, THX_BAD_HEADER, 3, BYTE, FULL, 7, 'L', ANY},
-    {AREAS, THX_BAD_VERSION, 4, BYTE, FULL, 8, 2, ANY},
-    {AREAS, THX_BAD_HEADER, 3, BYTE, FULL, 11, 1, ANY},
-    {AREAS, THX_BAD_HEADER, 3, BYTE, FULL, 13, 0, ANY},
-    {AREAS, THX_BAD_HEADER, 3, BYTE, FULL, 17, 2, ANY},
-    {AREAS, THX_BAD_HEADER, 3, BYTE, FULL, 4095, 1, ANY},
-    {BIT(SHOW) | BIT(READ) | BIT(WRITE), THX_BAD_BLOCK, 5, BLOCK, 0, 0, 0, 5}, /* a large page */
-    {BIT(LOOK_UP), THX_BAD_BLOCK, 5, BLOCK, 0, 0, 0, 3},
-    {BIT(JUDGE), THX_BAD_SLOT, 6, BYTE, SLOT, 0, 3, 0},
-    {BIT(JUDGE), THX_BAD_SLOT, 6, BYTE, SLOT, 2, 0, 0},   /* payload length 0 */
-    {BIT(JUDGE), THX_BAD_SLOT, 6, BYTE, SLOT, 511, 1, 1}, /* FULL_REF is zero but for its kind */
-    {BIT(JUDGE), THX_BAD_SLOT, 6, BYTE, SLOT, 8, 1, 2},   /* EMPTY is zero */
-    {SLOTS, THX_BAD_SLOT, 6, BYTE, PATCH, 512, 3, 0},
-    {SLOTS, THX_BAD_SLOT, 6, BYTE, PATCH, 513, 0, 0},
-    {SLOTS, THX_BAD_SLOT, 6, BYTE, PATCH, 515, 2, 0}, /* payload length 514 */
-    {SLOTS, THX_BAD_SLOT, 6, BYTE, PATCH, 519, 1, 0},
-    {SLOTS, THX_BAD_SLOT, 6, BYTE, PATCH, 1023, 1, 0}, /* not zero after the payload */
-    {SLOTS, THX_BAD_SLOT, 6, BYTE, PATCH, 1535, 1, 1},
-    {SLOTS, THX_BAD_SLOT, 6, BYTE, PATCH, 1536, 4, 2},
-    {BIT(READ) | BIT(BUILD), THX_NO_FULL_PAGE, 8, LENGTH, FULL, 12288, 0, 1},
-    {BIT(WRITE), THX_NO_FULL_PAGE, 8, LENGTH, FULL, 20480, 0, 2},
-    {BIT(APPLY), THX_BAD_PAYLOAD, 7, LENGTH, PAYLOAD, 505, 0, 0},
-    {BIT(APPLY), THX_BAD_PAYLOAD, 7, BYTE, PAYLOAD, 0, 255, 0}, /* ends inside its entry */
-    {BIT(READ) | BIT(BUILD), THX_BAD_PAYLOAD, 7, BYTE, PATCH, 520, 255, 0},
-    {BIT(BUILD), THX_STRAY_PAGE, 10, BYTE, FULL, 4096, 1, 0},
-    {BIT(BUILD), THX_STRAY_PAGE, 10, BYTE, FULL, 28671, 1, 2},
-    {MAPS, THX_BAD_PAIR, 11, BYTE, MAP, 0, 0xC7, 0}, /* the pairs of blocks 0 and 3 are 3 */
-    {BIT(TALLY), THX_BAD_PAIR, 11, BYTE, MAP, 0, 0x46, 0}, /* the pair past n */
+    {PAGES, THX_BAD_PAGE_LENGTH, 1, LENGTH, BASE, 8191, 0, ANY, 0},
+    {PAGES, THX_BAD_PAGE_LENGTH, 1, LENGTH, PAGE, 8191, 0, ANY, 0},
+    {AREAS | BIT(FORMAT) | BIT(SHOW), THX_BAD_AREA_LENGTH, 2, LENGTH, PATCH, 2047, 0, ANY, 0},
+    {AREAS | BIT(FORMAT), THX_BAD_AREA_LENGTH, 2, LENGTH, FULL, 4095, 0, ANY, 0},
+    {AREAS | BIT(FORMAT), THX_BAD_AREA_LENGTH, 2, LENGTH, FULL, 36864, 0, ANY, 0}, /* m over n */
+    {BIT(JUDGE), THX_BAD_AREA_LENGTH, 2, LENGTH, SLOT, 511, 0, ANY, 0},
+    {MAPS, THX_BAD_AREA_LENGTH, 2, COUNT, 0, 131073, 0, ANY, 0},
+    {BIT(COMPARE), THX_SHORT_BUFFER, 9, LENGTH, PAYLOAD, 503, 0, ANY, 0},
+    {MAPS | BIT(BUILD), THX_SHORT_BUFFER, 9, LENGTH, MAP, 0, 0, ANY, 0},
+    {AREAS | BIT(SHOW), THX_BAD_HEADER, 3, BYTE, PATCH, 0, 'b', ANY, 0},
+    {AREAS | BIT(SHOW), THX_BAD_VERSION, 4, BYTE, PATCH, 8, 1, ANY, 0},
+    {AREAS | BIT(SHOW), THX_BAD_HEADER, 3, BYTE, PATCH, 10, 1, ANY, 0},
+    {AREAS | BIT(SHOW), THX_BAD_HEADER, 3, BYTE, PATCH, 13, 0, ANY, 0},
+    {AREAS | BIT(SHOW), THX_BAD_HEADER, 3, BYTE, PATCH, 17, 0, ANY, 0},
+    {AREAS | BIT(SHOW), THX_BAD_HEADER, 3, BYTE, PATCH, 511, 1, ANY, 0},
+    {AREAS, THX_BAD_HEADER, 3, BYTE, FULL, 7, 'L', ANY, 0},
+    {AREAS, THX_BAD_VERSION, 4, BYTE, FULL, 8, 2, ANY, 0},
+    {AREAS, THX_BAD_HEADER, 3, BYTE, FULL, 11, 1, ANY, 0},
+    {AREAS, THX_BAD_HEADER, 3, BYTE, FULL, 13, 0, ANY, 0},
+    {AREAS, THX_BAD_HEADER, 3, BYTE, FULL, 17, 2, ANY, 0},
+    {AREAS, THX_BAD_HEADER, 3, BYTE, FULL, 4095, 1, ANY, 0},
+    {BIT(SHOW) | BIT(READ) | BIT(WRITE), THX_BAD_BLOCK, 5, BLOCK, 0, 0, 0, 5, 0}, /* a large page */
+    {BIT(LOOK_UP), THX_BAD_BLOCK, 5, BLOCK, 0, 0, 0, 3, 0},
+    {BIT(JUDGE), THX_BAD_SLOT, 6, BYTE, SLOT, 0, 3, 0, 0},
+    {BIT(JUDGE), THX_BAD_SLOT, 6, BYTE, SLOT, 2, 0, 0, 0},   /* payload length 0 */
+    {BIT(JUDGE), THX_BAD_SLOT, 6, BYTE, SLOT, 511, 1, 1, 0}, /* FULL_REF is zero but for its kind */
+    {BIT(JUDGE), THX_BAD_SLOT, 6, BYTE, SLOT, 8, 1, 2, 0},   /* EMPTY is zero */
+    {SLOTS, THX_BAD_SLOT, 6, BYTE, PATCH, 512, 3, 0, 0},
+    {SLOTS, THX_BAD_SLOT, 6, BYTE, PATCH, 513, 0, 0, 0},
+    {SLOTS, THX_BAD_SLOT, 6, BYTE, PATCH, 515, 2, 0, 0}, /* payload length 514 */
+    {SLOTS, THX_BAD_SLOT, 6, BYTE, PATCH, 519, 1, 0, 0},
+    {SLOTS, THX_BAD_SLOT, 6, BYTE, PATCH, 1023, 1, 0, 0}, /* not zero after the payload */
+    {SLOTS, THX_BAD_SLOT, 6, BYTE, PATCH, 1535, 1, 1, 0},
+    {SLOTS, THX_BAD_SLOT, 6, BYTE, PATCH, 1536, 4, 2, 0},
+    {BIT(READ) | BIT(BUILD), THX_NO_FULL_PAGE, 8, LENGTH, FULL, 12288, 0, 1, 0},
+    {BIT(WRITE), THX_NO_FULL_PAGE, 8, LENGTH, FULL, 20480, 0, 2, 0},
+    {BIT(APPLY), THX_BAD_PAYLOAD, 7, LENGTH, PAYLOAD, 505, 0, 0, 0},
+    {BIT(APPLY), THX_BAD_PAYLOAD, 7, BYTE, PAYLOAD, 0, 255, 0, 0}, /* ends inside its entry */
+    {BIT(APPLY), THX_BAD_PAYLOAD, 7, LENGTH, PAYLOAD, 3, 0, 0, 2}, /* ends inside the next entry */
+    {BIT(READ) | BIT(BUILD), THX_BAD_PAYLOAD, 7, BYTE, PATCH, 520, 255, 0, 0},
+    {BIT(READ) | BIT(BUILD), THX_BAD_PAYLOAD, 7, BYTE, PATCH, 514, 3, 0, 2}, /* payload length 3 */
+    {BIT(BUILD), THX_STRAY_PAGE, 10, BYTE, FULL, 4096, 1, 0, 0},
+    {BIT(BUILD), THX_STRAY_PAGE, 10, BYTE, FULL, 28671, 1, 2, 0},
+    {MAPS, THX_BAD_PAIR, 11, BYTE, MAP, 0, 0xC7, 0, 0}, /* the pairs of blocks 0 and 3 are 3 */
+    {BIT(TALLY), THX_BAD_PAIR, 11, BYTE, MAP, 0, 0x46, 0, 0}, /* the pair past n */
+    /* A reader's own order, with the end among what keeps it from an entry. */
+    {BIT(NEXT), THX_BAD_PAYLOAD, 7, LENGTH, PAYLOAD, 0, 0, ANY, 0},
+    {BIT(NEXT), THX_BAD_PAYLOAD, 7, LENGTH, PAYLOAD, 505, 0, ANY, 0},
+    {BIT(NEXT), THX_DONE, 0, PLACE, 0, 505, 0, ANY, 0},
+    {BIT(NEXT), THX_DONE, 0, PLACE, 0, SIZE_MAX, 0, ANY, 0},
+    {BIT(NEXT), THX_BAD_PAYLOAD, 7, POSITION, 0, 8192, 0, ANY, 0},
+    {BIT(NEXT), THX_BAD_PAYLOAD, 7, POSITION, 0, (size_t)-2, 0, ANY, 0},
+    {BIT(NEXT), THX_BAD_PAYLOAD, 7, POSITION, 0, INT32_MAX, 0, ANY, 0},
+    {BIT(NEXT), THX_BAD_PAYLOAD, 7, POSITION, 0, 8191, 0, ANY, 0},  /* the entry leaves the page */
+    {BIT(NEXT), THX_BAD_PAYLOAD, 7, BYTE, PAYLOAD, 0, 255, ANY, 0}, /* ends inside its entry */
 };
 #define ROWS (sizeof rows / sizeof rows[0])
 
@@ -82,6 +95,10 @@ static void spoil(ask *a, const row *r) {
         a->length[r->role] = r->at;
     } else if (r->sort == COUNT) {
         a->n = r->at;
+    } else if (r->sort == PLACE) {
+        a->at = r->at;
+    } else if (r->sort == POSITION) {
+        a->position = (int32_t)r->at;
     } else if (r->sort == BYTE) {
         a->wrong[a->pokes].role = r->role;
         a->wrong[a->pokes].at = r->at;
@@ -94,7 +111,17 @@ static void try_refusal(const ask *a, const row *r) {
     answer wanted;
     memset(&wanted, 0, sizeof wanted);
     wanted.number = r->number;
-    wanted.rest[0] = a->call == BUILD && r->block != ANY ? (int64_t)r->block : 0;
+    if (a->call == BUILD) {
+        wanted.rest[0] = r->block != ANY ? (int64_t)r->block : 0;
+        wanted.rest[1] = r->offset;
+    } else if (a->call == READ) {
+        wanted.rest[1] = r->offset;
+    } else if (a->call == APPLY) {
+        wanted.rest[2] = r->offset;
+    } else if (a->call == NEXT) { /* it stands where it stood */
+        wanted.rest[1] = (int64_t)a->at;
+        wanted.rest[2] = a->position;
+    }
     try_call(a, &wanted);
 }
 

@@ -75,6 +75,33 @@ static uint32_t length_refusal(const ask *a) {
     return THX_DONE;
 }
 
+/* What the scene's payload has at a reader's place: 00 07 there, or 07 00 inside an entry. */
+static int32_t jump_at(const ask *a) {
+    return a->at % 2 == 0 ? 0 : 7;
+}
+
+static int at_end(const ask *a) {
+    return a->at >= a->length[PAYLOAD];
+}
+
+/* 7 from a reader, or 0 with an entry and at the end. */
+static uint32_t step_refusal(const ask *a) {
+    size_t payload = a->length[PAYLOAD];
+    if (payload == 0 || payload > 504) {
+        return THX_BAD_PAYLOAD;
+    }
+    if (at_end(a)) {
+        return THX_DONE;
+    }
+    if (a->position < -1 || a->position > 8191) {
+        return THX_BAD_PAYLOAD;
+    }
+    if (a->at + 2 > payload || a->position + jump_at(a) + 1 > 8191) {
+        return THX_BAD_PAYLOAD;
+    }
+    return THX_DONE;
+}
+
 /* 5, 8, 7 and 11, once the lengths are right. The headers and slots of the scene are sound. */
 static uint32_t later_refusal(const ask *a) {
     size_t payload = a->length[PAYLOAD];
@@ -94,6 +121,9 @@ static uint32_t later_refusal(const ask *a) {
     /* Every entry is 00 07, so an odd payload ends inside one. */
     if (a->call == APPLY && (payload == 0 || payload > 504 || payload % 2 != 0)) {
         return THX_BAD_PAYLOAD;
+    }
+    if (a->call == NEXT) {
+        return step_refusal(a);
     }
     /* In each byte of the map the second pair is not 0. */
     if (a->call == TALLY && a->n % 4 == 1) {
@@ -129,6 +159,22 @@ static void set_members(const ask *a, int64_t rest[4]) {
     } else if (a->call == TALLY) {
         rest[0] = (int64_t)(a->n + 3) / 4;
         rest[1] = (int64_t)(a->n + 2) / 4;
+    } else if (a->call == NEXT && !at_end(a)) {
+        rest[0] = 1;
+        rest[1] = (int64_t)a->at + 2;
+        rest[2] = a->position + jump_at(a) + 1;
+        rest[3] = a->at % 2 == 0 ? 7 : 0;
+    }
+}
+
+/* The other members of a refusal that are not 0: Build's block and Apply's offset. */
+static void set_refused(const ask *a, uint32_t number, int64_t rest[4]) {
+    if (a->call == BUILD && number == THX_NO_FULL_PAGE) {
+        rest[0] = 1;
+    } else if (a->call == APPLY && number == THX_BAD_PAYLOAD) {
+        /* The entry without a value; none counts in a payload that is empty or too long. */
+        size_t payload = a->length[PAYLOAD];
+        rest[2] = payload == 0 || payload > 504 ? 0 : (int64_t)payload - 1;
     }
 }
 
@@ -139,10 +185,14 @@ answer answer_of(const ask *a) {
     if (r.number == THX_DONE) {
         r.number = later_refusal(a);
     }
+    if (a->call == NEXT) { /* without an entry it stands where it stood */
+        r.rest[1] = (int64_t)a->at;
+        r.rest[2] = a->position;
+    }
     if (r.number == THX_DONE) {
         set_members(a, r.rest);
-    } else if (a->call == BUILD && r.number == THX_NO_FULL_PAGE) {
-        r.rest[0] = 1; /* the block */
+    } else {
+        set_refused(a, r.number, r.rest);
     }
     return r;
 }

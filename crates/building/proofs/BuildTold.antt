@@ -14,12 +14,14 @@ use Rattle.slots.specs.Slots.{slotNumbers, stateNumbers, payloadOf}
 use Rattle.slots.specs.SlotLaws.{told-patch}
 use Rattle.slots.specs.declared.SlotState.{SlotState}
 use Rattle.slots.specs.declared.SlotState.the-variants.{Empty, Patch, Full, Unsound}
-use Rattle.payload.specs.Entries.{sound}
+use Rattle.payload.specs.Entries.{sound, breaksAt, offsetWith}
+use Rattle.payload.specs.EntryLaws.{offset-other}
 use Rattle.payload.specs.Steps.{reach, checkedNumbers, checkNumbers}
-use Rattle.payload.specs.StepLaws.{Judges, judged}
+use Rattle.payload.specs.StepLaws.{UnsoundAt, Judges, judged}
 use Rattle.payload.specs.declared.Checked.{Checked}
 use Rattle.payload.specs.declared.Checked.the-variants.{Unsound as Broken, Sound}
 use Rattle.layout.specs.Refusals.{firstOf}
+use Rattle.layout.specs.FirstFault.{BlockFault}
 use Rattle.layout.specs.Lengths.{blocksIn, pagesIn}
 use Rattle.layout.specs.LengthLaws.{patch-fits-is}
 use Rattle.blockmap.specs.Pairs.{mapBytes}
@@ -31,14 +33,18 @@ use Rattle.store.specs.declared.Opened.the-variants.{Refused, Frame}
 use Rattle.layout.specs.Numbers.{refusalNumber}
 use Rattle.layout.specs.declared.Refusal.{Refusal}
 use Rattle.building.specs.Build.{blockFault, buildRows}
-use Rattle.building.specs.Steps.{straysIn}
+use Rattle.building.specs.Steps.{straysIn, FindingNumbers, blockFinding, faultNumbers}
 use Rattle.building.specs.BuildLaws.{block-unsound, block-full-none, block-full, block-payload, block-patch, block-empty}
-use Rattle.building.specs.BuildLaws.{not-fits, build-frame}
+use Rattle.building.specs.BuildLaws.{strays-other, not-fits, build-frame}
 
 pub place-told : (P : ℕ) (full : List ℕ) (b at : ℕ) (r : Bool) → at ≡ pageAt P b → r ≡ same (part at P full) (zeros P)
     → same (placeOf P full b) (zeros P) ≡ r
 unfolding placeOf
 place-told P full b at r e f = ap (λ (k : ℕ). same (part k P full) (zeros P)) (sym e) ∙ sym f
+
+-- a number with no offset
+pub stray-number : {k n : ℕ} → k ≡ n → _≡_ {A = FindingNumbers} (record { number = k; offset = 0 }) (record { number = n; offset = 0 })
+stray-number e = λ i. record { number = e i; offset = 0 }
 
 -- one block, by what its slot was found to be
 module _ (P : ℕ) (patch full : List ℕ) (b at : ℕ) (slot : List ℕ) (r : SlotState)
@@ -50,17 +56,24 @@ module _ (P : ℕ) (patch full : List ℕ) (b at : ℕ) (slot : List ℕ) (r : S
   state : {x : SlotState} → r ≡ x → slotNumbers (slotOf patch b) ≡ stateNumbers x
   state q = sym (ap slotNumbers is) ∙ sym g ∙ ap stateNumbers q
 
-  pub told-unsound : r ≡ Unsound → 6 ≡ blockFault P patch full b
-  told-unsound q = sym (block-unsound P patch full b (state q))
+  -- a number that is not 7 has no offset
+  finding : (k : ℕ) → (k ≡ 7 → ⊥) → k ≡ blockFault P patch full b → record { number = k; offset = 0 } ≡ blockFinding P patch full b
+  finding k n q = λ i. record {
+    number = q i;
+    offset = (sym (offset-other k P (payloadOf (slotOf patch b)) n) ∙ ap (λ (j : ℕ). offsetWith j P (payloadOf (slotOf patch b))) q) i;
+  }
 
-  pub told-full-none : r ≡ Full → pagesIn P (length full) ≤ b → 8 ≡ blockFault P patch full b
-  told-full-none q l = sym (block-full-none P patch full b (state q) l)
+  pub told-unsound : r ≡ Unsound → record { number = 6; offset = 0 } ≡ blockFinding P patch full b
+  told-unsound q = finding 6 (λ z. omega arith) (sym (block-unsound P patch full b (state q)))
 
-  pub told-full : r ≡ Full → b < pagesIn P (length full) → 0 ≡ blockFault P patch full b
-  told-full q l = sym (block-full P patch full b (state q) l)
+  pub told-full-none : r ≡ Full → pagesIn P (length full) ≤ b → record { number = 8; offset = 0 } ≡ blockFinding P patch full b
+  told-full-none q l = finding 8 (λ z. omega arith) (sym (block-full-none P patch full b (state q) l))
 
-  pub told-empty : r ≡ Empty → straysIn P full b ≡ blockFault P patch full b
-  told-empty q = sym (block-empty P patch full b (state q))
+  pub told-full : r ≡ Full → b < pagesIn P (length full) → record { number = 0; offset = 0 } ≡ blockFinding P patch full b
+  told-full q l = finding 0 (λ z. omega arith) (sym (block-full P patch full b (state q) l))
+
+  pub told-empty : r ≡ Empty → record { number = straysIn P full b; offset = 0 } ≡ blockFinding P patch full b
+  told-empty q = finding (straysIn P full b) (strays-other P full b) (sym (block-empty P patch full b (state q)))
 
   module _ (n : ℕ) (payload : List ℕ) (j : Checked) (q : r ≡ Patch n) (h : payload ≡ part payloadAt n slot) (z : Sized P)
       (told : checkedNumbers j ≡ checkNumbers (reach P) payload) where
@@ -80,11 +93,29 @@ module _ (P : ℕ) (patch full : List ℕ) (b at : ℕ) (slot : List ℕ) (r : S
     is-sound : sound P (payloadOf (slotOf patch b)) ≡ sound P payload
     is-sound = sym (ap (λ (p : List ℕ). sound P p) same-payload)
 
-    pub told-payload : j ≡ Broken → 7 ≡ blockFault P patch full b
-    told-payload w = sym (block-payload P patch full b n (state q) (is-sound ∙ subst (λ (x : Checked). Judges P payload x) w (judged P payload j numbers)))
+    pub told-payload : (o : ℕ) → j ≡ Broken o → record { number = 7; offset = o } ≡ blockFinding P patch full b
+    told-payload o w =
+        let u : UnsoundAt P payload o = subst (λ (x : Checked). Judges P payload x) w (judged P payload j numbers) in
+        let e : 7 ≡ blockFault P patch full b = sym (block-payload P patch full b n (state q) (is-sound ∙ u .is)) in
+        λ i. record {
+          number = e i;
+          offset = (u .at ∙ ap (breaksAt P) same-payload ∙ ap (λ (k : ℕ). offsetWith k P (payloadOf (slotOf patch b))) e) i;
+        }
 
-    pub told-patched : {count : ℕ} {last : ℤ} → j ≡ Sound count last → straysIn P full b ≡ blockFault P patch full b
-    told-patched w = sym (block-patch P patch full b n (state q) (is-sound ∙ subst (λ (x : Checked). Judges P payload x) w (judged P payload j numbers) .is))
+    pub told-patched : {count : ℕ} {last : ℤ} → j ≡ Sound count last
+        → record { number = straysIn P full b; offset = 0 } ≡ blockFinding P patch full b
+    told-patched w =
+        finding (straysIn P full b) (strays-other P full b)
+        (sym (block-patch P patch full b n (state q) (is-sound ∙ subst (λ (x : Checked). Judges P payload x) w (judged P payload j numbers) .is)))
+
+-- the first fault, with the offset that was found at its block
+pub found-numbers : (P : ℕ) (patch full : List ℕ) (b k o : ℕ) (f : BlockFault) → f ≡ record { number = k; block = b }
+    → blockFinding P patch full b ≡ record { number = k; offset = o }
+    → record { number = k; block = b; offset = o } ≡ faultNumbers P patch f
+found-numbers P patch full b k o f e w =
+    sym (ap (λ (x : BlockFault). faultNumbers P patch x) e
+    ∙ ap (λ (x : ℕ). record { number = k; block = b; offset = x })
+    (ap (λ (x : FindingNumbers). offsetWith (x .number) P (payloadOf (slotOf patch b))) (sym w) ∙ ap (λ (x : FindingNumbers). x .offset) w))
 
 -- what a call with a map is told: its own rows, and what it works with, by the opened size
 pub record Lent (P : ℕ) (patch full map : List ℕ) (size n m : ℕ) : Type 0 where

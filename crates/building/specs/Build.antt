@@ -14,7 +14,8 @@ use Rattle.layout.specs.Groups as group
 use Rattle.layout.specs.FirstFault.{BlockFault, firstFault}
 use Rattle.layout.specs.Lengths.{blocksIn, pagesIn, lengthRows}
 use Rattle.headers.specs.Headers.{headerRows}
-use Rattle.slots.specs.Slots.{slotNumbers}
+use Rattle.slots.specs.Slots.{slotNumbers, payloadOf}
+use Rattle.payload.specs.Entries.{offsetWith}
 use Rattle.blockmap.specs.Pairs.{mapBytes}
 use Rattle.blockmap.specs.Pack.{pairOf, packed}
 use Rattle.store.specs.Block.{slotOf, placeOf, slotRows, fullRows, payloadRows}
@@ -42,6 +43,10 @@ faultRows P patch full b = ordered (faultGroups P patch full b)
 unfoldable pub blockFault : ℕ → List ℕ → List ℕ → ℕ → ℕ
 blockFault P patch full b = firstOf (faultRows P patch full b)
 
+-- and where its payload breaks, if that is what is wrong first
+abbrev pub blockOffset : ℕ → List ℕ → List ℕ → ℕ → ℕ
+blockOffset P patch full b = offsetWith (blockFault P patch full b) P (payloadOf (slotOf patch b))
+
 -- "Build takes blocks in rising order and stops at the first fault"
 abbrev pub buildFault : ℕ → List ℕ → List ℕ → BlockFault
 buildFault P patch full = firstFault (blockFault P patch full) 0 (blocksIn (length patch))
@@ -63,14 +68,15 @@ builtMap patch = packed (λ b. pairOf (slotNumbers (slotOf patch b) .kind)) (blo
 pub record BuildOutcome : Type 0 where
   pub number : ℕ
   pub block : ℕ
+  pub offset : ℕ
   pub map : List ℕ
 
--- done, and refused: the map keeps every byte
+-- done, and refused: the map keeps every byte, and the offset goes with 7 alone
 abbrev pub buildDone : List ℕ → BuildOutcome
-buildDone map = record { number = 0; block = 0; map = map }
+buildDone map = record { number = 0; block = 0; offset = 0; map = map }
 
-abbrev pub buildRefused : ℕ → ℕ → List ℕ → BuildOutcome
-buildRefused number block map = record { number = number; block = block; map = map }
+abbrev pub buildRefused : ℕ → ℕ → ℕ → List ℕ → BuildOutcome
+buildRefused number block offset map = record { number = number; block = block; offset = offset; map = map }
 
 unfoldable pub buildOutcome : ℕ → List ℕ → List ℕ → List ℕ → BuildOutcome
 buildOutcome P patch full map =
@@ -78,20 +84,21 @@ buildOutcome P patch full map =
     decided (firstOf (buildRows P patch full map))
     (decided (fault .number)
     (buildDone (splice map 0 (builtMap patch)))
-    (λ n. buildRefused n (fault .block) map))
-    (λ n. buildRefused n 0 map)
+    (λ k. buildRefused k (fault .block) (offsetWith k P (payloadOf (slotOf patch (fault .block)))) map))
+    (λ k. buildRefused k 0 0 map)
 
 -- the paper's numbers for each case of the answer
 pub record BuildNumbers : Type 0 where
   pub number : ℕ
   pub block : ℕ
+  pub offset : ℕ
 
 abbrev pub builtNumbers : Built → BuildNumbers
-builtNumbers Done = record { number = 0; block = 0 }
-builtNumbers (Refused r b) = record { number = refusalNumber r; block = b }
+builtNumbers Done = record { number = 0; block = 0; offset = 0 }
+builtNumbers (Refused r b offset) = record { number = refusalNumber r; block = b; offset = offset }
 
 abbrev pub buildNumbers : BuildOutcome → BuildNumbers
-buildNumbers o = record { number = o .number; block = o .block }
+buildNumbers o = record { number = o .number; block = o .block; offset = o .offset }
 
 pub record Build (P : ℕ) (patch full map : List ℕ) (answer : Built) (map′ : List ℕ) : Type 0 where
   pub numbers : builtNumbers answer ≡ buildNumbers (buildOutcome P patch full map)

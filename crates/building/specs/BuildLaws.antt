@@ -17,7 +17,7 @@ use Rattle.layout.specs.GroupLaws.{in-halves}
 use Rattle.layout.specs.Lengths.{blocksIn, pagesIn}
 use Rattle.headers.specs.Headers.{headerRows}
 use Rattle.slots.specs.Slots.{slotNumbers, soundSlot, unsoundSlot, payloadOf}
-use Rattle.payload.specs.Entries.{sound}
+use Rattle.payload.specs.Entries.{sound, offsetWith}
 use Rattle.blockmap.specs.Pairs.{mapBytes}
 use Rattle.store.specs.Block.{slotOf, placeOf, slotRows, fullRows, payloadRows}
 use Rattle.store.specs.Frame.{frameRows}
@@ -44,6 +44,14 @@ module _ (P : ℕ) (full : List ℕ) (b : ℕ) where
   pub stray-place : b < pagesIn P (length full) → same (placeOf P full b) (zeros P) ≡ false → straysIn P full b ≡ 10
   unfolding straysIn
   stray-place h e = rw (lt-ltb b (pagesIn P (length full)) h, e)
+
+  pub strays-other : straysIn P full b ≡ 7 → ⊥
+  unfolding straysIn
+  strays-other e = go (ltb b (pagesIn P (length full)) && not (same (placeOf P full b) (zeros P))) e
+    where
+      go : (t : Bool) → _≡_ {A = ℕ} (cond t 10 0) 7 → ⊥
+      go true q = omega arith
+      go false q = omega arith
 
   -- a place that holds zeros, if there is one
   pub no-strays : (b < pagesIn P (length full) → placeOf P full b ≡ zeros P) → straysIn P full b ≡ 0
@@ -125,18 +133,18 @@ module _ (P : ℕ) (patch full map : List ℕ) where
       ∙ ap (λ (t : Bool). firstOf (frameRows P [] ((9 ⇐ t) ∷ []) patch full)) e
 
   pub build-refused : (k : ℕ) → firstOf (buildRows P patch full map) ≡ k → (k ≡ 0 → ⊥)
-      → buildOutcome P patch full map ≡ buildRefused k 0 map
+      → buildOutcome P patch full map ≡ buildRefused k 0 0 map
   unfolding buildOutcome
   build-refused k e h = decided-refused _ _ (firstOf (buildRows P patch full map)) k e h
 
   module _ (e : firstOf (buildRows P patch full map) ≡ 0) where
     pub build-faulty : (k b : ℕ) → buildFault P patch full .number ≡ k → buildFault P patch full .block ≡ b → (k ≡ 0 → ⊥)
-        → buildOutcome P patch full map ≡ buildRefused k b map
+        → buildOutcome P patch full map ≡ buildRefused k b (offsetWith k P (payloadOf (slotOf patch b))) map
     unfolding buildOutcome
     build-faulty k b f g h =
         decided-done _ _ (firstOf (buildRows P patch full map)) e
         ∙ decided-refused _ _ (buildFault P patch full .number) k f h
-        ∙ ap (λ (x : ℕ). buildRefused k x map) g
+        ∙ ap (λ (x : ℕ). buildRefused k x (offsetWith k P (payloadOf (slotOf patch x))) map) g
 
     pub build-done : buildFault P patch full .number ≡ 0
         → buildOutcome P patch full map ≡ buildDone (splice map 0 (builtMap patch))
@@ -149,8 +157,8 @@ module _ (P : ℕ) (patch full map : List ℕ) where
       decided frame
       (decided fault
       (buildDone (splice map 0 (builtMap patch)))
-      (λ n. buildRefused n (buildFault P patch full .block) map))
-      (λ n. buildRefused n 0 map)
+      (λ k. buildRefused k (buildFault P patch full .block) (offsetWith k P (payloadOf (slotOf patch (buildFault P patch full .block)))) map))
+      (λ k. buildRefused k 0 0 map)
 
   -- accepted by its number: nothing was found
   pub build-zero : buildOutcome P patch full map .number ≡ 0

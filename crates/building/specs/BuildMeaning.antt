@@ -1,6 +1,6 @@
 -- What Build promises, with none of its rows, walks and tests: by the images of slots and the entries that spell payloads.
 use Prim.Native.Nat.{ℕ, _≤_, _<_}
-use mathlib.Core.Path.{_≡_, sym, _∙_, subst}
+use mathlib.Core.Path.{_≡_, sym, ap, _∙_, subst}
 use mathlib.Core.Logic.{_↔_, Iff·trans, Iff·and}
 use mathlib.Core.List.{List}
 use lib.ListN.{length, getD}
@@ -8,11 +8,15 @@ use Rattle.layout.specs.Numbers.{refusalNumber}
 use Rattle.layout.specs.NumberLaws.{refusal-some}
 use Rattle.layout.specs.FirstFaultLaws.{none-below, lowest-iff}
 use Rattle.layout.specs.declared.Refusal.{Refusal}
+use Rattle.slots.specs.Slots.{payloadOf}
+use Rattle.payload.specs.Entries.{offsetWith}
 use Rattle.payload.specs.Spelling.{Bytes}
 use Rattle.blockmap.specs.Pairs.{mapBytes}
-use Rattle.building.specs.Build.{blockFault, buildFault, Build}
+use Rattle.store.specs.Block.{slotOf}
+use Rattle.building.specs.Build.{blockFault, blockOffset, buildFault, Build}
 use Rattle.building.specs.BuildWords.{blocks, SoundFrame, BlockGives, SoundBlock, LowestFault, PairsOf, Tallies}
-use Rattle.building.specs.BuildMeaningLaws.{gives-fault, fault-gives, frame-iff, built-same, done-iff, refused-iff}
+use Rattle.building.specs.BuildMeaningLaws.{gives-fault, gives-offset, fault-gives, frame-iff, built-same, done-iff, refused-iff}
+use Rattle.building.specs.BuildMeaningLaws.{frame-zeros}
 use Rattle.building.specs.BuildMeaningLaws.{kept, pairs-are, tallies-are, later-bytes, same-length}
 use Rattle.building.specs.declared.Built.{Built}
 use Rattle.building.specs.declared.Built.the-variants.{Done, Refused}
@@ -21,13 +25,16 @@ use Rattle.building.specs.declared.Built.the-variants.{Done, Refused}
 pub record BuildGives (P : ℕ) (patch full map : List ℕ) (answer : Built) : Type 0 where
   -- done just where the frame and every block are sound
   pub accepts : (answer ≡ Done) ↔ (SoundFrame P patch full map × ((b : ℕ) → b < blocks patch → SoundBlock P patch full b))
-  -- else, in a sound frame, the lowest faulty block and its first fault
-  pub refuses : SoundFrame P patch full map → (r : Refusal) (b : ℕ) → (answer ≡ Refused r b) ↔ LowestFault P patch full b (refusalNumber r)
+  -- else, in a sound frame, the lowest faulty block and its first fault, and where its payload breaks if that is the fault
+  pub refuses : SoundFrame P patch full map → (r : Refusal) (b at : ℕ)
+      → (answer ≡ Refused r b at) ↔ LowestFault P patch full b (refusalNumber r) at
+  -- else, by the frame: neither block nor offset
+  pub frameless : (SoundFrame P patch full map → ⊥) → (r : Refusal) (b at : ℕ) → answer ≡ Refused r b at → (b ≡ 0) × (at ≡ 0)
 
 -- The map's buffer
 pub record BuildWrites (P : ℕ) (patch map : List ℕ) (answer : Built) (map′ : List ℕ) : Type 0 where
   -- refused: every byte as it was
-  pub untouched : (r : Refusal) (b : ℕ) → answer ≡ Refused r b → map′ ≡ map
+  pub untouched : (r : Refusal) (b at : ℕ) → answer ≡ Refused r b at → map′ ≡ map
   -- done: each pair is its slot's kind
   pub pairs : answer ≡ Done → PairsOf patch map′
   -- and Tally counts the slots of each kind
@@ -38,22 +45,45 @@ pub record BuildWrites (P : ℕ) (patch map : List ℕ) (answer : Built) (map′
 
 -- In an area of bytes, payloads are told by their entries
 module _ (P : ℕ) (patch full : List ℕ) (bytes : Bytes patch) where
-  pub block-gives : (b k : ℕ) → (blockFault P patch full b ≡ k) ↔ BlockGives P patch full b k
-  block-gives b k =
-      (λ e. subst (λ (j : ℕ). BlockGives P patch full b j) e (fault-gives P patch full bytes b), gives-fault P patch full bytes b)
+  pub block-gives : (b k at : ℕ) → ((blockFault P patch full b ≡ k) × (blockOffset P patch full b ≡ at)) ↔ BlockGives P patch full b k at
+  block-gives b k at = (
+    λ e.
+        subst (λ (j : ℕ). BlockGives P patch full b j at) (e .0)
+        (subst (λ (o : ℕ). BlockGives P patch full b (blockFault P patch full b) o) (e .1) (fault-gives P patch full bytes b)),
+    λ g. (gives-fault P patch full bytes b g, gives-offset P patch full bytes b g),
+  )
+
+  -- a block with no fault has no offset
+  sound-gives : (b : ℕ) → (blockFault P patch full b ≡ 0) ↔ SoundBlock P patch full b
+  sound-gives b = (
+    λ e. block-gives b 0 0 .0 (e, ap (λ (k : ℕ). offsetWith k P (payloadOf (slotOf patch b))) e),
+    λ g. gives-fault P patch full bytes b g,
+  )
 
   all-sound : (buildFault P patch full .number ≡ 0) ↔ ((b : ℕ) → b < blocks patch → SoundBlock P patch full b)
   all-sound =
       Iff·trans (none-below (blockFault P patch full) (blocks patch)) (
-        λ h b l. block-gives b 0 .0 (h b l),
-        λ h b l. block-gives b 0 .1 (h b l),
+        λ h b l. sound-gives b .0 (h b l),
+        λ h b l. sound-gives b .1 (h b l),
       )
 
-  lowest : (b k : ℕ) → (k ≡ 0 → ⊥) → (buildFault P patch full ≡ record { number = k; block = b }) ↔ LowestFault P patch full b k
-  lowest b k some =
-      Iff·trans (lowest-iff (blockFault P patch full) (blocks patch) b k some) (
-        λ l. record { below = l .below; gives = block-gives b k .0 (l .fault); lower = λ i h. block-gives i 0 .0 (l .lower i h) },
-        λ l. record { below = l .below; fault = block-gives b k .1 (l .gives); lower = λ i h. block-gives i 0 .1 (l .lower i h) },
+  lowest : (b k at : ℕ) → (k ≡ 0 → ⊥)
+      → ((buildFault P patch full ≡ record { number = k; block = b }) × (offsetWith k P (payloadOf (slotOf patch b)) ≡ at))
+      ↔ LowestFault P patch full b k at
+  lowest b k at some =
+      let w = lowest-iff (blockFault P patch full) (blocks patch) b k some in (
+        λ e.
+            let l = w .0 (e .0) in
+            record {
+              below = l .below;
+              gives = block-gives b k at .0 (l .fault, ap (λ (j : ℕ). offsetWith j P (payloadOf (slotOf patch b))) (l .fault) ∙ e .1);
+              lower = λ i h. sound-gives i .0 (l .lower i h);
+            },
+        λ l.
+            let g = block-gives b k at .1 (l .gives) in (
+              w .1 (record { below = l .below; fault = g .0; lower = λ i h. sound-gives i .1 (l .lower i h) }),
+              ap (λ (j : ℕ). offsetWith j P (payloadOf (slotOf patch b))) (sym (g .0)) ∙ g .1,
+            ),
       )
 
   pub build-gives : (map : List ℕ) (answer : Built) (map′ : List ℕ) → Build P patch full map answer map′
@@ -62,10 +92,11 @@ module _ (P : ℕ) (patch full : List ℕ) (bytes : Bytes patch) where
       record {
         accepts = Iff·trans (done-iff P patch full map answer map′ call) (Iff·and (frame-iff P patch full map) all-sound);
         refuses =
-            λ f r b.
+            λ f r b at.
             Iff·trans
-            (refused-iff P patch full map answer map′ call (frame-iff P patch full map .1 f) r b)
-            (lowest b (refusalNumber r) (refusal-some r));
+            (refused-iff P patch full map answer map′ call (frame-iff P patch full map .1 f) r b at)
+            (lowest b (refusalNumber r) at (refusal-some r));
+        frameless = λ n. frame-zeros P patch full map answer map′ call (λ e. n (frame-iff P patch full map .0 e));
       }
 
 pub build-writes : (P : ℕ) (patch full map : List ℕ) (answer : Built) (map′ : List ℕ) → Build P patch full map answer map′

@@ -22,7 +22,9 @@ use Rattle.layout.specs.declared.Refusal.{Refusal}
 use Rattle.headers.specs.Meaning.{Headers, headers-sound, sound-headers}
 use Rattle.slots.specs.Slots.{SlotNumbers, slotNumbers, soundSlot, unsoundSlot, patchSlot, payloadOf}
 use Rattle.slots.specs.Meaning.{empty-numbers, full-numbers, patch-numbers, payload-of, by-image}
-use Rattle.payload.specs.Entries.{start, sound}
+use Rattle.payload.specs.Entries.{start, sound, breaksAt, offsetWith}
+use Rattle.payload.specs.EntryLaws.{offset-other}
+use Rattle.payload.specs.Breaking.{breaks-iff}
 use Rattle.payload.specs.Spelling.{Spelled, Bytes, bytes-part, spelled-sound, sound-spelled}
 use Rattle.blockmap.specs.Pairs.{mapBytes, pairAt, patchPair, fullPair, badPairs}
 use Rattle.blockmap.specs.Pack.{pairOf}
@@ -31,13 +33,13 @@ use Rattle.blockmap.specs.CallLaws.{tally-done}
 use Rattle.store.specs.Block.{slotOf, placeOf}
 use Rattle.store.specs.BlockLaws.{payload-bytes}
 use Rattle.store.specs.Frame.{frameRows}
-use Rattle.building.specs.Build.{blockFault, buildFault, buildRows, builtMap}
+use Rattle.building.specs.Build.{blockFault, blockOffset, buildFault, buildRows, builtMap}
 use Rattle.building.specs.Build.{BuildOutcome, buildOutcome, BuildNumbers, builtNumbers, buildNumbers, Build}
 use Rattle.building.specs.Steps.{straysIn}
 use Rattle.building.specs.BuildLaws.{no-place, clean-place, stray-place, no-strays}
 use Rattle.building.specs.BuildLaws.{block-unsound, block-full-none, block-full, block-payload, block-patch, block-empty}
 use Rattle.building.specs.BuildLaws.{slot-sound}
-use Rattle.building.specs.BuildLaws.{not-fits, frame-none, build-frame, build-done, build-faulty, build-zero, refused-map}
+use Rattle.building.specs.BuildLaws.{not-fits, frame-none, build-frame, build-refused, build-done, build-faulty, build-zero, refused-map}
 use Rattle.building.specs.MapLaws.{laid-later, laid-length, built-length, built-pair, built-unused, built-good}
 use Rattle.building.specs.BuildWords.{blocks, places, SoundFrame, IsEmpty, PatchOf, IsPatch, IsFull, Placeless, blank, spelt}
 use Rattle.building.specs.BuildWords.{BlockGives, slot-6, page-8, payload-7, place-10, placeless-0, full-0, PairsOf, Tallies}
@@ -105,12 +107,13 @@ module _ (P : ℕ) (patch full : List ℕ) (bytes : Bytes patch) (b : ℕ) where
   slot = slotOf patch b
 
   -- a payload is sound just where entries spell it
-  spells : {payload : List ℕ} → PatchOf slot payload → (sound P payload ≡ true) ↔ Spelled P start payload
+  own-bytes : {payload : List ℕ} → PatchOf slot payload → Bytes payload
   unfolding slotOf
+  own-bytes {payload} p = payload-bytes (slotOf patch b) payload (bytes-part (slotAt b) slotSize patch bytes) (p .image) (p .room-for)
+
+  spells : {payload : List ℕ} → PatchOf slot payload → (sound P payload ≡ true) ↔ Spelled P start payload
   spells {payload} p =
-      let q : Bytes payload = payload-bytes (slotOf patch b) payload (bytes-part (slotAt b) slotSize patch bytes) (p .image)
-      (p .room-for) in
-      (λ e. sound-spelled P payload q .0 e .2, λ w. spelled-sound P payload (p .some) (p .room-for) w)
+      (λ e. sound-spelled P payload (own-bytes p) .0 e .2, λ w. spelled-sound P payload (p .some) (p .room-for) w)
 
   unspelled : {payload : List ℕ} → PatchOf slot payload → (Spelled P start payload → ⊥) → sound P payload ≡ false
   unspelled {payload} p none = go (sound P payload) refl
@@ -125,31 +128,50 @@ module _ (P : ℕ) (patch full : List ℕ) (bytes : Bytes patch) (b : ℕ) where
   placed (blank e) = block-empty P patch full b (empty-is slot e)
   placed (spelt payload p w) = block-patch P patch full b (length payload) (patch-is slot p) (judged slot P p ∙ spells p .1 w)
 
-  pub gives-fault : {k : ℕ} → BlockGives P patch full b k → blockFault P patch full b ≡ k
+  pub gives-fault : {k at : ℕ} → BlockGives P patch full b k at → blockFault P patch full b ≡ k
   gives-fault (slot-6 e p f) =
       by-image slot (λ q. absurd (e q)) (λ g h q. absurd (p (payloadOf slot, own slot g h q))) (λ q. absurd (f q))
       (block-unsound P patch full b)
   gives-fault (page-8 e l) = block-full-none P patch full b (full-is slot e) l
-  gives-fault (payload-7 payload p none) =
+  gives-fault (payload-7 payload p none at w) =
       block-payload P patch full b (length payload) (patch-is slot p) (judged slot P p ∙ unspelled p none)
   gives-fault (place-10 s l h) = placed s ∙ stray-place P full b l (same-false (placeOf P full b) (zeros P) h)
   gives-fault (placeless-0 s c) = placed s ∙ no-strays P full b c
   gives-fault (full-0 e l) = block-full P patch full b (full-is slot e) l
 
+  -- and to its offset
+
+  breaks : {payload : List ℕ} → PatchOf slot payload → breaksAt P (payloadOf slot) ≡ breaksAt P payload
+  breaks {payload} p = ap (λ (x : List ℕ). breaksAt P (payloadOf x)) (p .image) ∙ ap (breaksAt P) (payload-of payload (p .room-for))
+
+  no-offset : {k at : ℕ} → (k ≡ 7 → ⊥) → BlockGives P patch full b k at → blockOffset P patch full b ≡ 0
+  no-offset {k} n g = ap (λ (j : ℕ). offsetWith j P (payloadOf slot)) (gives-fault g) ∙ offset-other k P (payloadOf slot) n
+
+  pub gives-offset : {k at : ℕ} → BlockGives P patch full b k at → blockOffset P patch full b ≡ at
+  gives-offset (slot-6 e p f) = no-offset (λ q. omega arith) (slot-6 e p f)
+  gives-offset (page-8 e l) = no-offset (λ q. omega arith) (page-8 e l)
+  gives-offset (payload-7 payload p none at w) =
+      ap (λ (j : ℕ). offsetWith j P (payloadOf slot)) (gives-fault (payload-7 payload p none at w))
+      ∙ breaks p ∙ sym (breaks-iff P payload (own-bytes p) (p .room-for) none at .1 w)
+  gives-offset (place-10 s l h) = no-offset (λ q. omega arith) (place-10 s l h)
+  gives-offset (placeless-0 s c) = no-offset (λ q. omega arith) (placeless-0 s c)
+  gives-offset (full-0 e l) = no-offset (λ q. omega arith) (full-0 e l)
+
   -- and back
 
-  strays-give : Placeless P slot → BlockGives P patch full b (straysIn P full b)
+  strays-give : Placeless P slot → BlockGives P patch full b (straysIn P full b) (offsetWith (straysIn P full b) P (payloadOf slot))
   strays-give s =
       elim (decLt b (places P full)) [
         | yes l ↦ go (same (placeOf P full b) (zeros P)) refl l
         | no l ↦ rw (no-place P full b (omega arith)) (placeless-0 s (λ h. absurd (omega arith)))
       ]
     where
-      go : (t : Bool) → same (placeOf P full b) (zeros P) ≡ t → b < places P full → BlockGives P patch full b (straysIn P full b)
+      go : (t : Bool) → same (placeOf P full b) (zeros P) ≡ t → b < places P full
+          → BlockGives P patch full b (straysIn P full b) (offsetWith (straysIn P full b) P (payloadOf slot))
       go true q l = rw (clean-place P full b q) (placeless-0 s (λ _. same-is (placeOf P full b) (zeros P) q))
       go false q l = rw (stray-place P full b l q) (place-10 s l (λ e. true≢false (sym (same-true (placeOf P full b) (zeros P) e) ∙ q)))
 
-  pub fault-gives : BlockGives P patch full b (blockFault P patch full b)
+  pub fault-gives : BlockGives P patch full b (blockFault P patch full b) (blockOffset P patch full b)
   fault-gives =
       by-image slot
       (λ e. rw (block-empty P patch full b (empty-is slot e)) (strays-give (blank e)))
@@ -169,13 +191,15 @@ module _ (P : ℕ) (patch full : List ℕ) (bytes : Bytes patch) (b : ℕ) where
           omega arith
 
       paid : PatchOf slot (payloadOf slot) → (t : Bool) → sound P (payloadOf slot) ≡ t
-          → BlockGives P patch full b (blockFault P patch full b)
+          → BlockGives P patch full b (blockFault P patch full b) (blockOffset P patch full b)
       paid p true q =
           rw (block-patch P patch full b (length (payloadOf slot)) (patch-is slot p) q)
           (strays-give (spelt (payloadOf slot) p (spells p .0 q)))
       paid p false q =
           rw (block-payload P patch full b (length (payloadOf slot)) (patch-is slot p) q)
-          (payload-7 (payloadOf slot) p (λ w. true≢false (sym (spells p .1 w) ∙ q)))
+          (let none : Spelled P start (payloadOf slot) → ⊥ = λ w. true≢false (sym (spells p .1 w) ∙ q) in
+          let at : ℕ = breaksAt P (payloadOf slot) in
+          payload-7 (payloadOf slot) p none at (breaks-iff P (payloadOf slot) (own-bytes p) (p .room-for) none at .0 refl))
 
 -- The frame
 
@@ -211,11 +235,10 @@ module _ (P : ℕ) (patch full map : List ℕ) where
 
 pub built-same : (x y : Built) → builtNumbers x ≡ builtNumbers y → x ≡ y
 built-same Done Done e = refl
-built-same Done (Refused r b) e = absurd (refusal-some r (sym (ap (λ (n : BuildNumbers). n .number) e)))
-built-same (Refused r b) Done e = absurd (refusal-some r (ap (λ (n : BuildNumbers). n .number) e))
-built-same (Refused r b) (Refused q c) e =
-    ap (λ (x : Refusal). Refused x b) (refusal-one r q (ap (λ (n : BuildNumbers). n .number) e))
-    ∙ ap (λ (x : ℕ). Refused q x) (ap (λ (n : BuildNumbers). n .block) e)
+built-same Done (Refused r b o) e = absurd (refusal-some r (sym (ap (λ (n : BuildNumbers). n .number) e)))
+built-same (Refused r b o) Done e = absurd (refusal-some r (ap (λ (n : BuildNumbers). n .number) e))
+built-same (Refused r b o) (Refused q c u) e =
+    λ i. Refused (refusal-one r q (ap (λ (n : BuildNumbers). n .number) e) i) (e i .block) (e i .offset)
 
 module _ (P : ℕ) (patch full map : List ℕ) (answer : Built) (map′ : List ℕ) (call : Build P patch full map answer map′) where
   told : {x : Built} → answer ≡ x → builtNumbers x ≡ buildNumbers (buildOutcome P patch full map)
@@ -227,27 +250,44 @@ module _ (P : ℕ) (patch full map : List ℕ) (answer : Built) (map′ : List �
     λ h. built-same answer Done (call .numbers ∙ ap buildNumbers (build-done P patch full map (h .0) (h .1))),
   )
 
-  pub refused-iff : firstOf (buildRows P patch full map) ≡ 0 → (r : Refusal) (b : ℕ)
-      → (answer ≡ Refused r b) ↔ (buildFault P patch full ≡ record { number = refusalNumber r; block = b })
-  refused-iff f r b = (
+  -- what a refusal inside the frame tells, of the first fault and its payload
+  abbrev pub Told : ℕ → ℕ → ℕ → Type 0
+  Told k b at =
+      (buildFault P patch full ≡ record { number = k; block = b }) × (offsetWith k P (payloadOf (slotOf patch b)) ≡ at)
+
+  pub refused-iff : firstOf (buildRows P patch full map) ≡ 0 → (r : Refusal) (b at : ℕ)
+      → (answer ≡ Refused r b at) ↔ Told (refusalNumber r) b at
+  refused-iff f r b at = (
     λ e. go (told e) (buildFault P patch full .number) refl,
     λ e.
-        built-same answer (Refused r b)
-        (call .numbers ∙ ap buildNumbers (build-faulty P patch full map f _ _ (λ i. e i .number) (λ i. e i .block) (refusal-some r))),
+        built-same answer (Refused r b at)
+        (call .numbers
+        ∙ ap buildNumbers (build-faulty P patch full map f _ _ (λ i. e .0 i .number) (λ i. e .0 i .block) (refusal-some r))
+        ∙ ap (λ (o : ℕ). record { number = refusalNumber r; block = b; offset = o }) (e .1)),
   )
     where
-      go : builtNumbers (Refused r b) ≡ buildNumbers (buildOutcome P patch full map) → (k : ℕ) → buildFault P patch full .number ≡ k
-          → buildFault P patch full ≡ record { number = refusalNumber r; block = b }
+      go : builtNumbers (Refused r b at) ≡ buildNumbers (buildOutcome P patch full map) → (k : ℕ) → buildFault P patch full .number ≡ k
+          → Told (refusalNumber r) b at
       go o zero z = absurd (refusal-some r (ap (λ (x : BuildNumbers). x .number) (o ∙ ap buildNumbers (build-done P patch full map f z))))
       go o (suc k) z =
-          let t : builtNumbers (Refused r b) ≡ record { number = suc k; block = buildFault P patch full .block } =
-          o ∙ ap buildNumbers (build-faulty P patch full map f (suc k) _ z refl (λ q. omega arith)) in
-          λ i. record { number = (z ∙ sym (ap (λ (x : BuildNumbers). x .number) t)) i; block = sym t i .block }
+          let c : ℕ = buildFault P patch full .block in
+          let t : builtNumbers (Refused r b at) ≡ record { number = suc k; block = c; offset = offsetWith (suc k) P (payloadOf (slotOf patch c)) } =
+          o ∙ ap buildNumbers (build-faulty P patch full map f (suc k) _ z refl (λ q. omega arith)) in (
+            λ i. record { number = (z ∙ sym (ap (λ (x : BuildNumbers). x .number) t)) i; block = sym t i .block },
+            λ i. (ap (λ (x : BuildNumbers). offsetWith (x .number) P (payloadOf (slotOf patch (x .block)))) t
+                ∙ sym (ap (λ (x : BuildNumbers). x .offset) t)) i,
+          )
+
+  -- a refusal by the frame tells neither block nor offset
+  pub frame-zeros : (firstOf (buildRows P patch full map) ≡ 0 → ⊥) → (r : Refusal) (b at : ℕ) → answer ≡ Refused r b at → (b ≡ 0) × (at ≡ 0)
+  frame-zeros n r b at e =
+      let t = told e ∙ ap buildNumbers (build-refused P patch full map (firstOf (buildRows P patch full map)) refl n) in
+      (ap (λ (x : BuildNumbers). x .block) t, ap (λ (x : BuildNumbers). x .offset) t)
 
   -- The map
 
-  pub kept : (r : Refusal) (b : ℕ) → answer ≡ Refused r b → map′ ≡ map
-  kept r b e =
+  pub kept : (r : Refusal) (b at : ℕ) → answer ≡ Refused r b at → map′ ≡ map
+  kept r b at e =
       call .bytes ∙ refused-map P patch full map (λ z. refusal-some r (ap (λ (x : BuildNumbers). x .number) (told e) ∙ z))
 
   module _ (e : answer ≡ Done) where
@@ -316,11 +356,11 @@ module _ (P : ℕ) (patch full map : List ℕ) (answer : Built) (map′ : List �
     where
       go : (x : Built) → answer ≡ x → getD map′ i 0 ≡ getD map i 0
       go Done e = done-later e i h
-      go (Refused r b) e = ap (λ (m : List ℕ). getD m i 0) (kept r b e)
+      go (Refused r b at) e = ap (λ (m : List ℕ). getD m i 0) (kept r b at e)
 
   pub same-length : length map′ ≡ length map
   same-length = go answer refl
     where
       go : (x : Built) → answer ≡ x → length map′ ≡ length map
       go Done e = done-length e
-      go (Refused r b) e = ap (λ (m : List ℕ). length m) (kept r b e)
+      go (Refused r b at) e = ap (λ (m : List ℕ). length m) (kept r b at e)

@@ -11,6 +11,7 @@ use Rattle.headers.specs.Headers.{patchHeader, fullHeader}
 use Rattle.slots.specs.Slots.{emptySlot, patchSlot, fullSlot}
 use Rattle.payload.specs.Entries.{start}
 use Rattle.payload.specs.Spelling.{Spelled}
+use Rattle.payload.specs.Breaking.{Breaks}
 use Rattle.blockmap.specs.Pairs.{mapBytes, pairAt, patchPair, fullPair}
 use Rattle.blockmap.specs.Calls.{tallyNumbers}
 use Rattle.blockmap.specs.Meaning.{JustThose}
@@ -60,26 +61,28 @@ pub data Placeless (P : ℕ) (s : List ℕ) : Type 0 where
 abbrev pub CleanPlace : ℕ → List ℕ → ℕ → Type 0
 CleanPlace P full b = b < places P full → placeOf P full b ≡ zeros P
 
--- a block's number, and just when: its first fault in the order 6, 8, 7, 10, and 0 where it has none
-pub data BlockGives (P : ℕ) (patch full : List ℕ) (b : ℕ) : ℕ → Type 0 where
+-- a block's number, and just when: its first fault in the order 6, 8, 7, 10, and 0 where it has none; and the offset that goes with 7
+pub data BlockGives (P : ℕ) (patch full : List ℕ) (b : ℕ) : ℕ → ℕ → Type 0 where
   -- the slot is none of the sound ones
-  slot-6 : (IsEmpty (slotOf patch b) → ⊥) → (IsPatch (slotOf patch b) → ⊥) → (IsFull (slotOf patch b) → ⊥) → BlockGives P patch full b 6
+  slot-6 : (IsEmpty (slotOf patch b) → ⊥) → (IsPatch (slotOf patch b) → ⊥) → (IsFull (slotOf patch b) → ⊥)
+      → BlockGives P patch full b 6 0
   -- FULL_REF, and not below m
-  page-8 : IsFull (slotOf patch b) → places P full ≤ b → BlockGives P patch full b 8
-  -- PATCH of a payload that no entries spell
-  payload-7 : (payload : List ℕ) → PatchOf (slotOf patch b) payload → (Spelled P start payload → ⊥) → BlockGives P patch full b 7
+  page-8 : IsFull (slotOf patch b) → places P full ≤ b → BlockGives P patch full b 8 0
+  -- PATCH of a payload that no entries spell, and where they break off
+  payload-7 : (payload : List ℕ) → PatchOf (slotOf patch b) payload → (Spelled P start payload → ⊥) → (at : ℕ) → Breaks P payload at
+      → BlockGives P patch full b 7 at
   -- none of these and not FULL_REF, and its place lies in the full area and is not zero
-  place-10 : Placeless P (slotOf patch b) → b < places P full → (placeOf P full b ≡ zeros P → ⊥) → BlockGives P patch full b 10
-  placeless-0 : Placeless P (slotOf patch b) → CleanPlace P full b → BlockGives P patch full b 0
-  full-0 : IsFull (slotOf patch b) → b < places P full → BlockGives P patch full b 0
+  place-10 : Placeless P (slotOf patch b) → b < places P full → (placeOf P full b ≡ zeros P → ⊥) → BlockGives P patch full b 10 0
+  placeless-0 : Placeless P (slotOf patch b) → CleanPlace P full b → BlockGives P patch full b 0 0
+  full-0 : IsFull (slotOf patch b) → b < places P full → BlockGives P patch full b 0 0
 
 abbrev pub SoundBlock : ℕ → List ℕ → List ℕ → ℕ → Type 0
-SoundBlock P patch full b = BlockGives P patch full b 0
+SoundBlock P patch full b = BlockGives P patch full b 0 0
 
--- b is the lowest block with a fault, and k is its first
-pub record LowestFault (P : ℕ) (patch full : List ℕ) (b k : ℕ) : Type 0 where
+-- b is the lowest block with a fault, k is its first, and `at` is the offset that goes with it
+pub record LowestFault (P : ℕ) (patch full : List ℕ) (b k at : ℕ) : Type 0 where
   pub below : b < blocks patch
-  pub gives : BlockGives P patch full b k
+  pub gives : BlockGives P patch full b k at
   pub lower : (i : ℕ) → i < b → SoundBlock P patch full i
 
 -- Maps

@@ -1,21 +1,31 @@
 -- "Each refusal is given when its condition holds and no earlier one does, and at no other time": Build.
-use Prim.Native.Nat.{ℕ}
+use Prim.Native.Nat.{ℕ, zero, suc}
+use native.Mathlib.Omega.{arith}
 use mathlib.Core.Path.{_≡_, refl, sym, ap, _∙_}
-use mathlib.Core.Bool.{true}
-use mathlib.Core.List.{List, _++_}
+use mathlib.Core.Bool.{Bool, true, false, not}
+use mathlib.Core.List.{List, [], _∷_, _++_}
+use lib.Dec.{leb}
 use lib.ListN.{length}
-use Rattle.layout.specs.Refusals.{Row, firstOf, orElse}
+use Rattle.layout.specs.Refusals.{Row, _⇐_, firstOf, orElse}
 use Rattle.layout.specs.RefusalLaws.{first-append, Exactly, exactly, decided-number, decided-or, Numbered, no-row, row, both}
+use Rattle.layout.specs.RefusalLaws.{no-such, lacks, first-lacks}
 use Rattle.layout.specs.Groups.{ordered}
 use Rattle.layout.specs.GroupLaws.{once}
 use Rattle.layout.specs.FirstFault.{rowsFrom}
 use Rattle.layout.specs.FirstFaultLaws.{rows-numbered, first-by-rows}
 use Rattle.layout.specs.Lengths.{blocksIn, lengthRows}
 use Rattle.headers.specs.HeaderLaws.{headers-numbered}
-use Rattle.store.specs.Block.{slotRows, fullRows, payloadRows}
+use Rattle.slots.specs.Slots.{payloadOf}
+use Rattle.payload.specs.Entries.{offsetWith}
+use Rattle.payload.specs.EntryLaws.{offset-other}
+use Rattle.blockmap.specs.Pairs.{mapBytes}
+use Rattle.store.specs.Block.{slotOf, slotRows, fullRows, payloadRows}
+use Rattle.store.specs.Frame.{frameRows}
+use Rattle.store.specs.FrameLaws.{frame-lacks}
 use Rattle.building.specs.Build.{placeRows, faultGroups, faultRows, buildGroups, blockFault, buildFault, buildRows, BuildOutcome}
 use Rattle.building.specs.Build.{buildRefused}
 use Rattle.building.specs.Build.{buildOutcome}
+use Rattle.building.specs.BuildLaws.{not-fits, build-frame, build-refused, build-faulty, build-done}
 
 module _ (P : ℕ) (patch full : List ℕ) where
   fault-numbered : (b : ℕ) → Numbered (faultRows P patch full b)
@@ -42,7 +52,7 @@ module _ (P : ℕ) (patch full : List ℕ) where
   unfolding buildOutcome
   build-number map =
       let frame : ℕ = firstOf (buildRows P patch full map) in
-      decided-or (λ (o : BuildOutcome). o .number) _ (λ (n : ℕ). buildRefused n 0 map) frame (λ k. refl)
+      decided-or (λ (o : BuildOutcome). o .number) _ (λ (n : ℕ). buildRefused n 0 0 map) frame (λ k. refl)
       ∙ ap (λ (n : ℕ). orElse frame n)
       (decided-number (λ (o : BuildOutcome). o .number) _ _ (buildFault P patch full .number) refl (λ k. refl) ∙ fault-number)
       ∙ sym (first-append (buildRows P patch full map) blocksRows)
@@ -60,3 +70,33 @@ fault-once P patch full b = refl
 
 pub build-once : (P : ℕ) (patch full map : List ℕ) → once (buildGroups P patch full map) ≡ true
 build-once P patch full map = refl
+
+-- Build's frame gives no 7
+frame-other : (P : ℕ) (patch full map : List ℕ) → firstOf (buildRows P patch full map) ≡ 7 → ⊥
+frame-other P patch full map q =
+    let fits : Bool = leb (mapBytes (blocksIn (length patch))) (length map) in
+    let buffer : List Row = (9 ⇐ not fits) ∷ [] in
+    first-lacks (frameRows P ((1 ⇐ false) ∷ []) buffer patch full) 6
+    (frame-lacks P patch full ((1 ⇐ false) ∷ []) buffer 7 (omega arith) (lacks 1 (λ e. omega arith) no-such)
+    (lacks 9 (λ e. omega arith) no-such))
+    (sym (build-frame P patch full map fits (not-fits (mapBytes (blocksIn (length patch))) (length map))) ∙ q)
+
+-- the offset goes with 7 alone
+abbrev pub offsetAt : ℕ → List ℕ → BuildOutcome → ℕ
+offsetAt P patch o = offsetWith (o .number) P (payloadOf (slotOf patch (o .block)))
+
+pub build-told : (P : ℕ) (patch full map : List ℕ)
+    → buildOutcome P patch full map .offset ≡ offsetAt P patch (buildOutcome P patch full map)
+build-told P patch full map = go (firstOf (buildRows P patch full map)) refl
+  where
+    inside : firstOf (buildRows P patch full map) ≡ 0 → (k : ℕ) → buildFault P patch full .number ≡ k
+        → buildOutcome P patch full map .offset ≡ offsetAt P patch (buildOutcome P patch full map)
+    inside e zero f = rw (build-done P patch full map e f)
+    inside e (suc k) f = rw (build-faulty P patch full map e (suc k) (buildFault P patch full .block) f refl (λ q. omega arith))
+
+    go : (k : ℕ) → firstOf (buildRows P patch full map) ≡ k
+        → buildOutcome P patch full map .offset ≡ offsetAt P patch (buildOutcome P patch full map)
+    go zero e = inside e (buildFault P patch full .number) refl
+    go (suc k) e =
+        rw (build-refused P patch full map (suc k) e (λ q. omega arith))
+        (sym (offset-other (suc k) P (payloadOf (slotOf patch 0)) (λ q. frame-other P patch full map (e ∙ q))))

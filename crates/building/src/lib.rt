@@ -18,12 +18,23 @@ ghost use Rattle.blockmap.specs.Pairs.{mapBytes};
 ghost use Rattle.blockmap.specs.Pack.{pairOf, pairIn, packedByte, packed};
 ghost use Rattle.store.specs.Block.{Sized};
 ghost use Rattle.building.specs.Build.{blockFault, builtNumbers, Build};
-ghost use Rattle.building.specs.Steps.{straysIn, faultNumbers, kindPair};
+ghost use Rattle.building.specs.Steps.{straysIn, findingNumbers, blockFinding, faultNumbers, kindPair};
 
-// What Build answers. With a slot, payload, full page or place that is wrong comes its block; with any other refusal, 0.
+// What Build answers. With a slot, payload, full page or place that is wrong comes its block, and with a payload the offset at which its
+// first unsound entry starts; with any other refusal, 0.
 pub enum Built {
     Done,
-    Refused { refusal: Refusal, block: usize },
+    Refused {
+        refusal: Refusal,
+        block: usize,
+        offset: usize,
+    },
+}
+
+// What is wrong first with one block, and where its payload breaks.
+enum Finding {
+    Nothing,
+    Found { refusal: Refusal, offset: usize },
 }
 
 // Stray bytes in the place of a block whose slot is not FULL_REF. A block not below m has no place.
@@ -40,46 +51,70 @@ fn place_fault(size: u32, m: u32, full: &[u8], block: u32) -> Fault
     Fault::Found(Refusal::Place)
 }
 
+// A fault that is not the payload's has no offset.
+fn no_offset(fault: Fault) -> Finding
+    ensures { λ r. ⌜ findingNumbers r ≡ record { number = faultNumber fault; offset = 0 } ⌝ }
+{
+    match fault {
+        Fault::Found(refusal) => Finding::Found { refusal, offset: 0 },
+        Fault::Nothing => Finding::Nothing,
+    }
+}
+
 // What is wrong first with one block: its slot, a full page that is not there, its payload, its place.
-fn block_fault(size: u32, m: u32, patch: &[u8], full: &[u8], block: u32) -> Fault
+fn block_fault(size: u32, m: u32, patch: &[u8], full: &[u8], block: u32) -> Finding
     requires { ⌜ Sized size × (m ≡ pagesIn size (length (now full))) ⌝ }
-    ensures { λ r. ⌜ faultNumber r ≡ blockFault size (now (patch .entry)) (now (full .entry)) block ⌝ }
+    ensures { λ r. ⌜ findingNumbers r ≡ blockFinding size (now (patch .entry)) (now (full .entry)) block ⌝ }
 {
     let slot = span::part(patch, Layout::slot_at(block), Layout::SLOT);
     match slots::slot_state(slot) {
-        SlotState::Unsound => Fault::Found(Refusal::Slot),
+        SlotState::Unsound => Finding::Found {
+            refusal: Refusal::Slot,
+            offset: 0,
+        },
         SlotState::Full => {
             if m <= block {
-                return Fault::Found(Refusal::FullPage);
+                return Finding::Found {
+                    refusal: Refusal::FullPage,
+                    offset: 0,
+                };
             }
-            Fault::Nothing
+            Finding::Nothing
         }
         SlotState::Patch(n) => {
             let payload = span::part(slot, Layout::PAYLOAD_AT, n);
             match payload::check(payload, size as usize) {
-                Checked::Unsound => Fault::Found(Refusal::Payload),
+                Checked::Unsound { offset } => Finding::Found {
+                    refusal: Refusal::Payload,
+                    offset,
+                },
                 Checked::Sound {
                     entries: _,
                     last: _,
-                } => place_fault(size, m, full, block),
+                } => no_offset(place_fault(size, m, full, block)),
             }
         }
-        SlotState::Empty => place_fault(size, m, full, block),
+        SlotState::Empty => no_offset(place_fault(size, m, full, block)),
     }
 }
 
 // The first fault of n blocks in rising order, with its block.
 fn first_fault(size: u32, m: u32, patch: &[u8], full: &[u8], n: usize) -> Built
     requires { ⌜ (n ≤ segment) × Sized size × (m ≡ pagesIn size (length (now full))) ⌝ }
-    ensures { λ r. ⌜ builtNumbers r ≡ faultNumbers (firstFault (blockFault size (now (patch .entry)) (now (full .entry))) 0 n) ⌝ }
+    ensures { λ r. ⌜ builtNumbers r ≡ faultNumbers size (now (patch .entry))
+        (firstFault (blockFault size (now (patch .entry)) (now (full .entry))) 0 n) ⌝ }
 {
     let mut block = 0;
     while block < n {
         match block_fault(size, m, patch, full, block as u32) {
-            Fault::Found(refusal) => {
-                return Built::Refused { refusal, block };
+            Finding::Found { refusal, offset } => {
+                return Built::Refused {
+                    refusal,
+                    block,
+                    offset,
+                };
             }
-            Fault::Nothing => {
+            Finding::Nothing => {
                 block += 1;
             }
         }
@@ -146,10 +181,22 @@ pub fn build(patch: &[u8], full: &[u8], map: &mut [u8]) -> Built
     let page_size = Layout::PAGE as u32;
     let needed = blockmap::map_bytes(layout::area::blocks(patch.len()));
     match store::frame::open(page_size, true, needed <= map.len(), patch, full) {
-        Opened::Refused(refusal) => Built::Refused { refusal, block: 0 },
+        Opened::Refused(refusal) => Built::Refused {
+            refusal,
+            block: 0,
+            offset: 0,
+        },
         Opened::Frame { size, n, m } => {
             match first_fault(size, m, patch, full, n as usize) {
-                Built::Refused { refusal, block } => Built::Refused { refusal, block },
+                Built::Refused {
+                    refusal,
+                    block,
+                    offset,
+                } => Built::Refused {
+                    refusal,
+                    block,
+                    offset,
+                },
                 Built::Done => {
                     write_map(patch, n as usize, map);
                     Built::Done

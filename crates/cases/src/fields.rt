@@ -3,6 +3,7 @@ ghost use mathlib.Core.Path.{_≡_};
 ghost use Prim.Native.Nat.{_≤_};
 ghost use lib.ListN.{length, getD};
 ghost use Rattle.cases.specs.Decimal.{grow, decimal};
+ghost use Rattle.cases.specs.Position.{above, below as belowZero, position as positionIn};
 
 const BAR: u8 = b'|';
 
@@ -10,6 +11,9 @@ const LINE_END: u8 = b'\n';
 
 // A number that another decimal digit still fits after.
 const TOP: usize = (usize::MAX - 9) / 10;
+
+// One more than the highest position that an i32 holds.
+const HELD: usize = 2147483648;
 
 // The bytes from a place to the next of this value, or to the end.
 pub(crate) fn up_to(text: &[u8], from: usize, stop: u8) -> &[u8]
@@ -101,4 +105,38 @@ pub fn number(text: &[u8]) -> usize
         at += 1;
     }
     value
+}
+
+// A number as a position, 0 where an i32 does not hold it.
+fn held(size: usize) -> i32
+    ensures { λ r. ⌜ r ≡ above size ⌝ }
+{
+    if HELD <= size {
+        return 0;
+    }
+    size as i32
+}
+
+// As far below 0 as a number is above it, and 0 where an i32 does not hold that.
+fn below(size: usize) -> i32
+    ensures { λ r. ⌜ r ≡ belowZero size ⌝ }
+{
+    if size == 0 {
+        return 0;
+    }
+    if HELD < size {
+        return 0;
+    }
+    -1 - ((size - 1) as i32)
+}
+
+// The position that a text says: the number of its digits, below 0 after a `-`.
+pub fn position(text: &[u8]) -> i32
+    ensures { λ r. ⌜ r ≡ positionIn (now (text .entry)) ⌝ }
+{
+    let size = number(text);
+    if first(text) == b'-' {
+        return below(size);
+    }
+    held(size)
 }

@@ -5,6 +5,7 @@ use layout::Kind;
 use layout::Refusal;
 ghost use mathlib.Core.Path.{_≡_};
 ghost use lib.ListN.{length, getD};
+ghost use lib.IntN.{natAbs};
 ghost use Rattle.layout.specs.Numbers.{kindNumber, refusalNumber};
 ghost use Rattle.io.specs.Digits.{Fewest};
 
@@ -42,11 +43,30 @@ pub fn number(n: u64) -> usize
     digits(n)
 }
 
+// A position after a space, with a `-`, which is not counted, where it is below 0.
+pub fn position(at: i32) -> usize
+    ensures { λ r. ⌜ Fewest 10 1 (natAbs at) r ⌝ }
+{
+    if at < 0 {
+        text(b" -");
+        return digits(((-1 - at) as u64) + 1);
+    }
+    number(at as u64)
+}
+
 // That a call is refused, and why.
 pub fn refused(refusal: Refusal) -> usize
     ensures { λ r. ⌜ Fewest 10 1 (refusalNumber refusal) r ⌝ }
 {
     number(layout::number::refusal_number(refusal) as u64)
+}
+
+// That a call is refused, why, and the payload offset that comes with it.
+pub fn refused_at(refusal: Refusal, offset: usize) -> usize
+    ensures { λ r. ⌜ Fewest 10 1 offset r ⌝ }
+{
+    refused(refusal);
+    number(offset as u64)
 }
 
 // That a call is done, and the kind.

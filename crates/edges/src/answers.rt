@@ -2,18 +2,11 @@
 use blockmap::Looked;
 use blockmap::Tallied;
 use cases::say;
+use entry_reader::Found;
+use entry_reader::Turn;
 use store::Judged;
 use stream::Applied;
 use stream::Compared;
-
-// A position; -1 is the only one below 0.
-fn position(last: i32) {
-    if last < 0 {
-        say::word(b"-1");
-    } else {
-        say::number(last as u64);
-    }
-}
 
 pub(crate) fn compared(answer: Compared) {
     match answer {
@@ -26,7 +19,7 @@ pub(crate) fn compared(answer: Compared) {
             say::done(kind);
             say::number(length as u64);
             say::number(entries as u64);
-            position(last);
+            say::position(last);
         }
         Compared::Refused(r) => {
             say::refused(r);
@@ -39,10 +32,34 @@ pub(crate) fn applied(answer: Applied) {
         Applied::Done { entries, last } => {
             say::number(0);
             say::number(entries as u64);
-            position(last);
+            say::position(last);
         }
-        Applied::Refused(r) => {
-            say::refused(r);
+        Applied::Refused { refusal, offset } => {
+            say::refused_at(refusal, offset);
+        }
+    }
+}
+
+// The number and whether there is an entry, then where the reader stands, then the value.
+fn turn(number: u64, found: u64, at: usize, position: i32, value: u8) {
+    say::number(number);
+    say::number(found);
+    say::number(at as u64);
+    say::position(position);
+    say::number(value as u64);
+}
+
+pub(crate) fn next(answer: Turn) {
+    let found = answer.found;
+    match found {
+        Found::Entry { position: _, value } => {
+            turn(0, 1, answer.at, answer.position, value);
+        }
+        Found::End => {
+            turn(0, 0, answer.at, answer.position, 0);
+        }
+        Found::Stopped { offset: _ } => {
+            turn(7, 0, answer.at, answer.position, 0);
         }
     }
 }

@@ -8,11 +8,14 @@ use cases::fields;
 use cases::fields::field;
 use cases::make::buffer;
 use cases::say;
+use layout::Layout;
 
 // The calls by their first letters.
 const COMPARE: u8 = b'c';
 
 const APPLY: u8 = b'a';
+
+const NEXT: u8 = b'n';
 
 const JUDGE: u8 = b'j';
 
@@ -28,6 +31,15 @@ fn slotinfo(slot: &[u8]) {
     let n = info::text::report(&mut out, slot);
     say::text(b"\n");
     say::text(span::part(&out, 0, n));
+}
+
+// A step of the entry reader: next | name | payload | at | position.
+fn next(call: u8, line: &[u8], payload: &[u8]) {
+    if call == NEXT {
+        let at = fields::number(field(line, 3));
+        let position = fields::position(field(line, 4));
+        answers::next(entry_reader::step_at(payload, Layout::PAGE, at, position));
+    }
 }
 
 // The calls on a slot: slotinfo, and judge | name | slot.
@@ -92,6 +104,7 @@ fn run(line: &[u8]) {
     let first = buffer(field(line, 2));
     let bytes = first.bytes;
     let part = span::part(&bytes, 0, first.length);
+    next(call, line, part);
     on_slot(call, part);
     on_map(call, line, part);
     on_page(call, line, part);

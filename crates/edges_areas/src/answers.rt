@@ -21,8 +21,8 @@ pub(crate) fn reading(answer: Reading) {
         Reading::Done { kind } => {
             say::done(kind);
         }
-        Reading::Refused(r) => {
-            say::refused(r);
+        Reading::Refused { refusal, offset } => {
+            say::refused_at(refusal, offset);
         }
     }
 }
@@ -44,10 +44,16 @@ pub(crate) fn built(answer: Built) {
         Built::Done => {
             say::number(0);
             say::number(0);
+            say::number(0);
         }
-        Built::Refused { refusal, block } => {
+        Built::Refused {
+            refusal,
+            block,
+            offset,
+        } => {
             say::refused(refusal);
             say::number(block as u64);
+            say::number(offset as u64);
         }
     }
 }

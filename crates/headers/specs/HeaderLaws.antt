@@ -1,17 +1,17 @@
 -- The laws of headers: what four comparisons come to, and both headers together.
-use Prim.Native.Nat.{ℕ, _+_, _-_, _≤_}
+use Prim.Native.Nat.{ℕ, _+_, _-_, _≤_, _<_}
 use native.Mathlib.Omega.{arith}
 use mathlib.Core.Path.{_≡_, refl, ap, _∙_}
 use mathlib.Core.Bool.{Bool, true, false, not, cond, _&&_}
-use mathlib.Core.List.{List, [], _++_}
+use mathlib.Core.List.{List, [], _∷_, _++_}
 use lib.Dec.{eqb}
 use borrow.Author.Tests.{eq-eqb, ne-eqb}
 use lib.ListN.{length}
 use Rattle.span.specs.Bytes.{zeros, part, same}
 use Rattle.span.specs.Laws.{zeros-length, part-join, part-first, part-second, part-length, same-parts}
 use Rattle.layout.specs.Sizes.{fullHead, versionAt, restAt}
-use Rattle.layout.specs.Refusals.{firstOf, orElse}
-use Rattle.layout.specs.RefusalLaws.{first-append, or-skip, or-some, Numbered, no-row, row}
+use Rattle.layout.specs.Refusals.{Row, _⇐_, firstOf, orElse}
+use Rattle.layout.specs.RefusalLaws.{first-append, or-skip, or-some, Numbered, no-row, row, Lacks, no-such, lacks}
 use Rattle.headers.specs.Headers.{header, fullHeader, headRows, patchHeadRows, fullHeadRows, headerRows}
 
 -- the number that four comparisons give: magic, version, the other fields, the zero bytes
@@ -77,6 +77,18 @@ pub headers-full : (P : ℕ) (patch full : List ℕ) → firstOf (patchHeadRows 
     → firstOf (headerRows P patch full) ≡ firstOf (headRows (fullHeader P) fullHead full)
 headers-full P patch full e f = headers-are P patch full ∙ or-skip (firstOf (patchHeadRows P patch)) (firstOf (fullHeadRows P full)) e
     ∙ full-present P full f
+
+-- the headers' numbers are 3 and 4
+pub headers-lack : (P : ℕ) (patch full : List ℕ) (k : ℕ) → 4 < k → Lacks k (headerRows P patch full)
+unfolding headerRows patchHeadRows fullHeadRows headRows
+headers-lack P patch full k h = three (go (eqb (length full) 0))
+  where
+    three : {a b c : Bool} {rows : List Row} → Lacks k rows → Lacks k ((3 ⇐ a) ∷ (4 ⇐ b) ∷ (3 ⇐ c) ∷ rows)
+    three w = lacks 3 (λ e. omega arith) (lacks 4 (λ e. omega arith) (lacks 3 (λ e. omega arith) w))
+
+    go : (t : Bool) → Lacks k (cond t [] (headRows (fullHeader P) fullHead full))
+    go true = no-such
+    go false = three no-such
 
 pub headers-numbered : (P : ℕ) (patch full : List ℕ) → Numbered (headerRows P patch full)
 unfolding headerRows patchHeadRows fullHeadRows headRows

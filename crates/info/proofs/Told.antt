@@ -17,9 +17,9 @@ use Rattle.info.specs.InfoLaws.{info-broken, info-patch}
 
 module _ (P : ℕ) (bytes payload : List ℕ) (n : ℕ) (r : Checked) (l : lengthOf bytes ≡ slotSize) (e : slotNumbers bytes ≡ soundSlot 1 n)
     (p : payload ≡ part payloadAt n bytes) (j : checkedNumbers r ≡ checkNumbers P payload) where
-  pub broken-told : r ≡ Unsound → infoNumbers P bytes ≡ refusedInfo 7
-  broken-told t =
-      info-broken P bytes l n e (sym (ap (λ (x : List ℕ). sound P x) p) ∙ subst (λ (x : Checked). Judges P payload x) t (judged P payload r j))
+  pub broken-told : (offset : ℕ) → r ≡ Unsound offset → infoNumbers P bytes ≡ refusedInfo 7
+  broken-told offset t =
+      info-broken P bytes l n e (sym (ap (λ (x : List ℕ). sound P x) p) ∙ subst (λ (x : Checked). Judges P payload x) t (judged P payload r j) .is)
 
   pub patch-told : (count : ℕ) (at at′ : ℤ) → r ≡ Sound count at → at′ ≡ at
       → infoNumbers P bytes ≡ record { number = 0; kind = 1; length = n; entries = count; last = at′ }

@@ -43,7 +43,7 @@ pub fn inspect(bytes: &[u8]) -> Info
         },
         SlotState::Patch(n) => {
             match payload::check(span::part(bytes, Layout::PAYLOAD_AT, n), Layout::PAGE) {
-                Checked::Unsound => Info::Refused(Refusal::Payload),
+                Checked::Unsound { offset: _ } => Info::Refused(Refusal::Payload),
                 Checked::Sound { entries, last } => Info::Slot {
                     kind: Kind::Patch,
                     length: n,

@@ -104,6 +104,14 @@ unfolding decided orElse
 decided-or number d r zero f = refl
 decided-or number d r (suc k) f = f (suc k)
 
+-- a further number beside that: 0 where nothing is refused, else what goes with the number
+pub decided-beside : {A : Type 0} (number beside : A → ℕ) (with : ℕ → ℕ) (d : A) (r : ℕ → A) (n : ℕ) → number d ≡ 0 → beside d ≡ 0
+    → ((k : ℕ) → number (r k) ≡ k) → ((k : ℕ) → beside (r k) ≡ with k) → with 0 ≡ 0
+    → beside (decided n d r) ≡ with (number (decided n d r))
+unfolding decided
+decided-beside number beside with d r zero e z f g o = z ∙ sym o ∙ ap with (sym e)
+decided-beside number beside with d r (suc k) e z f g o = g (suc k) ∙ ap with (sym (f (suc k)))
+
 -- a row before others, and two lists one after the other
 pub row : {n : ℕ} {b : Bool} {rows : List Row} → Numbered rows → Numbered ((suc n ⇐ b) ∷ rows)
 row {n} w = one-more (λ (e : suc n ≡ 0). omega arith) w
@@ -111,6 +119,28 @@ row {n} w = one-more (λ (e : suc n ≡ 0). omega arith) w
 pub both : {xs ys : List Row} → Numbered xs → Numbered ys → Numbered (xs ++ ys)
 both no-row w = w
 both (one-more some v) w = one-more some (both v w)
+
+-- a number that no row has is not given
+pub data Lacks (k : ℕ) : List Row → Type 0 where
+  no-such : Lacks k []
+  another : {r : Row} {rows : List Row} → (r .number ≡ k → ⊥) → Lacks k rows → Lacks k (r ∷ rows)
+
+pub lacks : {k : ℕ} {b : Bool} {rows : List Row} (m : ℕ) → (m ≡ k → ⊥) → Lacks k rows → Lacks k ((m ⇐ b) ∷ rows)
+lacks m other w = another other w
+
+pub lacks-both : {k : ℕ} {xs ys : List Row} → Lacks k xs → Lacks k ys → Lacks k (xs ++ ys)
+lacks-both no-such w = w
+lacks-both (another other v) w = another other (lacks-both v w)
+
+pub first-lacks : (rows : List Row) (k : ℕ) → Lacks (suc k) rows → firstOf rows ≡ suc k → ⊥
+unfolding firstOf orElse
+first-lacks [] k w e = omega arith
+first-lacks (r ∷ rows) k (another other w) e = go (r .holds) (r .number) refl (first-lacks rows k w) e
+  where
+    go : (b : Bool) (m : ℕ) → r .number ≡ m → (firstOf rows ≡ suc k → ⊥) → orElse (cond b m 0) (firstOf rows) ≡ suc k → ⊥
+    go true zero q rest h = rest h
+    go true (suc m) q rest h = other (q ∙ h)
+    go false m q rest h = rest h
 
 -- two lists of rows one after the other
 or-assoc : (a b c : ℕ) → orElse (orElse a b) c ≡ orElse a (orElse b c)

@@ -1,9 +1,9 @@
 -- What one turn of each loop over a payload gives, over plain lists.
-use Prim.Native.Nat.{ℕ, suc, _+_, _≤_, _<_}
+use Prim.Native.Nat.{ℕ, suc, _+_, _-_, _≤_, _<_}
 use native.Mathlib.Omega.{arith}
 use mathlib.Core.Path.{_≡_, refl, sym, ap, _∙_, subst}
 use mathlib.Core.Bool.{Bool, true, false, _&&_, and-false, false≢true}
-use mathlib.Core.List.{List}
+use mathlib.Core.List.{List, [], _∷_}
 use mathlib.Core.Logic.{_⊎_, ⊎-elim}
 use lib.Dec.{leb, T}
 use lib.ListN.{length, drop, set, length-set}
@@ -14,9 +14,9 @@ use mir.Val.{Fits, SFits, toZ, ofZ}
 use mir.ValLaws.{toZ-ofZ}
 use borrow.Author.Tests.{le-leb, lt-leb, ltb-true}
 use Rattle.layout.specs.Sizes.{room}
-use Rattle.payload.specs.Entries.{Stream, done, cut, out, code, inPage, stream, start, payloadStream, whole, sound, entries, last, put, applied}
+use Rattle.payload.specs.Entries.{Stream, done, cut, out, code, inPage, stream, start, payloadStream, whole, sound, entries, last, used, breaksAt, put, applied}
 use Rattle.payload.specs.Steps.{Follows, Entered}
-use Rattle.payload.specs.StepLaws.{SoundAs}
+use Rattle.payload.specs.StepLaws.{SoundAs, UnsoundAt}
 use Rattle.payload.specs.declared.Step.{Step}
 
 -- A step's answer, once a `match` has told which it is.
@@ -49,14 +49,15 @@ pub record Passed (n : ℕ) (payload : List ℕ) (place : ℕ) (p : ℤ) (count 
   pub wholly : whole (payloadStream n payload) ≡ whole (stream n p code (drop place payload))
   pub many : entries (payloadStream n payload) ≡ count + entries (stream n p code (drop place payload))
   pub final : last start (payloadStream n payload) ≡ last p (stream n p code (drop place payload))
+  pub far : used (payloadStream n payload) ≡ place + used (stream n p code (drop place payload))
 
 pub passed-none : (n : ℕ) (payload : List ℕ) → Passed n payload 0 start 0
-passed-none n payload = record { on = omega arith; few = omega arith; wholly = refl; many = omega arith; final = refl }
+passed-none n payload = record { on = omega arith; few = omega arith; wholly = refl; many = omega arith; final = refl; far = omega arith }
 
 module _ (n : ℕ) (payload : List ℕ) (place : ℕ) (p : ℤ) (count : ℕ) (h : Passed n payload place p count) where
   pub passed-more : (q r : ℤ) (v next : ℕ) → r ≡ q → Entered n payload place (stream n p code (drop place payload)) q v next
       → Passed n payload next r (count + 1)
-  unfolding whole entries last
+  unfolding whole entries last used
   passed-more q r v next e m =
       subst (λ (z : ℤ). Passed n payload next z (count + 1)) (sym e)
       (record {
@@ -68,6 +69,10 @@ module _ (n : ℕ) (payload : List ℕ) (place : ℕ) (p : ℤ) (count : ℕ) (h
             (m .is) in
             omega (arith, h .many);
         final = h .final ∙ ap (λ (s : Stream). last p s) (m .is);
+        far =
+            let f : used (stream n p code (drop place payload)) ≡ (next - place) + used (stream n q code (drop next payload)) = ap (λ (s : Stream). used s)
+            (m .is) in
+            omega (arith, h .far, m .on);
       })
 
   pub passed-all : 1 ≤ length payload → length payload ≤ 504 → stream n p code (drop place payload) ≡ done → SoundAs n payload count p
@@ -81,21 +86,33 @@ module _ (n : ℕ) (payload : List ℕ) (place : ℕ) (p : ℤ) (count : ℕ) (h
         last = sym (h .final ∙ ap (λ (s : Stream). last p s) e);
       }
 
-  pub passed-broken : (stream n p code (drop place payload) ≡ cut) ⊎ (stream n p code (drop place payload) ≡ out) → sound n payload ≡ false
-  unfolding sound whole
-  passed-broken e =
+  pub passed-broken : length payload ≤ 504 → (stream n p code (drop place payload) ≡ cut) ⊎ (stream n p code (drop place payload) ≡ out)
+      → UnsoundAt n payload place
+  unfolding sound whole breaksAt used
+  passed-broken l e =
       let f : whole (payloadStream n payload) ≡ false =
       h .wholly ∙ ⊎-elim (λ (x : stream n p code (drop place payload) ≡ cut). ap (λ (s : Stream). whole s) x)
       (λ (x : stream n p code (drop place payload) ≡ out). ap (λ (s : Stream). whole s) x) e in
-      ap (λ (t : Bool). leb 1 (length payload) && leb (length payload) room && t) f ∙ and-false (leb 1 (length payload) && leb (length payload) room)
+      let g : used (stream n p code (drop place payload)) ≡ 0 =
+      ⊎-elim (λ (x : stream n p code (drop place payload) ≡ cut). ap (λ (s : Stream). used s) x)
+      (λ (x : stream n p code (drop place payload) ≡ out). ap (λ (s : Stream). used s) x) e in
+      let k : place ≡ used (payloadStream n payload) = omega (arith, h .far) in
+      record {
+        is = ap (λ (t : Bool). leb 1 (length payload) && leb (length payload) room && t) f ∙ and-false (leb 1 (length payload) && leb (length payload) room);
+        at = rw (le-leb (length payload) room l) k;
+      }
 
-pub unsound-empty : (n : ℕ) (payload : List ℕ) → length payload ≡ 0 → sound n payload ≡ false
-unfolding sound
-unsound-empty n payload e = rw (lt-leb 1 (length payload) (omega arith))
+pub unsound-empty : (n : ℕ) (payload : List ℕ) → length payload ≡ 0 → UnsoundAt n payload 0
+unfolding sound breaksAt used stream
+unsound-empty n [] e = record { is = refl; at = refl }
+unsound-empty n (b ∷ bs) e = absurd (omega arith)
 
-pub unsound-long : (n : ℕ) (payload : List ℕ) → 504 < length payload → sound n payload ≡ false
-unfolding sound
-unsound-long n payload h = rw (lt-leb (length payload) room h, le-leb 1 (length payload) (omega arith))
+pub unsound-long : (n : ℕ) (payload : List ℕ) → 504 < length payload → UnsoundAt n payload 0
+unfolding sound breaksAt
+unsound-long n payload h = record {
+  is = rw (lt-leb (length payload) room h, le-leb 1 (length payload) (omega arith));
+  at = rw (lt-leb (length payload) room h);
+}
 
 -- The overlay: what is known after the entries before `place` are written.
 pub record Laid (n : ℕ) (page₀ payload page : List ℕ) (place : ℕ) (p : ℤ) : Type 0 where

@@ -1,6 +1,6 @@
 -- "The stream": what a payload reads as in a page of n bytes.
 use Prim.Native.Nat.{ℕ, suc, _+_, _*_}
-use mathlib.Core.Bool.{Bool, true, false, _&&_}
+use mathlib.Core.Bool.{Bool, true, false, _&&_, cond}
 use mathlib.Core.List.{List, [], _∷_}
 use lib.Dec.{eqb, ltb, leb}
 use lib.ListN.{length, set}
@@ -64,6 +64,21 @@ whole (entry w q v rest) = whole rest
 -- "A payload is sound if it has 1 to 504 bytes and is used up by whole entries that stay in the page."
 unfoldable pub sound : ℕ → List ℕ → Bool
 sound n payload = leb 1 (length payload) && leb (length payload) room && whole (payloadStream n payload)
+
+-- how many bytes the whole entries at the front take that stay in the page
+unfoldable pub used : Stream → ℕ
+used done = 0
+used cut = 0
+used out = 0
+used (entry w q v rest) = w + used rest
+
+-- "the payload offset at which the first unsound entry starts, 0 for an empty or overlong payload"
+unfoldable pub breaksAt : ℕ → List ℕ → ℕ
+breaksAt n payload = cond (leb (length payload) room) (used (payloadStream n payload)) 0
+
+-- what a call tells of a payload beside its number: that offset with 7, "and [0] with any other answer"
+abbrev pub offsetWith : ℕ → ℕ → List ℕ → ℕ
+offsetWith number n payload = cond (eqb number 7) (breaksAt n payload) 0
 
 unfoldable pub entries : Stream → ℕ
 entries done = 0

@@ -1,16 +1,17 @@
--- The laws of the stream's reading: what each byte does, that an entry takes two bytes at least, and what an entry of each form reads as.
-use Prim.Native.Nat.{ℕ, _+_, _*_, _≤_}
+-- The laws of the stream's reading: what each byte does, that an entry takes two bytes at least, what an entry of each form reads as,
+-- and that a payload breaks no further than it goes.
+use Prim.Native.Nat.{ℕ, _+_, _-_, _*_, _≤_, _<_}
 use native.Mathlib.Omega.{arith}
 use mathlib.Core.Path.{_≡_, refl, ap, _∙_}
-use mathlib.Core.Bool.{Bool, true, false, _&&_, false≢true}
+use mathlib.Core.Bool.{Bool, true, false, cond, _&&_, false≢true}
 use mathlib.Core.List.{List, [], _∷_}
 use lib.Dec.{eqb, leb}
 use lib.ListN.{length}
 use lib.IntN.{ℤ, pos, _+ℤ_}
-use borrow.Author.Tests.{eq-eqb, ne-eqb, leb-true, le-leb}
+use borrow.Author.Tests.{eq-eqb, ne-eqb, leb-true, le-leb, lt-leb}
 use Rattle.layout.specs.Sizes.{room}
 use Rattle.payload.specs.Entries.{Stream, out, entry, Next, code, low, high, value, inPage, stream, start, payloadStream, whole}
-use Rattle.payload.specs.Entries.{sound, entries}
+use Rattle.payload.specs.Entries.{sound, used, breaksAt, offsetWith, entries}
 
 module _ (n : ℕ) (p : ℤ) where
   pub code-short : (b : ℕ) (bs : List ℕ) → (b ≡ 255 → ⊥) → stream n p code (b ∷ bs) ≡ stream n p (value 2 b) bs
@@ -99,3 +100,58 @@ sound-few n payload h =
     let p : Parts n payload = sound-parts n payload h in
     let f : length payload ≤ 504 = p .few in
     omega (arith, entries-few n payload start code)
+
+-- Where a payload breaks
+
+pub breaks-empty : (n : ℕ) (payload : List ℕ) → length payload ≡ 0 → breaksAt n payload ≡ 0
+unfolding breaksAt used stream
+breaks-empty n [] e = refl
+breaks-empty n (b ∷ bs) e = absurd (omega arith)
+
+pub breaks-long : (n : ℕ) (payload : List ℕ) → room < length payload → breaksAt n payload ≡ 0
+unfolding breaksAt
+breaks-long n payload h = rw (lt-leb (length payload) room h)
+
+-- the offset goes with 7 alone
+pub offset-other : (number n : ℕ) (payload : List ℕ) → (number ≡ 7 → ⊥) → offsetWith number n payload ≡ 0
+offset-other number n payload h = rw (ne-eqb number 7 h)
+
+-- how many bytes of an entry stand before its next byte
+abbrev pub taken : Next → ℕ
+taken code = 0
+taken low = 1
+taken (high l) = 2
+taken (value w j) = w - 1
+
+-- no further than the bytes go
+pub used-few : (n : ℕ) (l : List ℕ) (p : ℤ) (x : Next) → used (stream n p x l) ≤ length l + taken x
+unfolding stream used
+used-few n [] p code = omega arith
+used-few n [] p low = omega arith
+used-few n [] p (high a) = omega arith
+used-few n [] p (value w j) = omega arith
+used-few n (b ∷ bs) p code = go (eqb b 255) (used-few n bs p low) (used-few n bs p (value 2 b))
+  where
+    go : (t : Bool) → used (stream n p low bs) ≤ length bs + 1 → used (stream n p (value 2 b) bs) ≤ length bs + 1
+        → used (elim t as (λ _. Stream) [ true ↦ stream n p low bs | false ↦ stream n p (value 2 b) bs ]) ≤ length (b ∷ bs) + 0
+    go true h k = omega arith
+    go false h k = omega arith
+used-few n (b ∷ bs) p low = omega (arith, used-few n bs p (high b))
+used-few n (b ∷ bs) p (high a) = omega (arith, used-few n bs p (value 4 (a + 256 * b)))
+used-few n (b ∷ bs) p (value w j) = go (inPage n (p +ℤ pos (j + 1))) (used-few n bs (p +ℤ pos (j + 1)) code)
+  where
+    go : (t : Bool) → used (stream n (p +ℤ pos (j + 1)) code bs) ≤ length bs + 0
+        → used (elim t as (λ _. Stream) [
+          | true ↦ entry w (p +ℤ pos (j + 1)) b (stream n (p +ℤ pos (j + 1)) code bs)
+          | false ↦ out
+        ]) ≤ length (b ∷ bs) + (w - 1)
+    go true h = omega arith
+    go false h = omega arith
+
+pub breaks-few : (n : ℕ) (payload : List ℕ) → breaksAt n payload ≤ room
+unfolding breaksAt
+breaks-few n payload = go (leb (length payload) room) refl
+  where
+    go : (t : Bool) → leb (length payload) room ≡ t → cond t (used (payloadStream n payload)) 0 ≤ room
+    go true e = omega (arith, used-few n payload start code, leb-true (length payload) room e)
+    go false e = omega arith

@@ -71,7 +71,7 @@ bytes-take zero bs h = tt {0}
 bytes-take (suc n) [] h = tt {0}
 bytes-take (suc n) (b ∷ bs) h = (h .0, bytes-take n bs (h .1))
 
-bytes-drop : (n : ℕ) (bs : List ℕ) → Bytes bs → Bytes (drop n bs)
+pub bytes-drop : (n : ℕ) (bs : List ℕ) → Bytes bs → Bytes (drop n bs)
 bytes-drop zero bs h = h
 bytes-drop (suc n) [] h = tt {0}
 bytes-drop (suc n) (b ∷ bs) h = bytes-drop n bs (h .1)

@@ -7,7 +7,7 @@ use mathlib.Core.List.{List}
 use mathlib.Core.Logic.{_⊎_, inl, inr}
 use lib.ListN.{drop}
 use lib.IntN.{ℤ, pos}
-use Rattle.payload.specs.Entries.{Stream, done, cut, out, entry, code, stream, start, payloadStream, sound}
+use Rattle.payload.specs.Entries.{Stream, done, cut, out, entry, code, stream, start, payloadStream, sound, breaksAt}
 use Rattle.payload.specs.Entries.{entries as entriesOf, last as lastOf}
 use Rattle.payload.specs.Steps.{Entered, Follows, CheckedNumbers, checkedNumbers, checkNumbers}
 use Rattle.payload.specs.declared.Step.{Step}
@@ -21,47 +21,51 @@ pub record SoundAs (n : ℕ) (payload : List ℕ) (count : ℕ) (at : ℤ) : Typ
   pub entries : count ≡ entriesOf (payloadStream n payload)
   pub last : at ≡ lastOf start (payloadStream n payload)
 
+pub record UnsoundAt (n : ℕ) (payload : List ℕ) (offset : ℕ) : Type 0 where
+  pub is : sound n payload ≡ false
+  pub at : offset ≡ breaksAt n payload
+
 abbrev pub Judges : ℕ → List ℕ → Checked → Type 0
-Judges n payload Unsound = sound n payload ≡ false
+Judges n payload (Unsound offset) = UnsoundAt n payload offset
 Judges n payload (Sound count at) = SoundAs n payload count at
 
 abbrev found : ℕ → List ℕ → CheckedNumbers
-found n payload = record { number = 0; entries = entriesOf (payloadStream n payload); last = lastOf start (payloadStream n payload) }
+found n payload =
+    record { number = 0; entries = entriesOf (payloadStream n payload); last = lastOf start (payloadStream n payload); offset = 0 }
 
-abbrev none : CheckedNumbers
-none = record { number = 7; entries = 0; last = pos 0 }
+abbrev none : ℕ → CheckedNumbers
+none offset = record { number = 7; entries = 0; last = pos 0; offset = offset }
 
 module _ (n : ℕ) (payload : List ℕ) where
-  pub unsound-told : sound n payload ≡ false → record { number = 7; entries = 0; last = pos 0 } ≡ checkNumbers n payload
+  pub unsound-told : (offset : ℕ) → UnsoundAt n payload offset → checkedNumbers (Unsound offset) ≡ checkNumbers n payload
   unfolding checkNumbers
-  unsound-told e = rw e
+  unsound-told offset u = rw (u .is) (λ i. none (u .at i))
 
-  pub sound-told : (count : ℕ) (at : ℤ) → SoundAs n payload count at → record { number = 0; entries = count; last = at }
-      ≡ checkNumbers n payload
+  pub sound-told : (count : ℕ) (at : ℤ) → SoundAs n payload count at → checkedNumbers (Sound count at) ≡ checkNumbers n payload
   unfolding checkNumbers
-  sound-told count at s = rw (s .is) (λ i. record { number = 0; entries = s .entries i; last = s .last i })
+  sound-told count at s = rw (s .is) (λ i. record { number = 0; entries = s .entries i; last = s .last i; offset = 0 })
 
   pub judged : (r : Checked) → checkedNumbers r ≡ checkNumbers n payload → Judges n payload r
   unfolding checkNumbers
-  judged Unsound e = go (sound n payload) e
+  judged (Unsound offset) e = go (sound n payload) refl e
     where
-      go : (t : Bool)
-          → _≡_ {A = CheckedNumbers} none (cond t (found n payload) none) → t ≡ false
-      go true q = absurd (omega (arith, ap (λ (x : CheckedNumbers). x .number) q))
-      go false q = refl
+      go : (t : Bool) → sound n payload ≡ t
+          → _≡_ {A = CheckedNumbers} (none offset) (cond t (found n payload) (none (breaksAt n payload))) → UnsoundAt n payload offset
+      go true h q = absurd (omega (arith, ap (λ (x : CheckedNumbers). x .number) q))
+      go false h q = record { is = h; at = ap (λ (x : CheckedNumbers). x .offset) q }
   judged (Sound count at) e = go (sound n payload) refl e
     where
       go : (t : Bool) → sound n payload ≡ t
-          → _≡_ {A = CheckedNumbers} (record { number = 0; entries = count; last = at }) (cond t (found n payload) none)
+          → _≡_ {A = CheckedNumbers} (checkedNumbers (Sound count at)) (cond t (found n payload) (none (breaksAt n payload)))
           → SoundAs n payload count at
       go true h q = record { is = h; entries = ap (λ (x : CheckedNumbers). x .entries) q; last = ap (λ (x : CheckedNumbers). x .last) q }
       go false h q = absurd (omega (arith, ap (λ (x : CheckedNumbers). x .number) q))
 
 -- the numbers determine the check's answer
 pub checked-one : (a b : Checked) → checkedNumbers a ≡ checkedNumbers b → a ≡ b
-checked-one Unsound Unsound e = refl
-checked-one Unsound (Sound m q) e = absurd (omega (arith, ap (λ (x : CheckedNumbers). x .number) e))
-checked-one (Sound m q) Unsound e = absurd (omega (arith, ap (λ (x : CheckedNumbers). x .number) e))
+checked-one (Unsound o) (Unsound o′) e = λ i. Unsound (e i .offset)
+checked-one (Unsound o) (Sound m q) e = absurd (omega (arith, ap (λ (x : CheckedNumbers). x .number) e))
+checked-one (Sound m q) (Unsound o) e = absurd (omega (arith, ap (λ (x : CheckedNumbers). x .number) e))
 checked-one (Sound m q) (Sound k r) e = λ i. Sound (e i .entries) (e i .last)
 
 -- and a stream begins in one way

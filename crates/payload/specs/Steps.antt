@@ -6,7 +6,7 @@ use mathlib.Core.List.{List}
 use mathlib.Core.Logic.{_⊎_}
 use lib.ListN.{length, drop}
 use lib.IntN.{ℤ, pos}
-use Rattle.payload.specs.Entries.{Stream, done, cut, out, entry, code, inPage, stream, start, payloadStream, sound}
+use Rattle.payload.specs.Entries.{Stream, done, cut, out, entry, code, inPage, stream, start, payloadStream, sound, breaksAt}
 use Rattle.payload.specs.Entries.{entries as entriesOf, last as lastOf}
 use Rattle.payload.specs.declared.Step.{Step}
 use Rattle.payload.specs.declared.Step.the-variants.{End, Broken, Entry}
@@ -39,19 +39,20 @@ abbrev pub landing : Bool → ℤ → ℕ → ℕ → Step
 landing true q v next = Entry q v next
 landing false q v next = Broken
 
--- The check of a whole payload: the paper's numbers for each case of its answer, 7 where the payload is not sound
+-- The check of a whole payload: the paper's numbers for each case of its answer, 7 where the payload is not sound, and where it breaks
 
 pub record CheckedNumbers : Type 0 where
   pub number : ℕ
   pub entries : ℕ
   pub last : ℤ
+  pub offset : ℕ
 
 abbrev pub checkedNumbers : Checked → CheckedNumbers
-checkedNumbers Unsound = record { number = 7; entries = 0; last = pos 0 }
-checkedNumbers (Sound count at) = record { number = 0; entries = count; last = at }
+checkedNumbers (Unsound offset) = record { number = 7; entries = 0; last = pos 0; offset = offset }
+checkedNumbers (Sound count at) = record { number = 0; entries = count; last = at; offset = 0 }
 
 unfoldable pub checkNumbers : ℕ → List ℕ → CheckedNumbers
 checkNumbers n payload =
     cond (sound n payload)
-    (record { number = 0; entries = entriesOf (payloadStream n payload); last = lastOf start (payloadStream n payload) })
-    (record { number = 7; entries = 0; last = pos 0 })
+    (record { number = 0; entries = entriesOf (payloadStream n payload); last = lastOf start (payloadStream n payload); offset = 0 })
+    (record { number = 7; entries = 0; last = pos 0; offset = breaksAt n payload })

@@ -19,9 +19,10 @@ pub enum Step {
     },
 }
 
-// What a check of a whole payload finds: the number of entries and the last position of a sound one.
+// What a check of a whole payload finds: the number of entries and the last position of a sound one, or where the first unsound entry
+// starts, 0 if there are no bytes or too many.
 pub enum Checked {
-    Unsound,
+    Unsound { offset: usize },
     Sound { entries: usize, last: i32 },
 }
 
@@ -47,15 +48,15 @@ impl Code {
     {}
 }
 
-// Whether a payload is sound in a page of this size, its number of entries and its last position.
+// Whether a payload is sound in a page of this size, its number of entries and its last position, or where it breaks.
 pub fn check(payload: &[u8], size: usize) -> Checked
     ensures { λ r. ⌜ checkedNumbers r ≡ checkNumbers (reach size) (now (payload .entry)) ⌝ }
 {
     if payload.len() == 0 {
-        return Checked::Unsound;
+        return Checked::Unsound { offset: 0 };
     }
     if Layout::ROOM < payload.len() {
-        return Checked::Unsound;
+        return Checked::Unsound { offset: 0 };
     }
     let mut place = 0;
     let mut last: i32 = -1;
@@ -69,7 +70,7 @@ pub fn check(payload: &[u8], size: usize) -> Checked
                 };
             }
             Step::Broken => {
-                return Checked::Unsound;
+                return Checked::Unsound { offset: place };
             }
             Step::Entry {
                 position: at,

@@ -28,9 +28,10 @@ judged-one (JudgedRefused r) (JudgedRefused q) e = ap JudgedRefused (refusal-one
 
 pub reading-one : (a b : Reading) → readingNumbers a ≡ readingNumbers b → a ≡ b
 reading-one (ReadingDone k) (ReadingDone j) e = ap ReadingDone (kind-one k j (ap (λ (x : ReadNumbers). x .kind) e))
-reading-one (ReadingDone k) (ReadingRefused r) e = absurd (refusal-some r (sym (ap (λ (x : ReadNumbers). x .number) e)))
-reading-one (ReadingRefused r) (ReadingDone k) e = absurd (refusal-some r (ap (λ (x : ReadNumbers). x .number) e))
-reading-one (ReadingRefused r) (ReadingRefused q) e = ap ReadingRefused (refusal-one r q (ap (λ (x : ReadNumbers). x .number) e))
+reading-one (ReadingDone k) (ReadingRefused r o) e = absurd (refusal-some r (sym (ap (λ (x : ReadNumbers). x .number) e)))
+reading-one (ReadingRefused r o) (ReadingDone k) e = absurd (refusal-some r (ap (λ (x : ReadNumbers). x .number) e))
+reading-one (ReadingRefused r o) (ReadingRefused q u) e =
+    λ i. ReadingRefused (refusal-one r q (ap (λ (x : ReadNumbers). x .number) e) i) (e i .offset)
 
 pub written-one : (a b : Written) → writtenNumbers a ≡ writtenNumbers b → a ≡ b
 written-one (WrittenDone k n) (WrittenDone j m) e = λ i. WrittenDone (kind-one k j (ap (λ (x : WriteNumbers). x .kind) e) i) (e i .length)

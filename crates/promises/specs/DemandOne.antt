@@ -3,16 +3,14 @@
 --
 -- That every call takes anything and ends is what the prover checks: no call has a `requires`. The rest stands here, over the predicates
 -- that the contracts cite: each number is given exactly when its condition holds and no earlier one does; and where the answer's number
--- is
--- not 0, every lent byte is as it was, and the other numbers of the answer are 0, "except that Build gives the block with 6, 7, 8 and
--- 10".
--- Judge, Look up and Tally are lent nothing to write.
+-- is not 0, every lent byte is as it was, and the other numbers of the answer are 0, "except that Build gives the block with 6, 7, 8 and
+-- 10", and Apply, Read and Build the payload offset with 7. Judge, Look up and Tally are lent nothing to write.
 use Prim.Native.Nat.{ℕ, _≤_}
 use native.Mathlib.Omega.{arith}
-use mathlib.Core.Path.{_≡_, refl, sym, ap, _∙_}
+use mathlib.Core.Path.{_≡_, refl, sym, ap, _∙_, subst}
 use mathlib.Core.Logic.{_⊎_, _↔_}
 use mathlib.Core.List.{List, []}
-use lib.IntN.{pos}
+use lib.IntN.{ℤ, pos}
 use Rattle.layout.specs.Numbers.{refusalNumber}
 use Rattle.layout.specs.RefusalLaws.{NoneHolds, Exactly}
 use Rattle.layout.specs.declared.Refusal.{Refusal}
@@ -23,9 +21,15 @@ use Rattle.blockmap.specs.declared.Looked.{Looked}
 use Rattle.blockmap.specs.declared.Looked.the-variants.{Done as LookedDone, Refused as LookedRefused}
 use Rattle.blockmap.specs.declared.Tallied.{Tallied}
 use Rattle.blockmap.specs.declared.Tallied.the-variants.{Done as TalliedDone, Refused as TalliedRefused}
+use Rattle.entry_reader.specs.Turns.{nextRows, turnNumbers, Turned}
+use Rattle.entry_reader.specs.Given.{PutBack, next-exactly, stays-put}
+use Rattle.entry_reader.specs.declared.Turn.{Turn}
 use Rattle.stream.specs.Calls.{ComparedNumbers, compareRows, comparedNumbers, Compare, AppliedNumbers, applyRows, appliedNumbers, Apply}
 use Rattle.stream.specs.Calls.{applyRefused}
-use Rattle.stream.specs.Given.{compare-exactly, apply-exactly}
+use Rattle.payload.specs.Entries.{offsetWith}
+use Rattle.slots.specs.Slots.{payloadOf}
+use Rattle.store.specs.Block.{slotOf}
+use Rattle.stream.specs.Given.{compare-exactly, apply-exactly, apply-told}
 use Rattle.stream.specs.declared.Compared.{Compared}
 use Rattle.stream.specs.declared.Compared.the-variants.{Done as ComparedDone, Refused as ComparedRefused}
 use Rattle.stream.specs.declared.Applied.{Applied}
@@ -37,9 +41,9 @@ use Rattle.reading.specs.Read.{ReadNumbers, readRows, readingNumbers, Read}
 use Rattle.writing.specs.Write.{WriteNumbers, writeRows, writtenNumbers, Write}
 use Rattle.building.specs.Build.{faultRows, blockFault, BuildNumbers, builtNumbers, Build}
 use Rattle.store.specs.Given.{format-exactly, judge-exactly, show-exactly, show-some}
-use Rattle.reading.specs.Given.{read-exactly}
+use Rattle.reading.specs.Given.{read-exactly, read-told}
 use Rattle.writing.specs.Given.{write-exactly}
-use Rattle.building.specs.Given.{block-exactly, allRows, build-exactly}
+use Rattle.building.specs.Given.{block-exactly, allRows, build-exactly, build-told}
 use Rattle.store.specs.declared.Formatted.{Formatted}
 use Rattle.store.specs.declared.Judged.{Judged}
 use Rattle.store.specs.declared.Judged.the-variants.{Done as JudgedDone, Refused as JudgedRefused}
@@ -79,6 +83,11 @@ module _ (P : ℕ) where
   pub apply-refuses : (base payload page : List ℕ) (a : Applied) (after : List ℕ) → Apply P base payload page a after
       → Exactly (applyRows P base payload page) (appliedNumbers a .number)
   apply-refuses base payload page a after x = rw (x .numbers) (apply-exactly P base payload page)
+
+  -- a step of the entry reader
+  pub next-refuses : (payload : List ℕ) (at : ℕ) (position : ℤ) (a : Turn) → Turned P payload at position a
+      → Exactly (nextRows P payload at position) (turnNumbers a .number)
+  next-refuses payload at position a x = rw (x .turn) (next-exactly P payload at position)
 
   pub judge-refuses : (slot : List ℕ) (a : Judged) → Judge slot a → Exactly (judgeRows slot) (judgedNumbers a .number)
   judge-refuses slot a x = rw (x .numbers) (judge-exactly slot)
@@ -153,7 +162,30 @@ module _ (P : ℕ) where
       let k = build-kept P patch full map (λ e. h (ap (λ (n : BuildNumbers). n .number) (x .numbers) ∙ e)) in
       (x .bytes ∙ k .0, rw (x .numbers) (k .1))
 
--- and the other numbers of the answer are 0
+  -- "With 7, Apply must also give the payload offset at which the first unsound entry starts, 0 ... with any other answer. Read and Build
+  -- pass it on"
+
+  pub apply-offset : (base payload page : List ℕ) (a : Applied) (after : List ℕ) → Apply P base payload page a after
+      → appliedNumbers a .offset ≡ offsetWith (appliedNumbers a .number) P payload
+  apply-offset base payload page a after x = rw (x .numbers) (apply-told P base payload page)
+
+  pub read-offset : (patch full : List ℕ) (b : ℕ) (base page : List ℕ) (a : Reading) (after : List ℕ)
+      → Read P patch full b base page a after
+      → readingNumbers a .offset ≡ offsetWith (readingNumbers a .number) P (payloadOf (slotOf patch b))
+  read-offset patch full b base page a after x = rw (x .numbers) (read-told P patch full b base page)
+
+  pub build-offset : (patch full map : List ℕ) (a : Built) (after : List ℕ) → Build P patch full map a after
+      → builtNumbers a .offset ≡ offsetWith (builtNumbers a .number) P (payloadOf (slotOf patch (builtNumbers a .block)))
+  build-offset patch full map a after x = rw (x .numbers) (build-told P patch full map)
+
+  -- A step of the entry reader that finds no entry is a stop and no refusal: the reader stands where it stood, and the value is 0
+  pub next-stays : (payload : List ℕ) (at : ℕ) (position : ℤ) (a : Turn) → Turned P payload at position a → turnNumbers a .found ≡ 0
+      → PutBack at position (turnNumbers a)
+  next-stays payload at position a x e =
+      subst (λ (t : Turn). PutBack at position (turnNumbers t)) (sym (x .turn))
+      (stays-put P payload at position (ap (λ (t : Turn). turnNumbers t .found) (sym (x .turn)) ∙ e))
+
+-- and the other numbers of the answer are 0, but for that offset
 
 pub compare-zeros : (a : Compared) → (comparedNumbers a .number ≡ 0 → ⊥)
     → comparedNumbers a ≡ record { number = comparedNumbers a .number; kind = 0; length = 0; entries = 0; last = pos 0 }
@@ -161,9 +193,9 @@ compare-zeros (ComparedDone k n e l) h = absurd (h refl)
 compare-zeros (ComparedRefused r) h = refl
 
 pub apply-zeros : (a : Applied) → (appliedNumbers a .number ≡ 0 → ⊥)
-    → appliedNumbers a ≡ applyRefused (appliedNumbers a .number)
+    → appliedNumbers a ≡ applyRefused (appliedNumbers a .number) (appliedNumbers a .offset)
 apply-zeros (AppliedDone e l) h = absurd (h refl)
-apply-zeros (AppliedRefused r) h = refl
+apply-zeros (AppliedRefused r o) h = refl
 
 pub judge-zeros : (a : Judged) → (judgedNumbers a .number ≡ 0 → ⊥)
     → judgedNumbers a ≡ record { number = judgedNumbers a .number; kind = 0; length = 0 }
@@ -171,9 +203,9 @@ judge-zeros (JudgedDone k n) h = absurd (h refl)
 judge-zeros (JudgedRefused r) h = refl
 
 pub read-zeros : (a : Reading) → (readingNumbers a .number ≡ 0 → ⊥)
-    → readingNumbers a ≡ record { number = readingNumbers a .number; kind = 0 }
+    → readingNumbers a ≡ record { number = readingNumbers a .number; kind = 0; offset = readingNumbers a .offset }
 read-zeros (ReadingDone k) h = absurd (h refl)
-read-zeros (ReadingRefused r) h = refl
+read-zeros (ReadingRefused r o) h = refl
 
 pub write-zeros : (a : Written) → (writtenNumbers a .number ≡ 0 → ⊥)
     → writtenNumbers a ≡ record { number = writtenNumbers a .number; kind = 0; length = 0 }

@@ -1,7 +1,8 @@
 -- Demand 2. "Slots, streams and pages follow the published version 2 layout. A write stores an empty slot if the page equals its base, a
 -- patch if the stream takes at most 504 bytes, a full page otherwise, and refuses for room only if the full area has no place for that
 -- block. Reading back over the same base gives the written page; every sound slot from elsewhere reads as the layout says, unless its
--- payload is unsound or its full page missing."
+-- payload is unsound or its full page missing." With an unsound payload comes "the payload offset at which the first unsound entry
+-- starts".
 --
 -- `writeOutcome`, `readOutcome` and `Show` are what the contracts of Write, Read and Show cite; the other words are in `Words`. Any lists
 -- are areas, bases and pages here, and any number is a block.
@@ -15,9 +16,10 @@ use lib.ListN.{length}
 use Rattle.span.specs.Bytes.{zeros}
 use Rattle.layout.specs.Sizes.{pageSize, slotAt, payloadAt}
 use Rattle.slots.specs.Slots.{emptySlot, fullSlot}
-use Rattle.payload.specs.Entries.{start, payloadStream, sound, applied}
+use Rattle.payload.specs.Entries.{start, payloadStream, sound, breaksAt, applied}
 use Rattle.stream.specs.Calls.{pageOf}
 use Rattle.payload.specs.Spelling.{Spelled, Bytes}
+use Rattle.payload.specs.Breaking.{Breaks}
 use Rattle.writer.specs.Writer.{placed}
 use Rattle.writer.specs.ReadBack.{pokes}
 use Rattle.store.specs.Block.{slotOf, placeOf}
@@ -93,23 +95,24 @@ module _ (patch full : List ℕ) (b : ℕ) (base page : List ℕ) where
     patch-slot = reads-patch pageSize patch full b base page fits below
 
     pub patch-slot-7 : (payload : List ℕ) → PatchOf (slotOf patch b) payload → sound pageSize payload ≡ false
-        → read ≡ readRefused 7 page
+        → read ≡ readRefused 7 (breaksAt pageSize payload) page
     patch-slot-7 = reads-unsound pageSize patch full b base page fits below
 
-    -- the same by the entries that spell the payload: each value at its entry's place over the base, and 7 where no entries spell it
+    -- the same by the entries that spell the payload: each value at its entry's place over the base, and 7 where no entries spell it,
+    -- with the offset at which they break off
     pub patch-slot-spelled : (payload : List ℕ) → PatchOf (slotOf patch b) payload → (w : Spelled pageSize start payload)
         → read ≡ readDone 1 (pokes (pageOf pageSize base) (placed 0 (w .entries)))
     patch-slot-spelled = reads-spelled pageSize patch full b base page fits below
 
-    pub patch-slot-unspelled : Bytes patch → (payload : List ℕ) → PatchOf (slotOf patch b) payload
-        → (read .number ≡ 7) ↔ (Spelled pageSize start payload → ⊥)
+    pub patch-slot-unspelled : Bytes patch → (payload : List ℕ) → PatchOf (slotOf patch b) payload → (at : ℕ)
+        → (read ≡ readRefused 7 at page) ↔ ((Spelled pageSize start payload → ⊥) × Breaks pageSize payload at)
     patch-slot-unspelled = reads-unspelled pageSize patch full b base page fits below
 
     pub full-slot : slotOf patch b ≡ fullSlot → b < places pageSize full
         → read ≡ readDone 2 (placeOf pageSize full b)
     full-slot = reads-full pageSize patch full b base page fits below
 
-    pub full-slot-8 : slotOf patch b ≡ fullSlot → places pageSize full ≤ b → read ≡ readRefused 8 page
+    pub full-slot-8 : slotOf patch b ≡ fullSlot → places pageSize full ≤ b → read ≡ readRefused 8 0 page
     full-slot-8 = reads-missing pageSize patch full b base page fits below
 
     -- "unless its payload is unsound or its full page missing": no other number is given for a sound slot

@@ -5,10 +5,14 @@
 use Prim.Native.Nat.{ℕ}
 use mathlib.Core.Path.{_≡_, sym, _∙_}
 use mathlib.Core.List.{List}
+use lib.IntN.{ℤ}
 use Rattle.blockmap.specs.Calls.{LookUp, Tally}
 use Rattle.blockmap.specs.CallLaws.{look-up-one, tally-one}
 use Rattle.blockmap.specs.declared.Looked.{Looked}
 use Rattle.blockmap.specs.declared.Tallied.{Tallied}
+use Rattle.entry_reader.specs.Turns.{Turned}
+use Rattle.entry_reader.specs.Given.{turned-only}
+use Rattle.entry_reader.specs.declared.Turn.{Turn}
 use Rattle.stream.specs.Calls.{Compare, Apply}
 use Rattle.stream.specs.Only.{compare-only, apply-only}
 use Rattle.stream.specs.declared.Compared.{Compared}
@@ -40,6 +44,10 @@ module _ (P : ℕ) where
   pub one-apply : (base payload page : List ℕ) (a b : Applied) (p q : List ℕ) → Apply P base payload page a p
       → Apply P base payload page b q → (a ≡ b) × (p ≡ q)
   one-apply = apply-only P
+
+  pub one-next : (payload : List ℕ) (at : ℕ) (position : ℤ) (a b : Turn) → Turned P payload at position a → Turned P payload at position b
+      → a ≡ b
+  one-next = turned-only P
 
   pub one-judge : (slot : List ℕ) (a b : Judged) → Judge slot a → Judge slot b → a ≡ b
   one-judge slot a b x y = judged-one a b (x .numbers ∙ sym (y .numbers))

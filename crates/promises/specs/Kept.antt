@@ -15,7 +15,7 @@ use Rattle.layout.specs.Groups.{ordered}
 use Rattle.layout.specs.FirstFaultLaws.{number-among}
 use Rattle.slots.specs.Slots.{slotNumbers, payloadOf}
 use Rattle.layout.specs.Lengths.{blocksIn, pagesIn}
-use Rattle.payload.specs.Entries.{sound}
+use Rattle.payload.specs.Entries.{sound, offsetWith}
 use Rattle.stream.specs.Calls.{compareRows, compareNumbers, compareBuffer, applyRows, applyNumbers, applyPage}
 use Rattle.stream.specs.Laws.{compare-not, apply-not}
 use Rattle.stream.specs.Kinds.{compare-gives}
@@ -115,8 +115,8 @@ build-kept P patch full map h =
   where
     built : ℕ → ℕ → ℕ → List ℕ → BuildOutcome
     built k n b done =
-        decided k (decided n (buildDone done) (λ n. buildRefused n b map))
-        (λ n. buildRefused n 0 map)
+        decided k (decided n (buildDone done) (λ n. buildRefused n b (offsetWith n P (payloadOf (slotOf patch b))) map))
+        (λ n. buildRefused n 0 0 map)
 
     go : (k n b : ℕ) (done : List ℕ) → (n ≡ 0) ⊎ OfBlock n → (built k n b done .number ≡ 0 → ⊥)
         → (built k n b done .map ≡ map) × ((built k n b done .block ≡ 0) ⊎ OfBlock (built k n b done .number))

@@ -13,6 +13,7 @@ pub mod ReadLaws
 pub mod WriteLaws
 pub mod ShowLaws
 pub mod DemandTwo
+pub mod EntryReading
 pub mod Decisions
 pub mod DecisionLaws
 pub mod RunWords
@@ -28,6 +29,7 @@ pub mod Answers
 pub mod Determined
 pub mod Leaves
 pub mod OrdersWrong
+pub mod OffsetsWrong
 pub mod Kept
 pub mod DemandOne
 pub mod Sample

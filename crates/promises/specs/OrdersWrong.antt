@@ -20,12 +20,12 @@ use Rattle.building.specs.Build.{buildRows, buildOutcome, BuildNumbers, Build}
 use Rattle.building.specs.declared.Built.the-variants.{Refused as BuildRefused}
 
 -- a base of one byte and a patch area of none: 1, and not 2
-pub not-lengths-before-pages : Read pageSize [] [] 0 (0 ∷ []) [] (ReadRefused Length) [] → ⊥
+pub not-lengths-before-pages : Read pageSize [] [] 0 (0 ∷ []) [] (ReadRefused Length 0) [] → ⊥
 unfolding readOutcome readRows ordered pagesFit firstOf orElse decided
 not-lengths-before-pages x = omega (arith, ap (λ (n : ReadNumbers). n .number) (x .numbers))
 
 -- a patch area that is one byte too long for its one block, and no room for the map: 2, and not 9
-pub not-buffer-before-lengths : Build pageSize (zeros 1025) [] [] (BuildRefused Buffer 0) [] → ⊥
+pub not-buffer-before-lengths : Build pageSize (zeros 1025) [] [] (BuildRefused Buffer 0 0) [] → ⊥
 unfolding zeros buildOutcome buildRows ordered lengthRows patchFits blocksIn firstOf orElse decided
 not-buffer-before-lengths x = omega (arith, ap (λ (n : BuildNumbers). n .number) (x .numbers))
 

@@ -12,7 +12,7 @@ use Rattle.layout.specs.Numbers.{refusalNumber}
 use Rattle.layout.specs.NumberLaws.{refusal-some}
 use Rattle.layout.specs.declared.Refusal.{Refusal}
 use Rattle.layout.specs.declared.Kind.the-variants.{Patch}
-use Rattle.payload.specs.Entries.{payloadStream, sound, applied}
+use Rattle.payload.specs.Entries.{payloadStream, sound, breaksAt, applied}
 use Rattle.stream.specs.Calls.{AppliedNumbers, appliedNumbers}
 use Rattle.payload.specs.Steps.{farthest, reach}
 use Rattle.stream.specs.Steps.{Applies, application}
@@ -32,8 +32,8 @@ module _ (base payload page after : List ℕ) (r : Applied) (lb : length base �
       let e : reach (length page) ≡ length page = omega arith in
       subst (λ (n : ℕ). Applies n base payload page r after) e w
 
-  number : (t : Bool) → sound (length page) payload ≡ t → appliedNumbers r .number ≡ application t (payloadStream (length page) payload) .number
-  number t s = ap (λ (x : AppliedNumbers). x .number) (w′ .numbers) ∙ ap (λ (t : Bool). application t (payloadStream (length page) payload) .number) s
+  number : (t : Bool) → sound (length page) payload ≡ t → appliedNumbers r .number ≡ application t (length page) payload .number
+  number t s = ap (λ (x : AppliedNumbers). x .number) (w′ .numbers) ∙ ap (λ (t : Bool). application t (length page) payload .number) s
 
   pub apply-reads : (e : ℕ) (l : ℤ) → r ≡ AppliedDone e l → PatchRead (length page) base payload page (Done Patch) after
   apply-reads e l told = go (sound (length page) payload) refl
@@ -46,12 +46,15 @@ module _ (base payload page after : List ℕ) (r : Applied) (lb : length base �
           let z : _≡_ {A = ℕ} 0 7 = ap (λ (x : Applied). appliedNumbers x .number) (sym told) ∙ number false s in
           absurd (omega arith)
 
-  pub apply-refuses : (x : Refusal) → r ≡ AppliedRefused x → PatchRead (length page) base payload page (Refused x) after
-  apply-refuses x told = go (sound (length page) payload) refl
+  pub apply-refuses : (x : Refusal) (o : ℕ) → r ≡ AppliedRefused x o → PatchRead (length page) base payload page (Refused x o) after
+  apply-refuses x o told = go (sound (length page) payload) refl
     where
-      go : (t : Bool) → sound (length page) payload ≡ t → PatchRead (length page) base payload page (Refused x) after
+      go : (t : Bool) → sound (length page) payload ≡ t → PatchRead (length page) base payload page (Refused x o) after
       go true s = absurd (refusal-some x (ap (λ (y : Applied). appliedNumbers y .number) (sym told) ∙ number true s))
       go false s =
           let z : refusalNumber x ≡ 7 = ap (λ (y : Applied). appliedNumbers y .number) (sym told) ∙ number false s in
+          let at : o ≡ breaksAt (length page) payload =
+          ap (λ (y : Applied). appliedNumbers y .offset) (sym told) ∙ ap (λ (y : AppliedNumbers). y .offset) (w′ .numbers)
+          ∙ ap (λ (t : Bool). application t (length page) payload .offset) s in
           let b : after ≡ page = w′ .bytes ∙ rw s refl in
-          record { numbers = rw (s, z); bytes = rw s b }
+          record { numbers = rw s (λ i. record { number = z i; kind = 0; offset = at i }); bytes = rw s b }

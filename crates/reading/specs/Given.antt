@@ -3,11 +3,13 @@ use Prim.Native.Nat.{ℕ}
 use mathlib.Core.Path.{_≡_, refl}
 use mathlib.Core.List.{List}
 use Rattle.layout.specs.Refusals.{firstOf}
-use Rattle.layout.specs.RefusalLaws.{Exactly, exactly, decided-number, no-row, row, both}
+use Rattle.layout.specs.RefusalLaws.{Exactly, exactly, decided-number, decided-beside, no-row, row, both}
 use Rattle.layout.specs.Groups.{ordered}
 use Rattle.headers.specs.HeaderLaws.{headers-numbered}
 use Rattle.layout.specs.Lengths.{lengthRows}
-use Rattle.store.specs.Block.{slotRows, fullRows, payloadRows}
+use Rattle.store.specs.Block.{slotOf, slotRows, fullRows, payloadRows}
+use Rattle.slots.specs.Slots.{payloadOf}
+use Rattle.payload.specs.Entries.{offsetWith}
 use Rattle.reading.specs.Read.{ReadOutcome, readRows, readOutcome, readGroups}
 use Rattle.layout.specs.GroupLaws.{once}
 use mathlib.Core.Bool.{true}
@@ -25,6 +27,14 @@ module _ (P : ℕ) where
   read-exactly patch full b base page =
       exactly (readRows P patch full b base page) _ (read-number patch full b base page)
       (row (row (both (headers-numbered P patch full) (row (row (row (row no-row)))))))
+
+  -- the offset goes with 7 alone
+  pub read-told : (patch full : List ℕ) (b : ℕ) (base page : List ℕ) → readOutcome P patch full b base page .offset
+      ≡ offsetWith (readOutcome P patch full b base page .number) P (payloadOf (slotOf patch b))
+  unfolding readOutcome
+  read-told patch full b base page =
+      decided-beside (λ (o : ReadOutcome). o .number) (λ (o : ReadOutcome). o .offset) (λ k. offsetWith k P (payloadOf (slotOf patch b))) _ _
+      (firstOf (readRows P patch full b base page)) refl refl (λ k. refl) (λ k. refl) refl
 
 pub read-once : (P : ℕ) (patch full : List ℕ) (b : ℕ) (base page : List ℕ) → once (readGroups P patch full b base page) ≡ true
 read-once P patch full b base page = refl

@@ -13,7 +13,7 @@ use Rattle.layout.specs.Groups as group
 use Rattle.headers.specs.Headers.{headerRows}
 use Rattle.layout.specs.Lengths.{lengthRows}
 use Rattle.slots.specs.Slots.{slotNumbers, payloadOf}
-use Rattle.payload.specs.Entries.{payloadStream, applied}
+use Rattle.payload.specs.Entries.{payloadStream, offsetWith, applied}
 use Rattle.stream.specs.Calls.{pageOf, pageRows}
 use Rattle.store.specs.Block.{slotOf, placeOf, blockRows, slotRows, fullRows, payloadRows}
 use Rattle.reading.specs.declared.Reading.{Reading}
@@ -43,32 +43,34 @@ contents P patch full b base =
 pub record ReadOutcome : Type 0 where
   pub number : ℕ
   pub kind : ℕ
+  pub offset : ℕ
   pub page : List ℕ
 
--- done, and refused: the page keeps every byte, and the kind is 0
+-- done, and refused: the page keeps every byte, the kind is 0, and the offset goes with 7 alone
 abbrev pub readDone : ℕ → List ℕ → ReadOutcome
-readDone kind page = record { number = 0; kind = kind; page = page }
+readDone kind page = record { number = 0; kind = kind; offset = 0; page = page }
 
-abbrev pub readRefused : ℕ → List ℕ → ReadOutcome
-readRefused number page = record { number = number; kind = 0; page = page }
+abbrev pub readRefused : ℕ → ℕ → List ℕ → ReadOutcome
+readRefused number offset page = record { number = number; kind = 0; offset = offset; page = page }
 
 unfoldable pub readOutcome : ℕ → List ℕ → List ℕ → ℕ → List ℕ → List ℕ → ReadOutcome
 readOutcome P patch full b base page =
     decided (firstOf (readRows P patch full b base page))
     (readDone (slotNumbers (slotOf patch b) .kind) (contents P patch full b base))
-    (λ n. readRefused n page)
+    (λ k. readRefused k (offsetWith k P (payloadOf (slotOf patch b))) page)
 
 -- the paper's numbers for each case of the answer
 pub record ReadNumbers : Type 0 where
   pub number : ℕ
   pub kind : ℕ
+  pub offset : ℕ
 
 abbrev pub readingNumbers : Reading → ReadNumbers
-readingNumbers (Done k) = record { number = 0; kind = kindNumber k }
-readingNumbers (Refused r) = record { number = refusalNumber r; kind = 0 }
+readingNumbers (Done k) = record { number = 0; kind = kindNumber k; offset = 0 }
+readingNumbers (Refused r offset) = record { number = refusalNumber r; kind = 0; offset = offset }
 
 abbrev pub readNumbers : ReadOutcome → ReadNumbers
-readNumbers o = record { number = o .number; kind = o .kind }
+readNumbers o = record { number = o .number; kind = o .kind; offset = o .offset }
 
 pub record Read (P : ℕ) (patch full : List ℕ) (b : ℕ) (base page : List ℕ) (answer : Reading) (page′ : List ℕ) : Type 0 where
   pub numbers : readingNumbers answer ≡ readNumbers (readOutcome P patch full b base page)

@@ -10,13 +10,16 @@ use borrow.Author.Tests.{le-leb, lt-leb}
 use Rattle.span.specs.Bytes.{zeros}
 use Rattle.layout.specs.Refusals.{Row, firstOf, orElse, decided}
 use Rattle.layout.specs.RefusalLaws.{first-hit, first-skip, or-skip, or-some, decided-done, decided-refused}
+use Rattle.layout.specs.RefusalLaws.{no-such, lacks, first-lacks}
 use Rattle.layout.specs.GroupLaws.{in-halves}
 use Rattle.layout.specs.Lengths.{blocksIn, pagesIn}
 use Rattle.slots.specs.Slots.{slotNumbers, soundSlot, unsoundSlot, payloadOf}
-use Rattle.payload.specs.Entries.{payloadStream, sound, applied}
+use Rattle.payload.specs.Entries.{payloadStream, sound, breaksAt, offsetWith, applied}
+use Rattle.payload.specs.EntryLaws.{offset-other}
 use Rattle.stream.specs.Calls.{pageOf, pageRows}
 use Rattle.store.specs.Block.{slotOf, placeOf, blockRows, slotRows, fullRows, payloadRows}
 use Rattle.store.specs.Frame.{frameRows}
+use Rattle.store.specs.FrameLaws.{frame-lacks}
 use Rattle.reading.specs.declared.Reading.{Reading}
 use Rattle.reading.specs.Read.{readRows, contents, readOutcome, readDone, readRefused}
 use Rattle.reading.specs.Parts.{slotOutcome, BlockRead, PatchRead}
@@ -29,9 +32,13 @@ module _ (P : ℕ) (patch full : List ℕ) (b : ℕ) (base page : List ℕ) wher
   unfolding readRows frameRows
   read-rows = in-halves _
 
+  not-seven : firstOf (frameRows P (pageRows P base page) [] patch full) ≡ 7 → ⊥
+  not-seven = first-lacks (frameRows P (pageRows P base page) [] patch full) 6
+      (frame-lacks P patch full (pageRows P base page) [] 7 (omega arith) (lacks 1 (λ e. omega arith) no-such) no-such)
+
   -- the frame's refusal is the call's
   pub read-frame : (k : ℕ) → firstOf (frameRows P (pageRows P base page) [] patch full) ≡ k → (k ≡ 0 → ⊥)
-      → readOutcome P patch full b base page ≡ readRefused k page
+      → readOutcome P patch full b base page ≡ readRefused k 0 page
   unfolding readOutcome
   read-frame k e h =
       decided-refused _ _ (firstOf (readRows P patch full b base page)) k
@@ -40,9 +47,10 @@ module _ (P : ℕ) (patch full : List ℕ) (b : ℕ) (base page : List ℕ) wher
       ++ (fullRows P (slotOf patch b) full b ++ (payloadRows P (slotOf patch b) ++ ([] ++ []))))))) e
       ∙ or-some k (firstOf (blockRows patch b
       ++ (slotRows (slotOf patch b) ++ (fullRows P (slotOf patch b) full b ++ (payloadRows P (slotOf patch b) ++ ([] ++ [])))))) h) h
+      ∙ ap (λ (o : ℕ). readRefused k o page) (offset-other k P (payloadOf (slotOf patch b)) (λ q. not-seven (e ∙ q)))
 
   module _ (e : firstOf (frameRows P (pageRows P base page) [] patch full) ≡ 0) where
-    pub read-block : blocksIn (length patch) ≤ b → readOutcome P patch full b base page ≡ readRefused 5 page
+    pub read-block : blocksIn (length patch) ≤ b → readOutcome P patch full b base page ≡ readRefused 5 0 page
     unfolding readOutcome
     read-block h =
         decided-refused _ _ (firstOf (readRows P patch full b base page)) 5
@@ -60,7 +68,7 @@ module _ (P : ℕ) (patch full : List ℕ) (b : ℕ) (base page : List ℕ) wher
     read-slot h =
         let s : List ℕ = slotOf patch b in
         ap (λ (n : ℕ). decided n (readDone (slotNumbers s .kind) (contents P patch full b base))
-        (λ (n : ℕ). readRefused n page))
+        (λ (k : ℕ). readRefused k (offsetWith k P (payloadOf s)) page))
         (read-rows
         ∙ or-skip (firstOf (frameRows P (pageRows P base page) [] patch full))
         (firstOf (blockRows patch b ++ (slotRows s ++ (fullRows P s full b ++ (payloadRows P s ++ ([] ++ [])))))) e
@@ -71,7 +79,7 @@ module _ (P : ℕ) (patch full : List ℕ) (b : ℕ) (base page : List ℕ) wher
 -- by the slot's numbers
 module _ (P : ℕ) (patch full : List ℕ) (b : ℕ) (base page : List ℕ) where
   pub slot-unsound : slotNumbers (slotOf patch b) ≡ unsoundSlot
-      → slotOutcome P patch full b base page ≡ readRefused 6 page
+      → slotOutcome P patch full b base page ≡ readRefused 6 0 page
   unfolding slotOutcome slotRows fullRows payloadRows firstOf orElse
   slot-unsound e = decided-refused _ _
       (firstOf (slotRows (slotOf patch b) ++ (fullRows P (slotOf patch b) full b ++ payloadRows P (slotOf patch b)))) 6 (rw e)
@@ -84,7 +92,7 @@ module _ (P : ℕ) (patch full : List ℕ) (b : ℕ) (base page : List ℕ) wher
       (firstOf (slotRows (slotOf patch b) ++ (fullRows P (slotOf patch b) full b ++ payloadRows P (slotOf patch b)))) (rw e) ∙ rw e
 
   pub slot-missing : slotNumbers (slotOf patch b) ≡ soundSlot 2 0 → pagesIn P (length full) ≤ b
-      → slotOutcome P patch full b base page ≡ readRefused 8 page
+      → slotOutcome P patch full b base page ≡ readRefused 8 0 page
   unfolding slotOutcome slotRows fullRows payloadRows firstOf orElse
   slot-missing e h =
       decided-refused _ _ (firstOf (slotRows (slotOf patch b) ++ (fullRows P (slotOf patch b) full b ++ payloadRows P (slotOf patch b))))
@@ -98,7 +106,7 @@ module _ (P : ℕ) (patch full : List ℕ) (b : ℕ) (base page : List ℕ) wher
       (rw (e, lt-leb (pagesIn P (length full)) b h)) ∙ rw e
 
   pub slot-broken : (n : ℕ) → slotNumbers (slotOf patch b) ≡ soundSlot 1 n → sound P (payloadOf (slotOf patch b)) ≡ false
-      → slotOutcome P patch full b base page ≡ readRefused 7 page
+      → slotOutcome P patch full b base page ≡ readRefused 7 (breaksAt P (payloadOf (slotOf patch b))) page
   unfolding slotOutcome slotRows fullRows payloadRows firstOf orElse
   slot-broken n e h = decided-refused _ _
       (firstOf (slotRows (slotOf patch b) ++ (fullRows P (slotOf patch b) full b ++ payloadRows P (slotOf patch b)))) 7 (rw (e, h))
@@ -136,6 +144,6 @@ patch-read P patch full b base page n payload answer page′ told same-payload s
           bytes = rw e (r .bytes ∙ rw (h, same-base′, same-payload));
         }
     go false h =
-        let e : slotOutcome P patch full b base page ≡ readRefused 7 page =
+        let e : slotOutcome P patch full b base page ≡ readRefused 7 (breaksAt P (payloadOf (slotOf patch b))) page =
         slot-broken P patch full b base page n told (ap (λ (l : List ℕ). sound P l) (sym same-payload) ∙ h) in
-        record { numbers = rw e (r .numbers ∙ rw h); bytes = rw e (r .bytes ∙ rw h) }
+        record { numbers = rw e (r .numbers ∙ rw (h, same-payload)); bytes = rw e (r .bytes ∙ rw h) }

@@ -15,10 +15,11 @@ ghost use Rattle.store.specs.Block.{Places, Sized};
 ghost use Rattle.reading.specs.Parts.{BlockRead, PatchRead};
 ghost use Rattle.reading.specs.Read.{Read};
 
-// What Read answers: the kind of the block's slot.
+// What Read answers: the kind of the block's slot. With a payload that is not sound comes the offset at which its first unsound entry
+// starts; with any other refusal, 0.
 pub enum Reading {
     Done { kind: Kind },
-    Refused(Refusal),
+    Refused { refusal: Refusal, offset: usize },
 }
 
 // A patched block is what Apply makes of its payload, which is checked whole before the page's first byte is written.
@@ -28,7 +29,7 @@ fn read_patch(base: &[u8], payload: &[u8], page: &mut [u8]) -> Reading
         (now (page .exit)) ⌝ }
 {
     match stream::apply_to(base, payload, page) {
-        Applied::Refused(refusal) => Reading::Refused(refusal),
+        Applied::Refused { refusal, offset } => Reading::Refused { refusal, offset },
         Applied::Done {
             entries: _,
             last: _,
@@ -53,7 +54,10 @@ fn read_block(
 {
     let slot = span::part(patch, Layout::slot_at(block), Layout::SLOT);
     match slots::slot_state(slot) {
-        SlotState::Unsound => Reading::Refused(Refusal::Slot),
+        SlotState::Unsound => Reading::Refused {
+            refusal: Refusal::Slot,
+            offset: 0,
+        },
         SlotState::Empty => {
             span::copy(page, base);
             Reading::Done { kind: Kind::Empty }
@@ -61,7 +65,10 @@ fn read_block(
         SlotState::Patch(n) => read_patch(base, span::part(slot, Layout::PAYLOAD_AT, n), page),
         SlotState::Full => {
             if m <= block {
-                return Reading::Refused(Refusal::FullPage);
+                return Reading::Refused {
+                    refusal: Refusal::FullPage,
+                    offset: 0,
+                };
             }
             span::copy(
                 page,
@@ -80,10 +87,16 @@ pub fn read(patch: &[u8], full: &[u8], block: usize, base: &[u8], page: &mut [u8
     let page_size = Layout::PAGE as u32;
     let fit = stream::pages_fit(page_size, base, page);
     match store::frame::open(page_size, fit, true, patch, full) {
-        Opened::Refused(r) => Reading::Refused(r),
+        Opened::Refused(r) => Reading::Refused {
+            refusal: r,
+            offset: 0,
+        },
         Opened::Frame { size, n, m } => {
             if (n as usize) <= block {
-                return Reading::Refused(Refusal::Block);
+                return Reading::Refused {
+                    refusal: Refusal::Block,
+                    offset: 0,
+                };
             }
             if base.len() == 0 {
                 let zeros = [0u8; Layout::PAGE];

@@ -12,8 +12,10 @@ use Rattle.stream.specs.Calls.{pagesFit, pageRows}
 use Rattle.stream.specs.Laws.{page-length, base-length}
 use lib.ListN.{length}
 use Rattle.layout.specs.Sizes.{fullHead, pageAt}
-use Rattle.layout.specs.Refusals.{_⇐_, firstOf, orElse}
+use Rattle.layout.specs.Refusals.{Row, _⇐_, firstOf, orElse}
+use Rattle.layout.specs.RefusalLaws.{Lacks, lacks, lacks-both}
 use Rattle.headers.specs.Headers.{headerRows}
+use Rattle.headers.specs.HeaderLaws.{headers-lack}
 use Rattle.layout.specs.Lengths.{blocksIn, pagesIn, patchFits, fullFits, lengthRows}
 use Rattle.layout.specs.LengthLaws.{full-fits-is}
 use Rattle.store.specs.Frame.{frameRows}
@@ -34,6 +36,12 @@ module _ (P : ℕ) (patch full : List ℕ) where
       ≡ frameBy a (lengthsFit P patch full) b (firstOf (headerRows P patch full))
   unfolding frameRows frameBy firstOf lengthRows
   frame-is a b = refl
+
+  -- the frame's own numbers are 2, 3 and 4: another is one of the pages' or the buffers'
+  pub frame-lacks : (pages buffers : List Row) (k : ℕ) → 4 < k → Lacks k pages → Lacks k buffers
+      → Lacks k (frameRows P pages buffers patch full)
+  unfolding frameRows lengthRows
+  frame-lacks pages buffers k h p b = lacks-both p (lacks 2 (λ e. omega arith) (lacks-both b (headers-lack P patch full k h)))
 
   -- a call without a buffer has no short one
   pub frame-pages : (a : Bool) → firstOf (frameRows P ((1 ⇐ not a) ∷ []) [] patch full)

@@ -20,11 +20,11 @@ use Rattle.layout.specs.declared.Refusal.the-variants.{Page, Payload, Buffer}
 use Rattle.payload.specs.Entries.{payloadStream, sound, entries, last, applied}
 use Rattle.writer.specs.Differences.{diffs, coded, written}
 use Rattle.payload.specs.Steps.{farthest, reach}
-use Rattle.payload.specs.StepLaws.{SoundAs}
+use Rattle.payload.specs.StepLaws.{SoundAs, UnsoundAt}
 use Rattle.writer.specs.Steps.{near, Differs}
 use Rattle.stream.specs.Steps.{Applies, application, Compares}
 use Rattle.stream.specs.Calls.{pageOf, pagesFit, applyRows, Apply, appliedNumbers, kindFor, compareRows, comparison, compareNumbers, compareBuffer}
-use Rattle.stream.specs.Calls.{applyDone}
+use Rattle.stream.specs.Calls.{applyDone, applyRefused}
 use Rattle.stream.specs.Calls.{ComparedNumbers, comparedNumbers, Compare}
 use Rattle.stream.specs.Laws.{patch-fits, page-length, apply-number, apply-done, apply-not, compare-number, compare-done, compare-not}
 use Rattle.writer.specs.StepLaws.{differs-near}
@@ -36,8 +36,9 @@ use Rattle.stream.specs.declared.Applied.the-variants.{Done as AppliedDo
 
 -- Apply
 
-pub applies-unsound : (n : ℕ) (base payload page : List ℕ) → sound n payload ≡ false → Applies n base payload page (AppliedRefused Payload) page
-applies-unsound n base payload page h = record { numbers = rw h; bytes = rw h }
+pub applies-unsound : (n : ℕ) (base payload page : List ℕ) (offset : ℕ) → UnsoundAt n payload offset
+    → Applies n base payload page (AppliedRefused Payload offset) page
+applies-unsound n base payload page offset u = record { numbers = rw (u .is) (ap (λ (o : ℕ). applyRefused 7 o) (u .at)); bytes = rw (u .is) }
 
 pub applies-sound : (base payload page copied after : List ℕ) (e : ℕ) (l l′ : ℤ) → l′ ≡ l
     → SoundAs (reach (length page)) payload e l
@@ -49,11 +50,11 @@ applies-sound base payload page copied after e l l′ k s f g =
     let q : length c ≡ length page = splice-length page 0 (take (length page) base) (simp length-take (omega arith)) in
     let g′ : after ≡ applied c (payloadStream (reach (length page)) payload) =
     g ∙ ap (λ (x : List ℕ). applied x (payloadStream (reach (length x)) payload)) f ∙ ap (λ (x : ℕ). applied c (payloadStream (reach x) payload)) q in
-    let z : appliedNumbers (AppliedDone e l′) ≡ application true (payloadStream (reach (length page)) payload) =
+    let z : appliedNumbers (AppliedDone e l′) ≡ application true (reach (length page)) payload =
     λ i. applyDone (s .entries i) ((k ∙ s .last) i) in
     record { numbers = rw (s .is) z; bytes = rw (s .is) g′ }
 
-pub apply-refused : (P : ℕ) (base payload page : List ℕ) → pagesFit P base page ≡ false → Apply P base payload page (AppliedRefused Page) page
+pub apply-refused : (P : ℕ) (base payload page : List ℕ) → pagesFit P base page ≡ false → Apply P base payload page (AppliedRefused Page 0) page
 apply-refused P base payload page h =
     let e : firstOf (applyRows P base payload page) ≡ 1 = apply-number P base payload page ∙ rw h in
     let d = apply-not P base payload page 0 e in
@@ -75,7 +76,7 @@ apply-over P base present payload page after answer h k there e a =
     go true s b =
         let d = apply-done P base payload page (number ∙ rw s) in
         record {
-          numbers = b .numbers ∙ ap (λ (t : Bool). application t (payloadStream P payload)) s ∙ sym (d .0);
+          numbers = b .numbers ∙ ap (λ (t : Bool). application t P payload) s ∙ sym (d .0);
           bytes =
               b .bytes
               ∙ ap (λ (t : Bool). cond t (applied (splice page 0 (take (length page) present)) (payloadStream P payload)) page) s
@@ -85,7 +86,7 @@ apply-over P base present payload page after answer h k there e a =
     go false s b =
         let d = apply-not P base payload page 6 (number ∙ rw s) in
         record {
-          numbers = b .numbers ∙ ap (λ (t : Bool). application t (payloadStream P payload)) s ∙ sym (d .0);
+          numbers = b .numbers ∙ ap (λ (t : Bool). application t P payload) s ∙ sym (d .0);
           bytes = b .bytes ∙ ap (λ (t : Bool). cond t (applied (splice page 0 (take (length page) present)) (payloadStream P payload)) page) s ∙ sym (d .1);
         }
 

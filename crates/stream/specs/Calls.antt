@@ -13,7 +13,7 @@ use Rattle.layout.specs.Numbers.{kindNumber, refusalNumber}
 use Rattle.layout.specs.Refusals.{Row, _⇐_, firstOf, decided}
 use Rattle.layout.specs.Groups.{Grouped, ordered, _▸_}
 use Rattle.layout.specs.Groups as group
-use Rattle.payload.specs.Entries.{start, payloadStream, sound, entries, last, applied}
+use Rattle.payload.specs.Entries.{start, payloadStream, sound, offsetWith, entries, last, applied}
 use Rattle.writer.specs.Differences.{Change, diffs, coded, lastPlace}
 use Rattle.stream.specs.declared.Compared.{Compared}
 use Rattle.stream.specs.declared.Compared.the-variants.{Done as ComparedDone, Refused as ComparedRefused}
@@ -86,6 +86,7 @@ pub record AppliedNumbers : Type 0 where
   pub number : ℕ
   pub entries : ℕ
   pub last : ℤ
+  pub offset : ℕ
 
 abbrev pub applyGroups : ℕ → List ℕ → List ℕ → List ℕ → List Grouped
 applyGroups P base payload page =
@@ -96,18 +97,18 @@ applyGroups P base payload page =
 unfoldable pub applyRows : ℕ → List ℕ → List ℕ → List ℕ → List Row
 applyRows P base payload page = ordered (applyGroups P base payload page)
 
--- done, and refused: every other number is 0
+-- done, and refused: every other number is 0, but for the offset with 7
 abbrev pub applyDone : ℕ → ℤ → AppliedNumbers
-applyDone entries last = record { number = 0; entries = entries; last = last }
+applyDone entries last = record { number = 0; entries = entries; last = last; offset = 0 }
 
-abbrev pub applyRefused : ℕ → AppliedNumbers
-applyRefused number = record { number = number; entries = 0; last = pos 0 }
+abbrev pub applyRefused : ℕ → ℕ → AppliedNumbers
+applyRefused number offset = record { number = number; entries = 0; last = pos 0; offset = offset }
 
 unfoldable pub applyNumbers : ℕ → List ℕ → List ℕ → List ℕ → AppliedNumbers
 applyNumbers P base payload page =
     decided (firstOf (applyRows P base payload page))
     (applyDone (entries (payloadStream P payload)) (last start (payloadStream P payload)))
-    applyRefused
+    (λ k. applyRefused k (offsetWith k P payload))
 
 unfoldable pub applyPage : ℕ → List ℕ → List ℕ → List ℕ → List ℕ
 applyPage P base payload page = decided (firstOf (applyRows P base payload page)) (applied (pageOf P base) (payloadStream P payload))
@@ -115,7 +116,7 @@ applyPage P base payload page = decided (firstOf (applyRows P base payload page)
 
 abbrev pub appliedNumbers : Applied → AppliedNumbers
 appliedNumbers (AppliedDone e l) = applyDone e l
-appliedNumbers (AppliedRefused r) = applyRefused (refusalNumber r)
+appliedNumbers (AppliedRefused r offset) = applyRefused (refusalNumber r) offset
 
 pub record Apply (P : ℕ) (base payload page : List ℕ) (answer : Applied) (after : List ℕ) : Type 0 where
   pub numbers : appliedNumbers answer ≡ applyNumbers P base payload page

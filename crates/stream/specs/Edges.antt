@@ -14,7 +14,7 @@ use Rattle.span.specs.Laws.{zeros-length}
 use Rattle.layout.specs.Sizes.{pageSize, room}
 use Rattle.layout.specs.Numbers.{le}
 use Rattle.layout.specs.Refusals.{firstOf}
-use Rattle.payload.specs.Entries.{stream, inPage, whole, sound, entries, last, put, applied, payloadStream, start}
+use Rattle.payload.specs.Entries.{stream, inPage, whole, sound, used, breaksAt, entries, last, put, applied, payloadStream, start}
 use Rattle.writer.specs.Differences.{Change, diffs, spelled, coded, lastPlace}
 use Rattle.stream.specs.Calls.{pageOf, pagesFit, kindFor, comparison, compareNumbers, compareBuffer, ComparedNumbers, applyRows}
 use Rattle.stream.specs.Calls.{applyDone, applyRefused}
@@ -48,10 +48,10 @@ pub record Gives (payload : List ℕ) (count : ℕ) (at : ℤ) (page : List ℕ)
   pub bytes : (base : List ℕ) → ZeroBase base → (lent : List ℕ) → length lent ≡ pageSize
       → applyPage pageSize base payload lent ≡ page
 
--- Apply refuses with 7, and leaves the page alone
-pub record Refuses (payload : List ℕ) : Type 0 where
+-- Apply refuses with 7 and this offset, and leaves the page alone
+pub record Refuses (payload : List ℕ) (offset : ℕ) : Type 0 where
   pub answer : (base : List ℕ) → ZeroBase base → (lent : List ℕ) → length lent ≡ pageSize
-      → applyNumbers pageSize base payload lent ≡ applyRefused 7
+      → applyNumbers pageSize base payload lent ≡ applyRefused 7 offset
   pub bytes : (base : List ℕ) → ZeroBase base → (lent : List ℕ) → length lent ≡ pageSize → applyPage pageSize base payload lent ≡ lent
 
 -- a page of zeros with one byte, or two, changed
@@ -76,14 +76,14 @@ pub record Edges : Type 0 where
   -- bytes 0 and 256 become 01: `00 01 FF FF 00 01`
   pub P6 : Finds (two 0 1 256 1) (0 ∷ 1 ∷ 255 ∷ 255 ∷ 0 ∷ 1 ∷ []) 2 (pos 256) × Gives (0 ∷ 1 ∷ 255 ∷ 255 ∷ 0 ∷ 1 ∷ []) 2 (pos 256)
       (two 0 1 256 1)
-  -- applying `FF 00 20 01`, a jump of 8,192: 7
-  pub P7 : Refuses (255 ∷ 0 ∷ 32 ∷ 1 ∷ [])
-  -- applying `FF FF 1F 01 00 02`: 7
-  pub P8 : Refuses (255 ∷ 255 ∷ 31 ∷ 1 ∷ 0 ∷ 2 ∷ [])
-  -- applying `00`: 7
-  pub P9 : Refuses (0 ∷ [])
-  -- applying the empty payload: 7
-  pub P10 : Refuses []
+  -- applying `FF 00 20 01`, a jump of 8,192: 7, at offset 0
+  pub P7 : Refuses (255 ∷ 0 ∷ 32 ∷ 1 ∷ []) 0
+  -- applying `FF FF 1F 01 00 02`: 7, at offset 4
+  pub P8 : Refuses (255 ∷ 255 ∷ 31 ∷ 1 ∷ 0 ∷ 2 ∷ []) 4
+  -- applying `00`: 7, at offset 0
+  pub P9 : Refuses (0 ∷ []) 0
+  -- applying the empty payload: 7, offset 0
+  pub P10 : Refuses [] 0
   -- equal pages: same, length 0, last −1, whatever they hold
   pub P11 : (base page : List ℕ) → pagesFit pageSize base page ≡ true → page ≡ pageOf pageSize base → FindsNone base page
   -- applying `FF 00 00 05`: byte 0 becomes 05
@@ -150,9 +150,9 @@ gives payload page count at s e f g = record {
         → firstOf (applyRows pageSize base payload lent) ≡ 0
     number base z lent h = apply-number pageSize base payload lent ∙ rw (zero-fits base lent z h, s)
 
-refuses : (payload : List ℕ) → sound pageSize payload ≡ false → Refuses payload
-refuses payload s = record {
-  answer = λ base z lent h. apply-not pageSize base payload lent 6 (number base z lent h) .0;
+refuses : (payload : List ℕ) (offset : ℕ) → sound pageSize payload ≡ false → breaksAt pageSize payload ≡ offset → Refuses payload offset
+refuses payload offset s e = record {
+  answer = λ base z lent h. apply-not pageSize base payload lent 6 (number base z lent h) .0 ∙ ap (λ (o : ℕ). applyRefused 7 o) e;
   bytes = λ base z lent h. apply-not pageSize base payload lent 6 (number base z lent h) .1;
 }
   where
@@ -161,7 +161,7 @@ refuses payload s = record {
     number base z lent h = apply-number pageSize base payload lent ∙ rw (zero-fits base lent z h, s)
 
 pub edges : Edges
-unfolding one two zeros diffs coded spelled le lastPlace comparison kindFor stream inPage whole sound entries last put applied
+unfolding one two zeros diffs coded spelled le lastPlace comparison kindFor stream inPage whole sound used breaksAt entries last put applied
 edges = record {
   P1 = (finds (one 0 7) (0 ∷ 7 ∷ []) 1 (pos 0) refl refl refl, gives (0 ∷ 7 ∷ []) (one 0 7) 1 (pos 0) refl refl refl refl);
   P2 = (finds (one 254 1) (254 ∷ 1 ∷ []) 1 (pos 254) refl refl refl, gives (254 ∷ 1 ∷ []) (one 254 1) 1 (pos 254) refl refl refl refl);
@@ -185,15 +185,15 @@ edges = record {
     gives (0 ∷ 1 ∷ 255 ∷ 255 ∷ 0 ∷ 1 ∷ [])
         (two 0 1 256 1) 2 (pos 256) refl refl refl refl,
   );
-  P7 = refuses (255 ∷ 0 ∷ 32 ∷ 1 ∷ []) refl;
-  P8 = refuses (255 ∷ 255 ∷ 31 ∷ 1 ∷ 0 ∷ 2 ∷ []) refl;
-  P9 = refuses (0 ∷ []) refl;
-  P10 = refuses [] refl;
+  P7 = refuses (255 ∷ 0 ∷ 32 ∷ 1 ∷ []) 0 refl refl;
+  P8 = refuses (255 ∷ 255 ∷ 31 ∷ 1 ∷ 0 ∷ 2 ∷ []) 4 refl refl;
+  P9 = refuses (0 ∷ []) 0 refl refl;
+  P10 = refuses [] 0 refl refl;
   P11 = finds-none;
   P12 = gives (255 ∷ 0 ∷ 0 ∷ 5 ∷ []) (one 0 5) 1 (pos 0) refl refl refl refl;
 }
 
--- a payload cut short after a whole entry: 7
-pub refuses-cut : Refuses (0 ∷ 7 ∷ 0 ∷ [])
-unfolding stream inPage whole sound
-refuses-cut = refuses (0 ∷ 7 ∷ 0 ∷ []) refl
+-- a payload cut short after a whole entry: 7, at the offset of the entry that is cut
+pub refuses-cut : Refuses (0 ∷ 7 ∷ 0 ∷ []) 2
+unfolding stream inPage whole sound used breaksAt
+refuses-cut = refuses (0 ∷ 7 ∷ 0 ∷ []) 2 refl refl

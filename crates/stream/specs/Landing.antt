@@ -4,7 +4,7 @@
 use Prim.Native.Nat.{ℕ, suc, _+_, _/_, _%_, _≤_}
 use native.Mathlib.Omega.{arith}
 use mathlib.Core.Path.{_≡_, refl, sym, ap, _∙_, subst}
-use mathlib.Core.Bool.{Bool, true, false}
+use mathlib.Core.Bool.{Bool, true, false, cond}
 use mathlib.Core.List.{List, [], _∷_, _++_}
 use mathlib.Core.Logic.{_↔_, _⊎_, inl, inr}
 use lib.ListN.{length, set, getD, length-set}
@@ -12,14 +12,17 @@ use lib.Seq.{getD-set-same, getD-set-other}
 use lib.IntN.{ℤ, pos, _+ℤ_}
 use Rattle.layout.specs.Sizes.{room}
 use Rattle.layout.specs.Numbers.{le}
-use Rattle.payload.specs.Entries.{Stream, entry, code, inPage, stream, start, payloadStream, sound, entries, last, put, applied}
+use Rattle.layout.specs.Refusals.{firstOf}
+use Rattle.payload.specs.Entries.{Stream, entry, code, inPage, stream, start, payloadStream, sound, breaksAt}
+use Rattle.payload.specs.Entries.{entries, last, put, applied}
 use Rattle.writer.specs.Differences.{Change, lastPlace}
-use Rattle.stream.specs.Calls.{pageOf, pagesFit, appliedNumbers, Apply, applyDone}
+use Rattle.stream.specs.Calls.{pageOf, pagesFit, AppliedNumbers, appliedNumbers, Apply, applyRows, applyDone, applyRefused}
 use Rattle.writer.specs.Steps.{before}
 use Rattle.stream.specs.Laws.{pages-fit, present-length, apply-number, apply-done, apply-not}
 use Rattle.payload.specs.EntryLaws.{short-in, long-in}
 use Rattle.payload.specs.Spelling.{Form, short, long, Spelt, takes, bytes, joined, Coded, Inside, Stays, Spelled, Bytes, inside-page}
-use Rattle.payload.specs.Spelling.{two-bytes, spelled-sound, sound-spelled}
+use Rattle.payload.specs.Spelling.{two-bytes, spelled-sound}
+use Rattle.payload.specs.Breaking.{Unsound, unsound-iff}
 use Rattle.writer.specs.Writer.{In, Rising, Below, placed}
 use Rattle.writer.specs.LastPlace.{LastOf, last-some}
 use Rattle.writer.specs.ReadBack.{before-next, moved, pokes}
@@ -178,21 +181,27 @@ module _ (P : ℕ) (base payload page : List ℕ) (answer : Applied) (after : Li
         size = ap (λ (x : List ℕ). length x) q ∙ pokes-length (placed 0 es) (pageOf P base) ∙ k;
       }
 
-  -- and 7 where no entries spell it
-  pub apply-seven : Bytes payload → (answer ≡ Refused Payload) ↔ ((1 ≤ length payload) × (length payload ≤ room) × Spelled P start payload
-      → ⊥)
-  apply-seven h = (
-    λ e s.
-        let z : Done (length (s .2 .entries)) (lastPlace start (placed 0 (s .2 .entries)))
-        ≡ Refused Payload = sym (apply-lands (s .0) (s .1) (s .2) .numbers) ∙ e in
-        let k : _≡_ {A = ℕ} 0 7 = ap (λ (a : Applied). appliedNumbers a .number) z in
-        omega arith,
-    λ n. go (sound P payload) refl n,
-  )
+  -- and 7 where no entries spell it, with the offset at which they break off
+  pub apply-seven : Bytes payload → (at : ℕ) → (answer ≡ Refused Payload at) ↔ Unsound P payload at
+  apply-seven h at = (λ e. go (sound P payload) refl e, λ u. refused (unsound-iff P payload h at .1 u))
     where
-      go : (t : Bool) → sound P payload ≡ t → ((1 ≤ length payload) × (length payload ≤ room) × Spelled P start payload → ⊥)
-          → answer ≡ Refused Payload
-      go true e n = absurd (n (sound-spelled P payload h .0 e))
-      go false e n =
-          applied-one answer (Refused Payload) (call .numbers
-          ∙ apply-not P base payload page 6 (apply-number P base payload page ∙ rw (fit, e)) .0)
+      number : (t : Bool) → sound P payload ≡ t → firstOf (applyRows P base payload page) ≡ cond t 0 7
+      number t e = apply-number P base payload page ∙ rw (fit, e)
+
+      refused : (sound P payload ≡ false) × (at ≡ breaksAt P payload) → answer ≡ Refused Payload at
+      refused u =
+          applied-one answer (Refused Payload at)
+          (call .numbers ∙ apply-not P base payload page 6 (number false (u .0)) .0 ∙ ap (λ (o : ℕ). applyRefused 7 o) (sym (u .1)))
+
+      go : (t : Bool) → sound P payload ≡ t → answer ≡ Refused Payload at → Unsound P payload at
+      go true s e =
+          let z : _≡_ {A = ℕ} 7 0 =
+          ap (λ (a : Applied). appliedNumbers a .number) (sym e)
+          ∙ ap (λ (x : AppliedNumbers). x .number) (call .numbers ∙ apply-done P base payload page (number true s) .0) in
+          absurd (omega arith)
+      go false s e =
+          unsound-iff P payload h at .0 (
+            s,
+            ap (λ (a : Applied). appliedNumbers a .offset) (sym e)
+                ∙ ap (λ (x : AppliedNumbers). x .offset) (call .numbers ∙ apply-not P base payload page 6 (number false s) .0),
+          )

@@ -16,7 +16,7 @@ use Rattle.layout.specs.Sizes.{room}
 use Rattle.layout.specs.Refusals.{_⇐_, firstOf, orElse}
 use Rattle.layout.specs.RefusalLaws.{decided-done, decided-refused}
 use Rattle.layout.specs.Groups.{ordered}
-use Rattle.payload.specs.Entries.{payloadStream, sound, entries, last, start, applied}
+use Rattle.payload.specs.Entries.{payloadStream, sound, offsetWith, entries, last, start, applied}
 use Rattle.writer.specs.Differences.{diffs, coded}
 use Rattle.stream.specs.Calls.{pageOf, pagesFit, kindFor, compareRows, comparison, compareNumbers, compareBuffer, ComparedNumbers}
 use Rattle.stream.specs.Calls.{applyDone, applyRefused}
@@ -107,7 +107,7 @@ module _ (P : ℕ) (base payload page : List ℕ) where
   )
 
   pub apply-not : (m : ℕ) → firstOf (applyRows P base payload page) ≡ suc m
-      → (applyNumbers P base payload page ≡ applyRefused (suc m)) × (applyPage P base payload page ≡ page)
+      → (applyNumbers P base payload page ≡ applyRefused (suc m) (offsetWith (suc m) P payload)) × (applyPage P base payload page ≡ page)
   unfolding applyNumbers applyPage
   apply-not m e = (
     decided-refused _ _ (firstOf (applyRows P base payload page)) (suc m) e (λ q. omega arith),

@@ -19,9 +19,10 @@ compared-one (ComparedRefused r) (ComparedRefused r′) q = ap ComparedRefused (
 
 pub applied-one : (a b : Applied) → appliedNumbers a ≡ appliedNumbers b → a ≡ b
 applied-one (AppliedDone e l) (AppliedDone e′ l′) q = λ i. AppliedDone (q i .entries) (q i .last)
-applied-one (AppliedDone e l) (AppliedRefused r) q = absurd (refusal-some r (sym (ap (λ (x : AppliedNumbers). x .number) q)))
-applied-one (AppliedRefused r) (AppliedDone e l) q = absurd (refusal-some r (ap (λ (x : AppliedNumbers). x .number) q))
-applied-one (AppliedRefused r) (AppliedRefused r′) q = ap AppliedRefused (refusal-one r r′ (ap (λ (x : AppliedNumbers). x .number) q))
+applied-one (AppliedDone e l) (AppliedRefused r o) q = absurd (refusal-some r (sym (ap (λ (x : AppliedNumbers). x .number) q)))
+applied-one (AppliedRefused r o) (AppliedDone e l) q = absurd (refusal-some r (ap (λ (x : AppliedNumbers). x .number) q))
+applied-one (AppliedRefused r o) (AppliedRefused r′ o′) q =
+    λ i. AppliedRefused (refusal-one r r′ (ap (λ (x : AppliedNumbers). x .number) q) i) (q i .offset)
 
 pub compare-only : (P : ℕ) (base page buffer : List ℕ) (a b : Compared) (after after′ : List ℕ)
     → Compare P base page buffer a after → Compare P base page buffer b after′ → (a ≡ b) × (after ≡ after′)

@@ -8,19 +8,19 @@ use lib.ListN.{length, take, length as lengthOf}
 use lib.IntN.{pos}
 use Rattle.span.specs.Bytes.{splice}
 use Rattle.writer.specs.Differences.{diffs, written}
-use Rattle.payload.specs.Entries.{Stream, start, payloadStream, sound, entries as entriesOf, last as lastOf, applied}
+use Rattle.payload.specs.Entries.{start, payloadStream, sound, breaksAt, entries as entriesOf, last as lastOf, applied}
 use Rattle.stream.specs.Calls.{kindFor, comparison, comparedNumbers, AppliedNumbers, appliedNumbers, applyDone, applyRefused}
 use Rattle.stream.specs.declared.Compared.{Compared}
 use Rattle.stream.specs.declared.Applied.{Applied}
 
 -- Apply to a base that is there: it is laid over the page as far as both go, and the payload over that
 
-abbrev pub application : Bool → Stream → AppliedNumbers
-application true s = applyDone (entriesOf s) (lastOf start s)
-application false s = applyRefused 7
+abbrev pub application : Bool → ℕ → List ℕ → AppliedNumbers
+application true n payload = applyDone (entriesOf (payloadStream n payload)) (lastOf start (payloadStream n payload))
+application false n payload = applyRefused 7 (breaksAt n payload)
 
 pub record Applies (n : ℕ) (base payload page : List ℕ) (answer : Applied) (after : List ℕ) : Type 0 where
-  pub numbers : appliedNumbers answer ≡ application (sound n payload) (payloadStream n payload)
+  pub numbers : appliedNumbers answer ≡ application (sound n payload) n payload
   pub bytes : after ≡ cond (sound n payload) (applied (splice page 0 (take (length page) base)) (payloadStream n payload)) page
 
 -- Compare with a base that is there

@@ -18,7 +18,7 @@ unfoldable pub whileChecking : ℕ → List ℕ → List ℕ → List ℕ
 whileChecking P base payload = applied (pageOf P base) (payloadStream P payload)
 
 -- at `00 07 00` it refuses with 7, as it should, and has changed byte 0
-pub applying-while-checking : Apply pageSize [] (0 ∷ 7 ∷ 0 ∷ []) (zeros pageSize) (AppliedRefused Payload)
+pub applying-while-checking : Apply pageSize [] (0 ∷ 7 ∷ 0 ∷ []) (zeros pageSize) (AppliedRefused Payload 2)
     (whileChecking pageSize [] (0 ∷ 7 ∷ 0 ∷ [])) → ⊥
 unfolding whileChecking zeros pageOf stream inPage put applied
 applying-while-checking a =

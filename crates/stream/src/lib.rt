@@ -24,10 +24,11 @@ pub enum Compared {
     Refused(Refusal),
 }
 
-// What Apply answers: the number of entries it applied and the last position.
+// What Apply answers: the number of entries it applied and the last position. With a payload that is not sound comes the offset at
+// which its first unsound entry starts; with any other refusal, 0.
 pub enum Applied {
     Done { entries: usize, last: i32 },
-    Refused(Refusal),
+    Refused { refusal: Refusal, offset: usize },
 }
 
 // Whether a base and another page have the lengths that they may have where a page has this size.
@@ -110,7 +111,10 @@ pub fn apply_to(base: &[u8], payload: &[u8], page: &mut [u8]) -> Applied
         (now (page .exit)) ⌝ }
 {
     match payload::check(payload, page.len()) {
-        Checked::Unsound => Applied::Refused(Refusal::Payload),
+        Checked::Unsound { offset } => Applied::Refused {
+            refusal: Refusal::Payload,
+            offset,
+        },
         Checked::Sound { entries, last } => {
             span::copy(page, base);
             payload::overlay(page, payload);
@@ -127,7 +131,10 @@ pub fn apply(base: &[u8], payload: &[u8], page: &mut [u8]) -> Applied
     ensures { λ r. ⌜ Apply pageSize (now (base .entry)) (now (payload .entry)) (now (page .entry)) r (now (page .exit)) ⌝ }
 {
     if !pages_fit(Layout::PAGE as u32, base, page) {
-        return Applied::Refused(Refusal::Page);
+        return Applied::Refused {
+            refusal: Refusal::Page,
+            offset: 0,
+        };
     }
     if base.len() == 0 {
         let zeros = [0u8; Layout::PAGE];

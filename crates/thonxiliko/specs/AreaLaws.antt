@@ -68,7 +68,7 @@ pub read-only : {P b : ℕ} {patch full base page p q : List ℕ} {r s : «thx_r
     → ThxRead P patch full b base page r p → ThxRead P patch full b base page s q → (r ≡ s) × (p ≡ q)
 read-only {P} {b} {patch} {full} {base} {page} {p} {q} {r} {s} x y =
     let e : readMembers r ≡ readMembers s = x .numbers ∙ sym (y .numbers) in
-    (λ i. record { number = e i .number; kind = e i .kind }, x .bytes ∙ sym (y .bytes))
+    (λ i. record { number = e i .number; kind = e i .kind; offset = e i .offset }, x .bytes ∙ sym (y .bytes))
 
 pub write-only : {P b : ℕ} {patch full base page p q f g : List ℕ} {r s : «thx_written»}
     → ThxWrite P patch full b base page r p f → ThxWrite P patch full b base page s q g → (r ≡ s) × (p ≡ q) × (f ≡ g)
@@ -84,4 +84,4 @@ pub build-only : {P : ℕ} {patch full map m n : List ℕ} {r s : «thx_built»}
     → ThxBuild P patch full map r m → ThxBuild P patch full map s n → (r ≡ s) × (m ≡ n)
 build-only {P} {patch} {full} {map} {m} {n} {r} {s} x y =
     let e : builtMembers r ≡ builtMembers s = x .numbers ∙ sym (y .numbers) in
-    (λ i. record { number = e i .number; block = e i .block }, x .bytes ∙ sym (y .bytes))
+    (λ i. record { number = e i .number; block = e i .block; offset = e i .offset }, x .bytes ∙ sym (y .bytes))

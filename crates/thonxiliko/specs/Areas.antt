@@ -42,7 +42,7 @@ pub record ThxShow (P : ℕ) (patch : List ℕ) (b : ℕ) (r : «thx_part») : T
 -- Read
 
 abbrev pub readMembers : «thx_reading» → ReadNumbers
-readMembers r = record { number = r .number; kind = r .kind }
+readMembers r = record { number = r .number; kind = r .kind; offset = r .offset }
 
 pub record ThxRead (P : ℕ) (patch full : List ℕ) (b : ℕ) (base page : List ℕ) (r : «thx_reading») (page′ : List ℕ) : Type 0 where
   pub numbers : readMembers r ≡ readNumbers (readOutcome P patch full b base page)
@@ -61,7 +61,7 @@ pub record ThxWrite (P : ℕ) (patch full : List ℕ) (b : ℕ) (base page : Lis
 -- Build
 
 abbrev pub builtMembers : «thx_built» → BuildNumbers
-builtMembers r = record { number = r .number; block = r .block }
+builtMembers r = record { number = r .number; block = r .block; offset = r .offset }
 
 pub record ThxBuild (P : ℕ) (patch full map : List ℕ) (r : «thx_built») (map′ : List ℕ) : Type 0 where
   pub numbers : builtMembers r ≡ buildNumbers (buildOutcome P patch full map)

@@ -2,9 +2,12 @@
 use Prim.Native.Nat.{ℕ}
 use mathlib.Core.Path.{_≡_}
 use mathlib.Core.List.{List}
+use lib.IntN.{ℤ}
 use Rattle.stream.specs.Calls.{ComparedNumbers, compareNumbers, compareBuffer, AppliedNumbers, applyNumbers, applyPage}
+use Rattle.entry_reader.specs.Turns.{TurnNumbers, turnNumbers, turnAt}
 use Rattle.thonxiliko.specs.declared.«thx_compared».{«thx_compared»}
 use Rattle.thonxiliko.specs.declared.«thx_applied».{«thx_applied»}
+use Rattle.thonxiliko.specs.declared.«thx_entry».{«thx_entry»}
 
 -- Compare
 
@@ -18,8 +21,16 @@ pub record ThxCompare (P : ℕ) (base page buffer : List ℕ) (r : «thx_compare
 -- Apply
 
 abbrev pub appliedMembers : «thx_applied» → AppliedNumbers
-appliedMembers r = record { number = r .number; entries = r .entries; last = r .last }
+appliedMembers r = record { number = r .number; entries = r .entries; last = r .last; offset = r .offset }
 
 pub record ThxApply (P : ℕ) (base payload page : List ℕ) (r : «thx_applied») (after : List ℕ) : Type 0 where
   pub numbers : appliedMembers r ≡ applyNumbers P base payload page
   pub bytes : after ≡ applyPage P base payload page
+
+-- A step of the entry reader
+
+abbrev pub entryMembers : «thx_entry» → TurnNumbers
+entryMembers r = record { number = r .number; found = r .found; at = r .at; position = r .position; value = r .value }
+
+pub record ThxNext (P : ℕ) (payload : List ℕ) (at : ℕ) (position : ℤ) (r : «thx_entry») : Type 0 where
+  pub numbers : entryMembers r ≡ turnNumbers (turnAt P payload at position)

@@ -15,21 +15,32 @@ use Rattle.layout.specs.Refusals.{Row, _⇐_, firstOf, orElse, decided}
 use Rattle.layout.specs.Groups.{ordered}
 use Rattle.slots.specs.Slots.{slotNumbers, soundSlot, unsoundSlot, payloadLength, payloadOf, isPatch, emptySlot, patchSlot, fullSlot}
 use Rattle.writer.specs.Differences.{Change, diffs, spelled, coded, written}
-use Rattle.payload.specs.Entries.{sound, entries, payloadStream}
-use Rattle.payload.specs.EntryLaws.{sound-few}
+use Rattle.payload.specs.Entries.{sound, breaksAt, offsetWith, entries, payloadStream}
+use Rattle.payload.specs.EntryLaws.{sound-few, breaks-few}
 use Rattle.stream.specs.Calls.{pageOf, pagesFit, ComparedNumbers, comparedNumbers, comparison, compareNumbers, Compare}
 use Rattle.stream.specs.Calls.{AppliedNumbers, appliedNumbers, applyRows, applyNumbers, Apply}
 use Rattle.stream.specs.Laws.{page-length, compare-done, apply-number, apply-done, apply-not}
 use Rattle.stream.specs.Kinds.{compare-gives, accepted-fits}
+use Rattle.stream.specs.Given.{apply-told}
 use Rattle.store.specs.Judge.{Judge, JudgedNumbers, judgedNumbers, judgeRows, judgeNumbers}
 use Rattle.writing.specs.Write.{Write, WriteNumbers, writtenNumbers, writeNumbers, decidedStream, writeRows, writeOutcome}
+use Rattle.store.specs.Block.{slotOf}
+use Rattle.reading.specs.Read.{ReadNumbers, readingNumbers, readOutcome, Read}
+use Rattle.reading.specs.Given.{read-told}
+use Rattle.building.specs.Build.{BuildNumbers, builtNumbers, buildOutcome, Build}
+use Rattle.building.specs.Given.{build-told}
 use Rattle.layout.specs.declared.Kind.{Kind}
+use Rattle.layout.specs.declared.Refusal.{Refusal}
 use Rattle.stream.specs.declared.Compared.{Compared}
 use Rattle.stream.specs.declared.Compared.the-variants.{Done as ComparedDone}
 use Rattle.stream.specs.declared.Applied.{Applied}
-use Rattle.stream.specs.declared.Applied.the-variants.{Done as AppliedDone}
+use Rattle.stream.specs.declared.Applied.the-variants.{Done as AppliedDone, Refused as AppliedRefused}
 use Rattle.store.specs.declared.Judged.{Judged}
 use Rattle.store.specs.declared.Judged.the-variants.{Done as JudgedDone}
+use Rattle.reading.specs.declared.Reading.{Reading}
+use Rattle.reading.specs.declared.Reading.the-variants.{Refused as ReadingRefused}
+use Rattle.building.specs.declared.Built.{Built}
+use Rattle.building.specs.declared.Built.the-variants.{Refused as BuiltRefused}
 use Rattle.writing.specs.declared.Written.{Written}
 use Rattle.writing.specs.declared.Written.the-variants.{Done as WrittenDone}
 
@@ -182,3 +193,40 @@ module _ (patch full : List ℕ) (b : ℕ) (base page : List ℕ) where
       let m : writeOutcome pageSize patch full b base page .length ≤ 4 * pageSize = write-few
       (firstOf (writeRows pageSize patch full b base page)) refl in
       omega arith
+
+-- The offset
+
+offset-few : (number : ℕ) (payload : List ℕ) → offsetWith number pageSize payload ≤ room
+offset-few number payload = go (eqb number 7)
+  where
+    go : (t : Bool) → cond t (breaksAt pageSize payload) 0 ≤ room
+    go true = breaks-few pageSize payload
+    go false = omega arith
+
+pub apply-offset-fits : {base payload page after : List ℕ} {a : Applied} {r : Refusal} {o : ℕ} → Apply pageSize base payload page a after
+    → a ≡ AppliedRefused r o → o < 2 ^ 32
+apply-offset-fits {base} {payload} {page} {after} {a} {r} {o} c q =
+    let e : o ≡ applyNumbers pageSize base payload page .offset = ap (λ (x : AppliedNumbers). x .offset) (ap appliedNumbers (sym q)
+    ∙ c .numbers) in
+    omega (arith, e ∙ apply-told pageSize base payload page, offset-few (applyNumbers pageSize base payload page .number) payload)
+
+pub read-offset-fits : {patch full base page after : List ℕ} {b : ℕ} {a : Reading} {r : Refusal} {o : ℕ}
+    → Read pageSize patch full b base page a after → a ≡ ReadingRefused r o → o < 2 ^ 32
+read-offset-fits {patch} {full} {base} {page} {after} {b} {a} {r} {o} c q =
+    let e : o ≡ readOutcome pageSize patch full b base page .offset = ap (λ (x : ReadNumbers). x .offset) (ap readingNumbers (sym q)
+    ∙ c .numbers) in
+    omega (
+      arith,
+      e ∙ read-told pageSize patch full b base page,
+      offset-few (readOutcome pageSize patch full b base page .number) (payloadOf (slotOf patch b)),
+    )
+
+pub build-offset-fits : {patch full map after : List ℕ} {a : Built} {r : Refusal} {b o : ℕ} → Build pageSize patch full map a after
+    → a ≡ BuiltRefused r b o → o < 2 ^ 32
+build-offset-fits {patch} {full} {map} {after} {a} {r} {b} {o} c q =
+    let e : o ≡ buildOutcome pageSize patch full map .offset = ap (λ (x : BuildNumbers). x .offset) (ap builtNumbers (sym q) ∙ c .numbers) in
+    omega (
+      arith,
+      e ∙ build-told pageSize patch full map,
+      offset-few (buildOutcome pageSize patch full map .number) (payloadOf (slotOf patch (buildOutcome pageSize patch full map .block))),
+    )

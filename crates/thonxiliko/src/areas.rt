@@ -70,10 +70,12 @@ pub extern "C" fn thx_read(
         Reading::Done { kind } => thx_reading {
             number: 0,
             kind: layout::number::kind_number(kind),
+            offset: 0,
         },
-        Reading::Refused(refusal) => thx_reading {
+        Reading::Refused { refusal, offset } => thx_reading {
             number: layout::number::refusal_number(refusal),
             kind: 0,
+            offset: offset as u32,
         },
     }
 }
@@ -111,10 +113,16 @@ pub extern "C" fn thx_build(patch: &[u8], full: &[u8], map: &mut [u8]) -> thx_bu
         Built::Done => thx_built {
             number: 0,
             block: 0,
+            offset: 0,
         },
-        Built::Refused { refusal, block } => thx_built {
+        Built::Refused {
+            refusal,
+            block,
+            offset,
+        } => thx_built {
             number: layout::number::refusal_number(refusal),
             block: block as u64,
+            offset: offset as u32,
         },
     }
 }

@@ -25,6 +25,17 @@ pub struct thx_applied {
     pub number: u32,
     pub entries: u32,
     pub last: i32,
+    pub offset: u32,
+}
+
+// What a step of the entry reader answers: with an entry, where the reader stands after it; without one, where it stood.
+#[repr(C)]
+pub struct thx_entry {
+    pub number: u32,
+    pub found: u32,
+    pub at: u64,
+    pub position: i32,
+    pub value: u32,
 }
 
 // What Judge answers.
@@ -47,6 +58,7 @@ pub struct thx_part {
 pub struct thx_reading {
     pub number: u32,
     pub kind: u32,
+    pub offset: u32,
 }
 
 // What Write answers.
@@ -62,6 +74,7 @@ pub struct thx_written {
 pub struct thx_built {
     pub number: u32,
     pub block: u64,
+    pub offset: u32,
 }
 
 // What Look up answers.

@@ -25,6 +25,8 @@ const BLOCKS: u64 = 16;
 const BLOCK: u64 = 9;
 /// Blocks of the store that is built.
 const BUILT: u64 = 64;
+/// Payloads that are drawn for the reader.
+const DRAWN: u64 = 256;
 
 struct Case {
     call: &'static str,
@@ -177,6 +179,39 @@ fn apply_cases(cases: &mut Cases) {
     }
 }
 
+/// All entries of many payloads, one step each; one payload alone would be known by heart.
+fn next_cases(cases: &mut Cases) {
+    for (name, pages) in [("shipped", Pages::shipped()), ("drawn", Pages::drawn(DRAWN))] {
+        let payloads: Vec<Vec<u8>> = pages.into_iter().map(|pages| pages.payload).collect();
+        let limit = payloads.iter().fold(Limit::default(), |limit, payload| {
+            assert!(!payload.is_empty());
+            limit.compare(payload.len())
+        });
+        let entries: usize =
+            payloads.iter().map(|payload| thonxiliko::entries(payload).count()).sum();
+        let name = format!("{entries} entries of {} {name} payloads", payloads.len());
+        let through_all = |read: fn(&[u8])| {
+            let payloads = payloads.clone();
+            Contender::new(move || payloads.iter().for_each(|payload| read(payload)))
+        };
+        let both = [through_all(read_by_library), through_all(read_by_independent)];
+        cases.add("Next", &name, limit, both);
+    }
+}
+
+fn read_by_library(payload: &[u8]) {
+    for entry in thonxiliko::entries(payload) {
+        opaque(entry);
+    }
+}
+
+fn read_by_independent(payload: &[u8]) {
+    let mut step = independent::next(payload, 0, -1);
+    while step.found == 1 {
+        step = opaque(independent::next(payload, step.at, step.position));
+    }
+}
+
 /// Pages of every kind, with the kind before their name.
 fn kinds() -> Vec<(String, Pages)> {
     let mut all = vec![Pages::equal(), Pages::spread(1), Pages::spread(20), Pages::spread(100)];
@@ -299,6 +334,7 @@ pub fn rows(effort: Effort) -> Vec<Row> {
     let mut cases = Cases::default();
     compare_cases(&mut cases);
     apply_cases(&mut cases);
+    next_cases(&mut cases);
     judge_and_show_cases(&mut cases);
     read_cases(&mut cases);
     write_cases(&mut cases);

@@ -1,6 +1,9 @@
 //! Pages to compare, and what is known of them.
 
+use std::collections::BTreeSet;
+
 use differential::rng::Rng;
+use faults::shipped;
 use thonxiliko::{compare, Compared, Difference, PAGE_SIZE, PAYLOAD_SIZE};
 
 /// A page, its base, and the stream if it fits a slot.
@@ -65,6 +68,25 @@ impl Pages {
         }
         assert!(pages.iter().all(|pages| pages.compared.difference == Difference::Patch));
         pages
+    }
+
+    /// Real pages that fit a slot: those of the shipped ones that do.
+    pub fn shipped() -> Vec<Pages> {
+        let blocks = shipped::blocks(&shipped::folder()).expect("the shipped pages");
+        let pages = blocks.into_iter().map(|block| Pages::new("shipped", block.base, block.page));
+        pages.filter(|pages| !pages.payload.is_empty()).collect()
+    }
+
+    /// Pages with 1 to 200 differences anywhere, no two alike. All of them fit a slot.
+    pub fn drawn(count: u64) -> Vec<Pages> {
+        let page = |number| {
+            let mut rng = Rng::for_case(11, "drawn", number);
+            let differences = rng.between(1, 200);
+            let positions: BTreeSet<usize> =
+                (0..differences).map(|_| rng.below(PAGE_SIZE)).collect();
+            Pages::changed("drawn", positions.into_iter())
+        };
+        (0..count).map(page).collect()
     }
 
     /// Those that do not, from few differences to a page that is new throughout.

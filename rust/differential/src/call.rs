@@ -21,10 +21,12 @@ pub enum Call {
     Build,
     LookUp,
     Tally,
+    /// One step of the entry reader.
+    Next,
 }
 
 impl Call {
-    pub const ALL: [Call; 10] = [
+    pub const ALL: [Call; 11] = [
         Call::Format,
         Call::Compare,
         Call::Apply,
@@ -35,6 +37,7 @@ impl Call {
         Call::Build,
         Call::LookUp,
         Call::Tally,
+        Call::Next,
     ];
 
     pub fn name(self) -> &'static str {
@@ -49,6 +52,7 @@ impl Call {
             Call::Build => "build",
             Call::LookUp => "look_up",
             Call::Tally => "tally",
+            Call::Next => "next",
         }
     }
 
@@ -65,6 +69,7 @@ impl Call {
             Call::Build => &["patch", "full", "map"],
             Call::LookUp => &["map"],
             Call::Tally => &["map"],
+            Call::Next => &["payload"],
         }
     }
 
@@ -81,6 +86,16 @@ impl Call {
             Call::Build => &[0, 2, 3, 4, 6, 7, 8, 9, 10],
             Call::LookUp => &[0, 2, 5, 9, 11],
             Call::Tally => &[0, 2, 9, 11],
+            Call::Next => &[0, 7],
+        }
+    }
+
+    /// Where the payload offset stands among the members of the answer, for calls that give it.
+    pub fn offset_member(self) -> Option<usize> {
+        match self {
+            Call::Apply => Some(3),
+            Call::Read | Call::Build => Some(2),
+            _ => None,
         }
     }
 }
@@ -103,27 +118,55 @@ impl Answer {
     }
 }
 
-/// One call with everything it is lent and told. `n` and `block` are unused where the call has none.
+/// The numbers that a call is told. Those that it does not have are unused.
+#[derive(Clone, Copy, Debug)]
+pub struct Numbers {
+    pub n: u64,
+    pub block: u64,
+    /// Place and position of a reader.
+    pub at: u64,
+    pub position: i32,
+}
+
+/// A reader that begins.
+pub const BEGINNING: (u64, i32) = (0, -1);
+
+impl Default for Numbers {
+    fn default() -> Numbers {
+        let (at, position) = BEGINNING;
+        Numbers { n: 0, block: 0, at, position }
+    }
+}
+
+/// One call with everything it is lent and told.
 #[derive(Clone, Debug)]
 pub struct Input {
     pub call: Call,
     pub buffers: Vec<Vec<u8>>,
-    pub n: u64,
-    pub block: u64,
+    pub numbers: Numbers,
 }
 
 impl Input {
     pub fn new(call: Call, buffers: Vec<Vec<u8>>) -> Input {
         assert_eq!(buffers.len(), call.buffers().len(), "buffers of {}", call.name());
-        Input { call, buffers, n: 0, block: 0 }
+        Input { call, buffers, numbers: Numbers::default() }
     }
 
-    pub fn at_block(self, block: u64) -> Input {
-        Input { block, ..self }
+    /// One step of a reader that stands at a place and a position.
+    pub fn step(payload: &[u8], (at, position): (u64, i32)) -> Input {
+        let mut input = Input::new(Call::Next, vec![payload.to_vec()]);
+        (input.numbers.at, input.numbers.position) = (at, position);
+        input
     }
 
-    pub fn told(self, n: u64) -> Input {
-        Input { n, ..self }
+    pub fn at_block(mut self, block: u64) -> Input {
+        self.numbers.block = block;
+        self
+    }
+
+    pub fn told(mut self, n: u64) -> Input {
+        self.numbers.n = n;
+        self
     }
 }
 
@@ -133,7 +176,8 @@ impl fmt::Display for Input {
         for (name, bytes) in self.call.buffers().iter().zip(&self.buffers) {
             write!(f, "{name}: {} bytes #{:016x}, ", bytes.len(), fingerprint(bytes))?;
         }
-        write!(f, "n: {}, block: {})", self.n, self.block)
+        let Numbers { n, block, at, position } = self.numbers;
+        write!(f, "n: {n}, block: {block}, at: {at}, position: {position})")
     }
 }
 

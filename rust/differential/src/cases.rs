@@ -1,7 +1,10 @@
 //! Inputs with their outcomes written by hand from the rules: P1 to P12, both sides of each edge, the
-//! order of refusals, and the shortcuts that give a wrong page.
+//! order of refusals, where payloads break, the steps of a reader, and the shortcuts that give a wrong
+//! page.
 
-use crate::call::{Answer, Call, Input, Outcome, FULL_HEADER, PAGE, PATCH_HEADER, PAYLOAD, SLOT};
+use crate::call::{
+    Answer, Call, Input, Outcome, BEGINNING, FULL_HEADER, PAGE, PATCH_HEADER, PAYLOAD, SLOT,
+};
 
 pub struct Case {
     pub name: String,
@@ -232,22 +235,10 @@ fn example_over(cases: &mut Vec<Case>, example: &Example, base: Vec<u8>) {
 
 /// P7 to P12.
 fn more_examples(cases: &mut Vec<Case>) {
-    let unsound: [(&str, &[u8]); 4] = [
-        ("P7", &[0xFF, 0x00, 0x20, 0x01]),
-        ("P8", &[0xFF, 0xFF, 0x1F, 0x01, 0x00, 0x02]),
-        ("P9", &[0x00]),
-        ("P10", &[]),
-    ];
-    for (name, payload) in unsound {
-        cases.push(case(name, apply(Vec::new(), payload, filler(PAGE)), &[7], &[]));
-        if !payload.is_empty() {
-            let area = with(patch_area(1), 512, &patch_slot(payload));
-            let input = read(area.clone(), Vec::new(), 0, Vec::new());
-            cases.push(case(&format!("{name} read"), input, &[7], &[]));
-            let input = build(area, Vec::new(), filler(1));
-            cases.push(case(&format!("{name} built"), input, &[7, 0], &[]));
-        }
-    }
+    breaking(cases, "P7", &[0xFF, 0x00, 0x20, 0x01], 0);
+    breaking(cases, "P8", &[0xFF, 0xFF, 0x1F, 0x01, 0x00, 0x02], 4);
+    breaking(cases, "P9", &[0x00], 0);
+    breaking(cases, "P10", &[], 0);
     let equal = vec![0x33; PAGE];
     cases.push(case("P11", compare(Vec::new(), zeros(), filler(504)), &[0, 0, 0, 0, -1], &[]));
     cases.push(case(
@@ -262,6 +253,106 @@ fn more_examples(cases: &mut Vec<Case>) {
         &[0, 1, 0],
         &[put(2, 0, &page(&[(0, 5)]))],
     ));
+}
+
+/// A payload that is not sound, and the offset at which it breaks: applied and, if it fits a slot, read
+/// and built.
+fn breaking(cases: &mut Vec<Case>, name: &str, payload: &[u8], offset: i128) {
+    let input = apply(Vec::new(), payload, filler(PAGE));
+    cases.push(case(&format!("{name} applied"), input, &[7, 0, 0, offset], &[]));
+    if (1..=PAYLOAD).contains(&payload.len()) {
+        let area = with(patch_area(3), 1024, &patch_slot(payload));
+        let input = read(area.clone(), Vec::new(), 1, Vec::new());
+        cases.push(case(&format!("{name} read"), input, &[7, 0, offset], &[]));
+        let input = build(area, Vec::new(), filler(1));
+        cases.push(case(&format!("{name} built"), input, &[7, 1, offset], &[]));
+    }
+}
+
+/// The entry that is cut off or leaves the page first, wherever it stands.
+fn breaks(cases: &mut Vec<Case>) {
+    let short: [(&str, &[u8], i128); 13] = [
+        ("FF alone", &[0xFF], 0),
+        ("a long code without its high byte", &[0xFF, 0x00], 0),
+        ("a long code without a value", &[0xFF, 0x00, 0x00], 0),
+        ("a second jump without a value", &[0x00, 0x07, 0x00], 2),
+        ("a second FF alone", &[0x00, 0x07, 0xFF], 2),
+        ("a second long code without a value", &[0x00, 0x01, 0xFF, 0xFF, 0x00], 2),
+        ("a jump after a long code", &[0xFF, 0xFF, 0x00, 0x01, 0xFE], 4),
+        ("a third entry cut off", &[0, 1, 0xFF, 0xFF, 0, 1, 0xFF, 0], 6),
+        ("a jump of 65,535", &[0xFF, 0xFF, 0xFF, 0x01], 0),
+        ("a jump of 65,535 after an entry", &[0x00, 0x07, 0xFF, 0xFF, 0xFF, 0x01], 2),
+        ("two past the page by the short code", &[0xFF, 0xFE, 0x1F, 0x01, 0x01, 0x02], 4),
+        ("out of the page, then cut off", &[0xFF, 0x00, 0x20, 0x01, 0x00], 0),
+        ("out of the page twice", &[0, 7, 0xFF, 0x00, 0x20, 0x01, 0xFF, 0x00, 0x20, 0x01], 2),
+    ];
+    for (name, payload, offset) in short {
+        breaking(cases, name, payload, offset);
+    }
+    breaking(cases, "251 entries and a jump", &[0; 503], 502);
+    // Too long, and an entry that breaks early, at the last place, or not at all.
+    breaking(cases, "505 bytes", &[0; 505], 0);
+    breaking(cases, "506 bytes of whole entries", &[0; 506], 0);
+    breaking(cases, "505 bytes that break early", &with(vec![0; 505], 2, &[0xFF, 0x00, 0x20]), 0);
+    breaking(cases, "506 bytes that break late", &with(vec![0; 506], 502, &[0xFF, 0, 0x20]), 0);
+
+    // With any other refusal the offset is 0, though the payload breaks at 2.
+    let broken: &[u8] = &[0x00, 0x07, 0x00];
+    let area = with(patch_area(1), 512, &patch_slot(broken));
+    let unsound = with(area.clone(), 512 + 4, &[1]);
+    cases.push(case("1 has no offset", apply(vec![1], broken, filler(PAGE)), &[1], &[]));
+    cases.push(case("5 has no offset", read(area.clone(), vec![], 1, vec![]), &[5], &[]));
+    cases.push(case("6 has no offset", read(unsound.clone(), vec![], 0, vec![]), &[6], &[]));
+    cases.push(case("Build: 6 has no offset", build(unsound, vec![], filler(1)), &[6], &[]));
+    cases.push(case("Build: 9 has no offset", build(area.clone(), vec![], vec![]), &[9], &[]));
+    let input = build(with(area, 8, &[1]), vec![], filler(1));
+    cases.push(case("Build: 4 has no offset", input, &[4], &[]));
+}
+
+/// Steps of a reader. Each line is a place and position, and the answer.
+fn steps(cases: &mut Vec<Case>) {
+    let mut from = |name: &str, payload: &[u8], stands: (u64, i32), answer: [i128; 5]| {
+        let name = format!("reader: {name}, from {stands:?}");
+        cases.push(case(&name, Input::step(payload, stands), &answer, &[]));
+    };
+    let p5: &[u8] = &[0x00, 0x01, 0xFE, 0x01];
+    from("P5", p5, BEGINNING, [0, 1, 2, 0, 1]);
+    from("P5", p5, (2, 0), [0, 1, 4, 255, 1]);
+    from("P5", p5, (4, 255), [0, 0, 4, 255, 0]);
+    let p8: &[u8] = &[0xFF, 0xFF, 0x1F, 0x01, 0x00, 0x02];
+    from("P8", p8, BEGINNING, [0, 1, 4, 8191, 1]);
+    from("P8", p8, (4, 8191), [7, 0, 4, 8191, 0]);
+    // Another position before it, and it stays in the page.
+    from("P8", p8, (4, 8190), [0, 1, 6, 8191, 2]);
+    from("P7", &[0xFF, 0x00, 0x20, 0x01], BEGINNING, [7, 0, 0, -1, 0]);
+    from("P9", &[0x00], BEGINNING, [7, 0, 0, -1, 0]);
+    from("P10", &[], BEGINNING, [7, 0, 0, -1, 0]);
+    from("P12", &[0xFF, 0x00, 0x00, 0x05], BEGINNING, [0, 1, 4, 0, 5]);
+    from("a value of 255", &[0x03, 0xFF], (0, 10), [0, 1, 2, 14, 255]);
+
+    // Inside an entry its other bytes are taken for one.
+    from("inside an entry", p5, (1, 0), [0, 1, 3, 2, 0xFE]);
+    from("at the last byte", p5, (3, 0), [7, 0, 3, 0, 0]);
+    // An empty or overlong payload comes before the end and the position.
+    for stands in [BEGINNING, (2, 5), (505, 8192), (u64::MAX, i32::MIN)] {
+        let answer = [7, 0, stands.0.into(), stands.1.into(), 0];
+        from("nothing", &[], stands, answer);
+        from("505 bytes", &[0; 505], stands, answer);
+        from("506 bytes", &[0; 506], stands, answer);
+    }
+    // The end comes before the position, the position before the entry.
+    for stands in [(4, -1), (5, 8192), (1 << 32, -2), (u64::MAX, i32::MAX)] {
+        from("past the end", p5, stands, [0, 0, stands.0.into(), stands.1.into(), 0]);
+    }
+    for position in [8192, -2, i32::MIN, i32::MAX] {
+        from("a position outside", p5, (0, position), [7, 0, 0, position.into(), 0]);
+    }
+    from("to the last byte of the page", p5, (0, 8190), [0, 1, 2, 8191, 1]);
+    from("out of the page", p5, (0, 8191), [7, 0, 0, 8191, 0]);
+    // The longest payload, to its last entry and past it.
+    from("504 bytes", &[0; 504], (502, 250), [0, 1, 504, 251, 0]);
+    from("504 bytes", &[0; 504], (504, 251), [0, 0, 504, 251, 0]);
+    from("503 bytes", &[0; 503], (502, 250), [7, 0, 502, 250, 0]);
 }
 
 /// Where a stream stops fitting into a slot.
@@ -488,10 +579,7 @@ fn payload_lengths(cases: &mut Vec<Case>) {
         cases.push(case(&name, compare(vec![], vec![1; PAGE], buffer), &[9], &[]));
     }
 
-    // Sound entries, but 506 bytes; and 503, which cannot be whole entries of two.
-    cases.push(case("506 bytes applied", apply(vec![], &[0; 506], filler(PAGE)), &[7], &[]));
-    cases.push(case("505 bytes applied", apply(vec![], &[0; 505], filler(PAGE)), &[7], &[]));
-    cases.push(case("503 bytes applied", apply(vec![], &[0; 503], filler(PAGE)), &[7], &[]));
+    // Payloads of other lengths are among those that break.
     cases.push(case(
         "504 bytes applied",
         apply(vec![], &[0; 504], filler(PAGE)),
@@ -633,7 +721,7 @@ fn shortcuts(cases: &mut Vec<Case>) {
     ));
     // A broken last entry leaves the page alone.
     let input = apply(a_base(), &[0, 1, 0, 2, 0], filler(PAGE));
-    cases.push(case("a broken last entry", input, &[7], &[]));
+    cases.push(case("a broken last entry", input, &[7, 0, 0, 4], &[]));
 }
 
 fn writing(cases: &mut Vec<Case>) {
@@ -696,9 +784,12 @@ fn first_faults(cases: &mut Vec<Case>) {
     cases.push(case("10 at block 0 before 6 at block 1", input, &[10, 0], &[]));
     let input = build(bad_slot_1, stray_1.clone(), filler(1));
     cases.push(case("6 before 10 at one block", input, &[6, 1], &[]));
-    let bad_payload_1 = with(patch_area(2), 1024, &patch_slot(&[0]));
+    let bad_payload_1 = with(patch_area(2), 1024, &patch_slot(&[0, 7, 0]));
     let input = build(bad_payload_1.clone(), stray_1, filler(1));
-    cases.push(case("7 before 10 at one block", input, &[7, 1], &[]));
+    cases.push(case("7 before 10 at one block", input, &[7, 1, 2], &[]));
+    let both = with(bad_payload_1.clone(), 512, &patch_slot(&[0, 7, 0, 8, 0]));
+    let input = build(both, vec![], filler(1));
+    cases.push(case("7 at block 0 before 7 at block 1", input, &[7, 0, 4], &[]));
     let missing_0 = with(bad_payload_1, 512, &slot(&[2]));
     let input = build(missing_0, vec![], filler(1));
     cases.push(case("8 at block 0 before 7 at block 1", input, &[8, 0], &[]));
@@ -771,6 +862,8 @@ pub fn all() -> Vec<Case> {
     let mut cases = Vec::new();
     examples(&mut cases);
     more_examples(&mut cases);
+    breaks(&mut cases);
+    steps(&mut cases);
     stream_edges(&mut cases);
     spread_edges(&mut cases);
     no_blocks(&mut cases);

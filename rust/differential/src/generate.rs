@@ -1,7 +1,9 @@
 //! Random inputs: sound stores and pages, and damage of every sort done to them, often several at
 //! once so that the order of refusals decides.
 
-use crate::call::{Call, Input, FULL_HEADER, MAX_BLOCKS, PAGE, PATCH_HEADER, PAYLOAD, SLOT};
+use crate::call::{
+    Call, Input, BEGINNING, FULL_HEADER, MAX_BLOCKS, PAGE, PATCH_HEADER, PAYLOAD, SLOT,
+};
 use crate::rng::Rng;
 
 // ---------------------------------------------------------------------------------------------
@@ -148,7 +150,7 @@ fn far_jump(rng: &mut Rng) -> Vec<u8> {
 }
 
 /// A payload that may be anything: sound, cut off, one entry too far, too long, empty, noise.
-fn payload(rng: &mut Rng) -> Vec<u8> {
+pub fn payload(rng: &mut Rng) -> Vec<u8> {
     match rng.below(12) {
         0 => Vec::new(),
         1 => {
@@ -181,7 +183,7 @@ fn payload(rng: &mut Rng) -> Vec<u8> {
     }
 }
 
-fn patch_slot(payload: &[u8]) -> Vec<u8> {
+pub fn patch_slot(payload: &[u8]) -> Vec<u8> {
     let mut slot = vec![0; SLOT];
     let kept = &payload[..payload.len().min(PAYLOAD)];
     slot[0] = 1;
@@ -409,6 +411,10 @@ pub const STRANGE_NUMBERS: [u64; 22] = [
     262_144,
 ];
 
+/// Positions of a reader: both ends of those that it can have, those beside them, and the farthest.
+pub const POSITIONS: [i32; 12] =
+    [-1, 0, 254, 255, 8_190, 8_191, 8_192, -2, i32::MAX, i32::MAX - 1, i32::MIN, i32::MIN + 1];
+
 /// A block number: mostly one that the store has.
 fn block(rng: &mut Rng, n: usize) -> u64 {
     match rng.below(20) {
@@ -562,6 +568,41 @@ fn tally_input(rng: &mut Rng) -> Input {
     Input::new(Call::Tally, vec![map]).told(n)
 }
 
+/// Where a reader stands after some of the payload's entries.
+fn reached(rng: &mut Rng, payload: &[u8]) -> (u64, i32) {
+    let mut stands = BEGINNING;
+    for _ in 0..rng.below(payload.len() / 2 + 2) {
+        let step = independent::next(payload, stands.0, stands.1);
+        stands = (step.at, step.position);
+    }
+    stands
+}
+
+/// A reader at a place that it has come to, or at any place and position.
+fn next_input(rng: &mut Rng) -> Input {
+    let payload = payload(rng);
+    let (mut at, mut position) = reached(rng, &payload);
+    if rng.chance(40) {
+        let length = payload.len() as u64;
+        at = match rng.below(6) {
+            0 => length,
+            1 => length + 1,
+            2 => rng.pick(&STRANGE_NUMBERS),
+            3 => rng.draw(),
+            // Often inside an entry.
+            _ => rng.below(payload.len() + 1) as u64,
+        };
+    }
+    if rng.chance(40) {
+        position = match rng.below(4) {
+            0 => rng.draw() as i32,
+            1 => rng.pick(&POSITIONS),
+            _ => rng.below(PAGE) as i32,
+        };
+    }
+    Input::step(&payload, (at, position))
+}
+
 /// A random input for a call.
 fn input(rng: &mut Rng, call: Call) -> Input {
     match call {
@@ -575,6 +616,7 @@ fn input(rng: &mut Rng, call: Call) -> Input {
         Call::Build => build_input(rng),
         Call::LookUp => look_up_input(rng),
         Call::Tally => tally_input(rng),
+        Call::Next => next_input(rng),
     }
 }
 
@@ -605,6 +647,8 @@ pub fn any_input(rng: &mut Rng) -> Input {
         Call::Build,
         Call::LookUp,
         Call::Tally,
+        Call::Next,
+        Call::Next,
     ]);
     input(rng, call)
 }

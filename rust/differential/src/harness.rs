@@ -3,7 +3,7 @@
 use std::fmt;
 
 use crate::arena::{Flush, Room};
-use crate::call::{Answer, Call, Input, Outcome};
+use crate::call::{Answer, Call, Input, Numbers, Outcome};
 use crate::sides::{self, Lent, SafeSide};
 
 /// More than any buffer of a generated input.
@@ -30,14 +30,25 @@ impl fmt::Display for Mismatch {
 /// How often each call was compared, and with which number.
 #[derive(Clone, Debug, Default)]
 pub struct Counts {
-    /// For Show: 0 counts the parts handed out, 1 the empty ones.
-    by_number: [[u64; 12]; 10],
+    /// For Show, 0 counts the parts handed out and 1 the empty ones; for Next, 0 counts the entries, 1
+    /// the ends and 7 the stops.
+    by_number: [[u64; 12]; Call::ALL.len()],
+}
+
+/// What is counted for a call; all of it must be met.
+fn counted(call: Call) -> &'static [usize] {
+    match call {
+        Call::Show => &[0, 1],
+        Call::Next => &[0, 1, 7],
+        _ => call.numbers(),
+    }
 }
 
 impl Counts {
     pub fn add(&mut self, call: Call, answer: &Answer) {
         let number = match call {
             Call::Show => i128::from(answer.0[1] == 0),
+            Call::Next if answer.number() == 0 => i128::from(answer.0[1] == 0),
             _ => answer.number(),
         };
         // A number that is not in the table has been reported as a mismatch before.
@@ -59,8 +70,7 @@ impl Counts {
     pub fn unseen(&self) -> Vec<(Call, usize)> {
         let mut unseen = Vec::new();
         for call in Call::ALL {
-            let numbers = if call == Call::Show { &[0, 1][..] } else { call.numbers() };
-            for number in numbers {
+            for number in counted(call) {
                 if self.by_number[call as usize][*number] == 0 {
                     unseen.push((call, *number));
                 }
@@ -84,6 +94,10 @@ impl fmt::Display for Counts {
                 writeln!(f, " {} parts handed out, {} empty", row[0], row[1])?;
                 continue;
             }
+            if call == Call::Next {
+                writeln!(f, " {} entries, {} ends, {} stops (7)", row[0], row[1], row[7])?;
+                continue;
+            }
             for (number, count) in row.iter().enumerate() {
                 if call.numbers().contains(&number) {
                     write!(f, " {count:>7}")?;
@@ -99,19 +113,19 @@ impl fmt::Display for Counts {
 
 /// The independent implementation on copies of the input's buffers.
 pub fn independent_outcome(input: &Input) -> Outcome {
-    outcome_on_copies(input, sides::independent)
+    outcome_on_copies(input, sides::independent).expect("it has every call")
 }
 
-/// The safe wrapper on copies of the input's buffers.
-pub fn wrapper_outcome(input: &Input) -> Outcome {
+/// The safe wrapper on copies of the input's buffers; none where it has no such call.
+pub fn wrapper_outcome(input: &Input) -> Option<Outcome> {
     outcome_on_copies(input, sides::wrapper)
 }
 
-fn outcome_on_copies(input: &Input, side: SafeSide) -> Outcome {
+fn outcome_on_copies(input: &Input, side: SafeSide) -> Option<Outcome> {
     let mut buffers = input.buffers.clone();
     let mut slices: Vec<&mut [u8]> = buffers.iter_mut().map(Vec::as_mut_slice).collect();
-    let answer = side(input.call, &mut slices, input.n, input.block);
-    Outcome { answer, buffers }
+    let answer = side(input.call, &mut slices, &input.numbers)?;
+    Some(Outcome { answer, buffers })
 }
 
 /// How a turn lends its buffers: at which end they touch forbidden memory, and what stands for the
@@ -180,10 +194,12 @@ impl Harness {
             hold(input, "program in its place", Ok(program(input)), &expected)?;
         } else {
             hold(input, "C interface", self.library_outcome(input), &expected)?;
-            hold(input, "Rust wrapper", Ok(wrapper_outcome(input)), &expected)?;
+            if let Some(outcome) = wrapper_outcome(input) {
+                hold(input, "Rust wrapper", Ok(outcome), &expected)?;
+            }
         }
-        if let Some(found) = forbidden_by_refusal(input, &expected) {
-            return Err(Mismatch { side: "rule of refusals", input: input.to_string(), found });
+        if let Some(found) = forbidden(input, &expected) {
+            return Err(Mismatch { side: "rule of answers", input: input.to_string(), found });
         }
         self.count(input.call, &expected.answer);
         Ok(expected)
@@ -199,7 +215,7 @@ impl Harness {
     pub fn library_outcome(&mut self, input: &Input) -> Result<Outcome, String> {
         let lent = self.lend(&input.buffers);
         // SAFETY: every buffer has a room of its own.
-        let answer = unsafe { sides::library(input.call, &lent, input.n, input.block) };
+        let answer = unsafe { sides::library(input.call, &lent, &input.numbers) };
         let buffers = self.take_back(&lent).map_err(|index| {
             let name = input.call.buffers()[index];
             format!("bytes beside buffer {name} were changed")
@@ -235,22 +251,50 @@ impl Harness {
     }
 }
 
-/// What all refusals have in common, whatever the sides agree about: no byte is changed, and the
-/// other members are 0 but for Build's block with 6, 7, 8 and 10.
+/// What breaks a rule that holds for all answers, whatever the sides agree about.
+fn forbidden(input: &Input, outcome: &Outcome) -> Option<String> {
+    match input.call {
+        Call::Show => None,
+        Call::Next => forbidden_step(input, outcome),
+        _ if outcome.answer.number() == 0 => forbidden_offset(input.call, &outcome.answer),
+        _ => forbidden_by_refusal(input, outcome),
+    }
+}
+
+/// A call that is done gives no offset.
+fn forbidden_offset(call: Call, answer: &Answer) -> Option<String> {
+    let offset = answer.0[call.offset_member()?];
+    (offset != 0).then(|| format!("offset {offset} of a call that is done"))
+}
+
+/// A refusal changes no byte, and the other members are 0 but for Build's block with 6, 7, 8 and 10,
+/// and the offset with 7.
 fn forbidden_by_refusal(input: &Input, outcome: &Outcome) -> Option<String> {
     let number = outcome.answer.number();
-    if input.call == Call::Show || number == 0 {
-        return None;
-    }
     if outcome.buffers != input.buffers {
         return Some(format!("bytes were changed although {number} was given"));
     }
-    let names_block = input.call == Call::Build && [6, 7, 8, 10].contains(&number);
-    let members = &outcome.answer.0[if names_block { 2 } else { 1 }..];
-    if members.iter().any(|member| *member != 0) {
-        return Some(format!("answer {:?} of a refusal", outcome.answer.0));
+    let mut members = outcome.answer.0;
+    members[0] = 0;
+    if input.call == Call::Build && [6, 7, 8, 10].contains(&number) {
+        members[1] = 0;
     }
-    None
+    if let (7, Some(offset)) = (number, input.call.offset_member()) {
+        members[offset] = 0;
+    }
+    (members != [0; 5]).then(|| format!("answer {:?} of a refusal", outcome.answer.0))
+}
+
+/// A reader changes no byte, and without an entry it stands where it stood.
+fn forbidden_step(input: &Input, outcome: &Outcome) -> Option<String> {
+    if outcome.buffers != input.buffers {
+        return Some("a reader changed bytes".to_string());
+    }
+    let Numbers { at, position, .. } = input.numbers;
+    let given = outcome.answer.0;
+    let stands = [given[0], 0, at.into(), position.into(), 0];
+    let may_be = if given[1] == 0 { given == stands } else { given[..2] == [0, 1] };
+    (!may_be).then(|| format!("answer {given:?} of a reader at {at} and {position}"))
 }
 
 /// An outcome, or the harm that was found outside the buffers, against the expected outcome.

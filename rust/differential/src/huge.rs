@@ -8,7 +8,8 @@ use std::fs;
 
 use crate::arena::{Flush, Room};
 use crate::call::{
-    first_difference, Answer, Call, Input, FULL_HEADER, MAX_BLOCKS, PAGE, PATCH_HEADER, SLOT,
+    first_difference, Answer, Call, Input, Numbers, FULL_HEADER, MAX_BLOCKS, PAGE, PATCH_HEADER,
+    SLOT,
 };
 use crate::generate::Areas;
 use crate::harness::{Harness, Mismatch};
@@ -116,7 +117,7 @@ impl<'h> Stores<'h> {
         let mut lent: Vec<Lent> = self.library.lent(call).into_iter().map(Lent::of).collect();
         lent.extend(&others);
         // SAFETY: every buffer has a room of its own.
-        let answer = unsafe { sides::library(call, &lent, 0, block) };
+        let answer = unsafe { sides::library(call, &lent, &at_block(block)) };
         match self.harness.take_back(&others) {
             Ok(after) => Ok((answer, after)),
             Err(_) => Err("bytes beside a page or map were changed".to_string()),
@@ -173,7 +174,12 @@ fn on_store(side: SafeSide, store: &mut Store, call: Call, block: u64, small: &[
     let mut after = small.to_vec();
     let mut lent = store.lent(call);
     lent.extend(after.iter_mut().map(Vec::as_mut_slice));
-    (side(call, &mut lent, 0, block), after)
+    let answer = side(call, &mut lent, &at_block(block));
+    (answer.expect("every side has the calls on areas"), after)
+}
+
+fn at_block(block: u64) -> Numbers {
+    Numbers { block, ..Numbers::default() }
 }
 
 fn other_answer(got: &Answer, want: &Answer) -> String {
@@ -221,6 +227,10 @@ fn without_full_area(harness: &mut Harness) -> Result<(), Mismatch> {
     stores.build(&[0])?;
     stores.check(Call::Build, 0, &[vec![0xAB; MAP - 1]], &[9])?;
 
+    // The last block's payload gets a fifth byte, the jump of an entry without a value.
+    stores.poke_patch(patch_len(MAX_BLOCKS - 1) + 2, 5);
+    stores.build(&[7, i128::from(LAST), 4])?;
+    stores.read(LAST, &[7, 0, 4])?;
     stores.poke_patch(patch_len(MAX_BLOCKS) - 1, 1);
     stores.build(&[6, i128::from(LAST)])?;
     stores.read(LAST, &[6])?;

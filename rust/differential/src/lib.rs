@@ -12,6 +12,7 @@ pub mod generate;
 pub mod harness;
 pub mod huge;
 pub mod orders;
+pub mod payloads;
 pub mod rng;
 pub mod runs;
 pub mod sides;

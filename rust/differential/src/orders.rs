@@ -4,24 +4,46 @@
 //! what the others look at. All sets of them are tried. So the order is held to the list itself, and
 //! not only to the independent implementation.
 
-use crate::call::{Call, Input, FULL_HEADER, PAGE, PATCH_HEADER, PAYLOAD, SLOT};
+use crate::call::{
+    Answer, Call, Input, Numbers, BEGINNING, FULL_HEADER, PAGE, PATCH_HEADER, PAYLOAD, SLOT,
+};
 use crate::generate::Areas;
 use crate::harness::{Harness, Mismatch};
 
-/// One fault: the number and block that it is refused with, and how to make it.
+/// One fault: the number, block and offset that it is refused with, and how to make it.
 struct Fault {
     number: i128,
     block: i128,
+    offset: i128,
     make: fn(&mut Input),
 }
 
 fn fault(number: i128, make: fn(&mut Input)) -> Fault {
-    Fault { number, block: 0, make }
+    Fault { number, block: 0, offset: 0, make }
 }
 
 /// A fault of one block, which Build names.
 fn fault_at(number: i128, block: i128, make: fn(&mut Input)) -> Fault {
-    Fault { number, block, make }
+    Fault { number, block, offset: 0, make }
+}
+
+impl Fault {
+    /// A fault of a payload, which breaks at this offset.
+    fn breaking_at(self, offset: i128) -> Fault {
+        Fault { offset, ..self }
+    }
+
+    /// The answer if this fault decides.
+    fn answer(&self, input: &Input) -> Answer {
+        let Numbers { at, position, .. } = input.numbers;
+        match input.call {
+            Call::Apply => Answer::of(&[self.number, 0, 0, self.offset]),
+            Call::Read => Answer::of(&[self.number, 0, self.offset]),
+            Call::Build => Answer::of(&[self.number, self.block, self.offset]),
+            Call::Next => Answer::of(&[self.number, 0, at.into(), position.into(), 0]),
+            _ => Answer::of(&[self.number]),
+        }
+    }
 }
 
 // Where the buffers of Read, Write and Build stand.
@@ -57,7 +79,7 @@ fn common_faults() -> Vec<Fault> {
         fault(2, |input| input.buffers[FULL].push(0)),
     ];
     faults.extend(header_faults());
-    faults.push(fault(5, |input| input.block = 2));
+    faults.push(fault(5, |input| input.numbers.block = 2));
     faults
 }
 
@@ -65,19 +87,24 @@ fn unsound_slot_1(input: &mut Input) {
     input.buffers[PATCH][SLOT_1 + 4] = 1;
 }
 
-/// The short code of a PATCH slot's only entry becomes the first byte of a long one.
-fn unsound_payload_1(input: &mut Input) {
-    input.buffers[PATCH][SLOT_1 + 8] = 0xFF;
+/// The short code of block 0's second entry, the last, becomes the first byte of a long one.
+fn unsound_payload_0() -> Fault {
+    fault_at(7, 0, |input| input.buffers[PATCH][SLOT_0 + 8 + 2] = 0xFF).breaking_at(2)
 }
 
-/// Two blocks with one changed byte each.
+/// The same with block 1's third entry.
+fn unsound_payload_1() -> Fault {
+    fault_at(7, 1, |input| input.buffers[PATCH][SLOT_1 + 8 + 4] = 0xFF).breaking_at(4)
+}
+
+/// Two blocks: two entries in block 0 and three in block 1, so that their payloads break elsewhere.
 fn patched(m: Option<usize>) -> Areas {
     let mut areas = Areas::fresh(2, m);
-    let mut page = vec![0; PAGE];
-    page[0] = 7;
-    for block in 0..2 {
+    for (block, entries) in [(0, 2), (1, 3)] {
+        let mut page = vec![0; PAGE];
+        page[..entries].fill(7);
         let written = independent::write(&mut areas.patch, &mut areas.full, block, &[], &page);
-        assert_eq!(written.number, 0);
+        assert_eq!((written.number, written.length as usize), (0, 2 * entries));
     }
     areas
 }
@@ -87,7 +114,7 @@ fn read_patch(harness: &mut Harness) -> Result<(), Mismatch> {
     let input = Input::new(Call::Read, vec![patch, full, vec![0; PAGE], vec![0xEE; PAGE]]);
     let mut faults = common_faults();
     faults.push(fault(6, unsound_slot_1));
-    faults.push(fault(7, unsound_payload_1));
+    faults.push(unsound_payload_1());
     all_sets(harness, &input.at_block(1), &faults)
 }
 
@@ -118,10 +145,10 @@ fn build_patches(harness: &mut Harness) -> Result<(), Mismatch> {
     faults.extend(header_faults());
     faults.extend([
         fault_at(6, 0, |input| input.buffers[PATCH][SLOT_0 + 511] = 1),
-        fault_at(7, 0, |input| input.buffers[PATCH][SLOT_0 + 8] = 0xFF),
+        unsound_payload_0(),
         fault_at(10, 0, |input| input.buffers[FULL][PLACE_0 + 8191] = 1),
         fault_at(6, 1, unsound_slot_1),
-        fault_at(7, 1, unsound_payload_1),
+        unsound_payload_1(),
         fault_at(10, 1, |input| input.buffers[FULL][PLACE_1] = 1),
     ]);
     all_sets(harness, &input, &faults)
@@ -163,7 +190,7 @@ fn without_areas(harness: &mut Harness) -> Result<(), Mismatch> {
         &[
             fault(1, |input| input.buffers[0].push(0)),
             fault(1, |input| input.buffers[2].clear()),
-            fault(7, |input| input.buffers[1].push(0)),
+            fault(7, |input| input.buffers[1].push(0)).breaking_at(2),
         ],
     )?;
     let judge = Input::new(Call::Judge, vec![vec![0; SLOT]]);
@@ -191,9 +218,9 @@ fn maps(harness: &mut Harness) -> Result<(), Mismatch> {
         harness,
         &look_up,
         &[
-            fault(2, |input| input.n = 131_073),
+            fault(2, |input| input.numbers.n = 131_073),
             fault(9, |input| input.buffers[0].truncate(1)),
-            fault(5, |input| input.block = u64::MAX),
+            fault(5, |input| input.numbers.block = u64::MAX),
             fault(11, |input| input.buffers[0].iter_mut().for_each(|byte| *byte |= 3)),
         ],
     )?;
@@ -202,7 +229,7 @@ fn maps(harness: &mut Harness) -> Result<(), Mismatch> {
         harness,
         &tally,
         &[
-            fault(2, |input| input.n = u64::MAX),
+            fault(2, |input| input.numbers.n = u64::MAX),
             fault(9, |input| input.buffers[0].truncate(1)),
             fault(11, |input| input.buffers[0][0] |= 0b1100_0000),
             fault(11, |input| {
@@ -214,24 +241,50 @@ fn maps(harness: &mut Harness) -> Result<(), Mismatch> {
     )
 }
 
+/// What keeps a reader from an entry. The end, which has number 0, stands among them.
+fn steps(harness: &mut Harness) -> Result<(), Mismatch> {
+    let faults = [
+        fault(7, |input| input.buffers[0].resize(PAYLOAD + 1, 0)),
+        fault(0, |input| input.numbers.at = u64::MAX),
+        fault(7, |input| input.numbers.position = PAGE as i32),
+        fault(7, |input| input.buffers[0][0] = 0xFF),
+    ];
+    all_sets(harness, &Input::step(&[0, 7], BEGINNING), &faults)?;
+    // The other sides of the same: an empty payload, the place just past it, a negative position, a
+    // jump that leaves the page.
+    let faults = [
+        fault(7, |input| input.buffers[0].clear()),
+        fault(0, |input| input.numbers.at = 2),
+        fault(7, |input| input.numbers.position = -2),
+        fault(7, |input| {
+            if let Some(jump) = input.buffers[0].get_mut(0) {
+                *jump = 200;
+            }
+        }),
+    ];
+    all_sets(harness, &Input::step(&[0, 7], (0, 8_000)), &faults)
+}
+
+/// Whether a call without a fault did its work.
+fn did(call: Call, answer: &Answer) -> bool {
+    answer.number() == 0 && (call != Call::Next || answer.0[1] == 1)
+}
+
 /// Tries every set of the faults; the first of them must decide.
 fn all_sets(harness: &mut Harness, start: &Input, faults: &[Fault]) -> Result<(), Mismatch> {
     for set in 0..1u32 << faults.len() {
         let chosen = || faults.iter().enumerate().filter(|(at, _)| set >> at & 1 == 1);
         let mut input = start.clone();
         chosen().for_each(|(_, fault)| (fault.make)(&mut input));
-        let expected = chosen().next().map_or((0, 0), |(_, fault)| (fault.number, fault.block));
         let answer = harness.check(&input)?.answer;
-        let block = if input.call == Call::Build { answer.0[1] } else { 0 };
-        if (answer.number(), block) != expected {
+        let expected = chosen().next().map(|(_, fault)| fault.answer(&input));
+        let held = expected.map_or(did(input.call, &answer), |expected| answer == expected);
+        if !held {
             let numbers: Vec<i128> = chosen().map(|(_, fault)| fault.number).collect();
             return Err(Mismatch {
                 side: "order of refusals",
                 input: format!("{input} with faults {numbers:?}"),
-                found: format!(
-                    "number {} and block {block}, by the order {expected:?}",
-                    answer.0[0]
-                ),
+                found: format!("answer {:?}, by the order {expected:?}", answer.0),
             });
         }
     }
@@ -245,5 +298,6 @@ pub fn check(harness: &mut Harness) -> Result<(), Mismatch> {
     build_patches(harness)?;
     build_full(harness)?;
     without_areas(harness)?;
-    maps(harness)
+    maps(harness)?;
+    steps(harness)
 }

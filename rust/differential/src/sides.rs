@@ -1,7 +1,8 @@
 //! The three sides that are compared: the C interface, the safe wrapper, and the independent
 //! implementation. Each makes the same call and gives its answer as plain numbers.
 
-use crate::call::{Answer, Call};
+use crate::call::{Answer, Call, Numbers, BEGINNING};
+use thonxiliko::{BuildRefusal, Ending, PayloadRefusal, Refusal};
 use thonxiliko_sys as sys;
 
 /// A buffer as C lends it.
@@ -17,8 +18,9 @@ impl Lent {
     }
 }
 
-/// A side that takes slices: call, buffers in the order of the C interface, n, block.
-pub type SafeSide = fn(Call, &mut [&mut [u8]], u64, u64) -> Answer;
+/// A side that takes slices: call, buffers in the order of the C interface, numbers. It gives no answer
+/// where it has no such call.
+pub type SafeSide = fn(Call, &mut [&mut [u8]], &Numbers) -> Option<Answer>;
 
 /// The named members of an answer, in the order of the C interface.
 macro_rules! members {
@@ -40,7 +42,8 @@ macro_rules! c {
 ///
 /// # Safety
 /// Each buffer of at least one byte is readable and writable, and no two overlap.
-pub unsafe fn library(call: Call, lent: &[Lent], n: u64, block: u64) -> Answer {
+pub unsafe fn library(call: Call, lent: &[Lent], told: &Numbers) -> Answer {
+    let Numbers { n, block, at, position } = *told;
     match (call, lent) {
         (Call::Format, &[patch, full]) => members!(c!(thx_format: patch full;;), number),
         (Call::Compare, &[base, page, payload]) => {
@@ -48,59 +51,77 @@ pub unsafe fn library(call: Call, lent: &[Lent], n: u64, block: u64) -> Answer {
             members!(a, number, kind, length, entries, last)
         }
         (Call::Apply, &[base, payload, page]) => {
-            members!(c!(thx_apply: base payload page;;), number, entries, last)
+            members!(c!(thx_apply: base payload page;;), number, entries, last, offset)
         }
         (Call::Judge, &[slot]) => members!(c!(thx_judge: slot;;), number, kind, length),
         (Call::Show, &[patch]) => members!(c!(thx_show: patch; block;), at, len),
         (Call::Read, &[patch, full, base, page]) => {
-            members!(c!(thx_read: patch full; block; base page), number, kind)
+            members!(c!(thx_read: patch full; block; base page), number, kind, offset)
         }
         (Call::Write, &[patch, full, base, page]) => {
             members!(c!(thx_write: patch full; block; base page), number, kind, length)
         }
         (Call::Build, &[patch, full, map]) => {
-            members!(c!(thx_build: patch full map;;), number, block)
+            members!(c!(thx_build: patch full map;;), number, block, offset)
         }
         (Call::LookUp, &[map]) => members!(c!(thx_look_up: map; n block;), number, pair),
         (Call::Tally, &[map]) => members!(c!(thx_tally: map; n;), number, patch, full),
+        (Call::Next, &[payload]) => {
+            members!(c!(thx_next: payload; at position;), number, found, at, position, value)
+        }
         _ => unreachable!("buffers of {}", call.name()),
     }
 }
 
 /// Makes the call on the independent implementation.
-pub fn independent(call: Call, buffers: &mut [&mut [u8]], n: u64, block: u64) -> Answer {
-    match (call, buffers) {
+pub fn independent(call: Call, buffers: &mut [&mut [u8]], told: &Numbers) -> Option<Answer> {
+    let Numbers { n, block, at, position } = *told;
+    Some(match (call, buffers) {
         (Call::Format, [patch, full]) => members!(independent::format(patch, full), number),
         (Call::Compare, [base, page, payload]) => {
             let a = independent::compare(base, page, payload);
             members!(a, number, kind, length, entries, last)
         }
         (Call::Apply, [base, payload, page]) => {
-            members!(independent::apply(base, payload, page), number, entries, last)
+            members!(independent::apply(base, payload, page), number, entries, last, offset)
         }
         (Call::Judge, [slot]) => members!(independent::judge(slot), number, kind, length),
         (Call::Show, [patch]) => members!(independent::show(patch, block), at, len),
         (Call::Read, [patch, full, base, page]) => {
-            members!(independent::read(patch, full, block, base, page), number, kind)
+            members!(independent::read(patch, full, block, base, page), number, kind, offset)
         }
         (Call::Write, [patch, full, base, page]) => {
             members!(independent::write(patch, full, block, base, page), number, kind, length)
         }
         (Call::Build, [patch, full, map]) => {
-            members!(independent::build(patch, full, map), number, block)
+            members!(independent::build(patch, full, map), number, block, offset)
         }
         (Call::LookUp, [map]) => members!(independent::look_up(map, n, block), number, pair),
         (Call::Tally, [map]) => members!(independent::tally(map, n), number, patch, full),
+        (Call::Next, [payload]) => {
+            let a = independent::next(payload, at, position);
+            members!(a, number, found, at, position, value)
+        }
         _ => unreachable!("buffers of {}", call.name()),
-    }
+    })
 }
 
 fn answer<const N: usize>(members: [i128; N]) -> Answer {
     Answer::of(&members)
 }
 
-fn refused(refusal: thonxiliko::Refusal) -> Answer {
+fn refused(refusal: Refusal) -> Answer {
     answer([refusal.number().into()])
+}
+
+/// The wrapper says "no offset" by `None`, C says it by 0. An offset that must not be there, or a missing
+/// one, is none that C gives.
+fn offset(refusal: Refusal, offset: Option<usize>) -> i128 {
+    match (refusal, offset) {
+        (Refusal::Payload, Some(offset)) => offset as i128,
+        (Refusal::Payload, None) | (_, Some(_)) => -1,
+        (_, None) => 0,
+    }
 }
 
 /// The wrapper says "no last position" by `None`, C says it by -1.
@@ -108,8 +129,30 @@ fn signed(last: Option<usize>) -> i128 {
     last.map_or(-1, |last| last as i128)
 }
 
+/// One step of the wrapper's reader from this place and position, if it comes to them: it always begins
+/// at the payload's beginning.
+fn step(payload: &[u8], stands: (u64, i32)) -> Option<Answer> {
+    let mut entries = thonxiliko::entries(payload);
+    let (mut at, mut position) = BEGINNING;
+    while (at, position) != stands {
+        let entry = entries.next()?;
+        (at, position) = (entries.offset() as u64, entry.position as i32);
+    }
+    let entry = entries.next();
+    let at = entries.offset() as i128;
+    Some(match (entry, entries.ending()) {
+        (Some(entry), None) => answer([0, 1, at, entry.position as i128, entry.value.into()]),
+        (None, Some(Ending::End)) => answer([0, 0, at, position.into(), 0]),
+        (None, Some(Ending::Stopped { offset })) => {
+            answer([7, 0, offset as i128, position.into(), 0])
+        }
+        (entry, ending) => panic!("a reader gives {entry:?} and says {ending:?}"),
+    })
+}
+
 /// Makes the call through the safe wrapper.
-pub fn wrapper(call: Call, buffers: &mut [&mut [u8]], n: u64, block: u64) -> Answer {
+pub fn wrapper(call: Call, buffers: &mut [&mut [u8]], told: &Numbers) -> Option<Answer> {
+    let Numbers { n, block, at, position } = *told;
     let result = match (call, buffers) {
         (Call::Format, [patch, full]) => thonxiliko::format(patch, full).map(|()| answer([0])),
         (Call::Compare, [base, page, payload]) => {
@@ -118,8 +161,12 @@ pub fn wrapper(call: Call, buffers: &mut [&mut [u8]], n: u64, block: u64) -> Ans
                 answer([0, kind, a.length as i128, a.entries as i128, signed(a.last)])
             })
         }
-        (Call::Apply, [base, payload, page]) => thonxiliko::apply(base, payload, page)
-            .map(|a| answer([0, a.entries as i128, a.last as i128])),
+        (Call::Apply, [base, payload, page]) => Ok(match thonxiliko::apply(base, payload, page) {
+            Ok(a) => answer([0, a.entries as i128, a.last as i128]),
+            Err(PayloadRefusal { refusal, offset: at, .. }) => {
+                answer([refusal.number().into(), 0, 0, offset(refusal, at)])
+            }
+        }),
         (Call::Judge, [slot]) => {
             thonxiliko::judge(slot).map(|a| answer([0, a.kind.number().into(), a.length as i128]))
         }
@@ -130,15 +177,24 @@ pub fn wrapper(call: Call, buffers: &mut [&mut [u8]], n: u64, block: u64) -> Ans
             }
             None => answer([0, 0]),
         }),
-        (Call::Read, [patch, full, base, page]) => thonxiliko::read(patch, full, block, base, page)
-            .map(|kind| answer([0, kind.number().into()])),
+        (Call::Read, [patch, full, base, page]) => {
+            Ok(match thonxiliko::read(patch, full, block, base, page) {
+                Ok(kind) => answer([0, kind.number().into()]),
+                Err(PayloadRefusal { refusal, offset: at, .. }) => {
+                    answer([refusal.number().into(), 0, offset(refusal, at)])
+                }
+            })
+        }
         (Call::Write, [patch, full, base, page]) => {
             thonxiliko::write(patch, full, block, base, page)
                 .map(|a| answer([0, a.kind.number().into(), a.length as i128]))
         }
         (Call::Build, [patch, full, map]) => Ok(match thonxiliko::build(patch, full, map) {
-            Ok(()) => answer([0, 0]),
-            Err(fault) => answer([fault.refusal.number().into(), fault.block.unwrap_or(0).into()]),
+            Ok(()) => answer([0]),
+            Err(BuildRefusal { refusal, block, offset: at, .. }) => {
+                let block = block.unwrap_or(0).into();
+                answer([refusal.number().into(), block, offset(refusal, at)])
+            }
         }),
         (Call::LookUp, [map]) => {
             thonxiliko::look_up(map, n, block).map(|pair| answer([0, pair.number().into()]))
@@ -146,7 +202,8 @@ pub fn wrapper(call: Call, buffers: &mut [&mut [u8]], n: u64, block: u64) -> Ans
         (Call::Tally, [map]) => {
             thonxiliko::tally(map, n).map(|a| answer([0, a.patch.into(), a.full.into()]))
         }
+        (Call::Next, [payload]) => return step(payload, (at, position)),
         _ => unreachable!("buffers of {}", call.name()),
     };
-    result.unwrap_or_else(refused)
+    Some(result.unwrap_or_else(refused))
 }

@@ -1,7 +1,7 @@
 //! Every length from 0 to 1,024 for each buffer of each call, and numbers near 2^64.
 
-use crate::call::{Call, Input, PAGE, PATCH_HEADER, PAYLOAD, SLOT};
-use crate::generate::{Areas, STRANGE_NUMBERS};
+use crate::call::{Call, Input, BEGINNING, PAGE, PATCH_HEADER, PAYLOAD, SLOT};
+use crate::generate::{Areas, POSITIONS, STRANGE_NUMBERS};
 use crate::harness::{Harness, Mismatch};
 use crate::rng::Rng;
 
@@ -34,6 +34,7 @@ fn accepted(call: Call) -> Input {
         Call::Build => Input::new(call, vec![patch, full, vec![0xEE; 1]]),
         Call::LookUp => Input::new(call, vec![vec![0b0110]]).told(2).at_block(1),
         Call::Tally => Input::new(call, vec![vec![0b0110]]).told(2),
+        Call::Next => Input::step(&[100, 4], BEGINNING),
     }
 }
 
@@ -60,6 +61,7 @@ pub fn starting_points(harness: &mut Harness) -> Result<(), Mismatch> {
         let outcome = harness.check(&input)?;
         let accepted = match input.call {
             Call::Show => outcome.answer.0[1] > 0,
+            Call::Next => outcome.answer.0[1] == 1,
             _ => outcome.answer.number() == 0,
         };
         assert!(accepted, "the sweep starts from an accepted {input}");
@@ -110,8 +112,31 @@ pub fn nothing_at_all(harness: &mut Harness) -> Result<(), Mismatch> {
         for number in STRANGE_NUMBERS.iter().copied().chain(0..4) {
             // Four turns: both ends, NULL and not.
             for _ in 0..4 {
-                harness.check(&Input::new(call, empty.clone()).told(number).at_block(number))?;
+                let mut input = Input::new(call, empty.clone()).told(number).at_block(number);
+                input.numbers.at = number;
+                harness.check(&input)?;
             }
+        }
+    }
+    Ok(())
+}
+
+/// Each length of a payload of short entries, read from each of its places near an edge, and from
+/// positions of every sort.
+pub fn places(harness: &mut Harness) -> Result<(), Mismatch> {
+    let payload = [1, 9].repeat(LONGEST / 2);
+    for length in 0..=LONGEST {
+        let near_the_end = (length.saturating_sub(3)..length + 3).map(|at| at as u64);
+        for at in (0..3).chain(near_the_end).chain([u64::MAX]) {
+            for position in [BEGINNING.1, 8_190, PAGE as i32] {
+                harness.check(&Input::step(&payload[..length], (at, position)))?;
+            }
+        }
+    }
+    for at in STRANGE_NUMBERS.iter().copied().chain(0..8) {
+        for position in POSITIONS {
+            harness.check(&Input::step(&payload[..6], (at, position)))?;
+            harness.check(&Input::step(&[255, 255, 31, 1, 255], (at, position)))?;
         }
     }
     Ok(())

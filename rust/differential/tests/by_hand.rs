@@ -4,14 +4,15 @@ use differential::call::{Input, Outcome};
 use differential::cases;
 use differential::harness::{independent_outcome, wrapper_outcome, Harness};
 
-/// Runs all cases and names every one that comes out otherwise.
-fn hold(mut side: impl FnMut(&Input) -> Result<Outcome, String>) {
+/// Runs all cases that the side has and names every one that comes out otherwise.
+fn hold(mut side: impl FnMut(&Input) -> Option<Result<Outcome, String>>) {
     let mut wrong = Vec::new();
     let cases = cases::all();
     for case in &cases {
         let found = match side(&case.input) {
-            Ok(outcome) => outcome.difference(&case.expected, case.input.call),
-            Err(harm) => Some(harm),
+            Some(Ok(outcome)) => outcome.difference(&case.expected, case.input.call),
+            Some(Err(harm)) => Some(harm),
+            None => None,
         };
         if let Some(found) = found {
             wrong.push(format!("{}: {found}", case.name));
@@ -22,7 +23,7 @@ fn hold(mut side: impl FnMut(&Input) -> Result<Outcome, String>) {
 
 #[test]
 fn the_independent_implementation() {
-    hold(|input| Ok(independent_outcome(input)));
+    hold(|input| Some(Ok(independent_outcome(input))));
 }
 
 #[test]
@@ -30,13 +31,13 @@ fn the_c_interface() {
     let mut harness = Harness::new();
     for manner in 0..4 {
         harness.start_case(manner);
-        hold(|input| harness.library_outcome(input));
+        hold(|input| Some(harness.library_outcome(input)));
     }
 }
 
 #[test]
 fn the_rust_wrapper() {
-    hold(|input| Ok(wrapper_outcome(input)));
+    hold(|input| wrapper_outcome(input).map(Ok));
 }
 
 #[test]

@@ -6,9 +6,9 @@ use differential::call::{
 };
 use differential::generate;
 use differential::harness::{independent_outcome, Counts, Harness, Mismatch, Side};
-use differential::orders;
 use differential::rng::Rng;
 use differential::runs::{self, Pairs};
+use differential::{orders, payloads};
 
 const SEED: u64 = 1;
 const MOST_CASES: u64 = 60_000;
@@ -105,16 +105,17 @@ fn flags_as_one_bit(input: &Input) -> Outcome {
 
 fn blocks_that_wrap(input: &Input) -> Outcome {
     let mut wrapped = input.clone();
-    wrapped.block = input.block.wrapping_mul(512) / 512;
+    wrapped.numbers.block = input.numbers.block.wrapping_mul(512) / 512;
     independent_outcome(&wrapped)
 }
 
 fn unused_pairs_ignored(input: &Input) -> Outcome {
     altered(input, Call::Tally, |outcome| {
         let mut cleared = input.clone();
-        if input.n % 4 != 0 {
-            if let Some(byte) = cleared.buffers[0].get_mut((input.n / 4) as usize) {
-                *byte &= (1 << (2 * (input.n % 4))) - 1;
+        let n = input.numbers.n;
+        if n % 4 != 0 {
+            if let Some(byte) = cleared.buffers[0].get_mut((n / 4) as usize) {
+                *byte &= (1 << (2 * (n % 4))) - 1;
             }
         }
         outcome.answer = independent_outcome(&cleared).answer;
@@ -141,7 +142,7 @@ fn compares_with_the_current_page(input: &Input) -> Outcome {
     altered_write(input, |outcome| {
         let [patch, full, base] = [&input.buffers[0], &input.buffers[1], &input.buffers[2]];
         let mut current = vec![0; PAGE];
-        if independent::read(patch, full, input.block, base, &mut current).number == 0 {
+        if independent::read(patch, full, input.numbers.block, base, &mut current).number == 0 {
             let mut changed = input.clone();
             changed.buffers[2] = current;
             *outcome = independent_outcome(&changed);
@@ -152,7 +153,7 @@ fn compares_with_the_current_page(input: &Input) -> Outcome {
 
 fn clears_only_after_full_ref(input: &Input) -> Outcome {
     altered_write(input, |outcome| {
-        let was_full = input.buffers[0][slot_range(input.block)][0] == 2;
+        let was_full = input.buffers[0][slot_range(input.numbers.block)][0] == 2;
         if outcome.answer.0[1] != 2 && !was_full {
             outcome.buffers[1] = input.buffers[1].clone();
         }
@@ -162,7 +163,7 @@ fn clears_only_after_full_ref(input: &Input) -> Outcome {
 fn leaves_the_tail(input: &Input) -> Outcome {
     altered_write(input, |outcome| {
         if outcome.answer.0[1] == 1 {
-            let range = slot_range(input.block);
+            let range = slot_range(input.numbers.block);
             let tail = range.start + 8 + outcome.answer.0[2] as usize..range.end;
             outcome.buffers[0][tail.clone()].copy_from_slice(&input.buffers[0][tail]);
         }
@@ -171,7 +172,7 @@ fn leaves_the_tail(input: &Input) -> Outcome {
 
 fn stores_block_0_only(input: &Input) -> Outcome {
     altered_write(input, |outcome| {
-        if input.block > 0 {
+        if input.numbers.block > 0 {
             outcome.buffers = input.buffers.clone();
         }
     })
@@ -189,28 +190,29 @@ fn always_reads_the_base(input: &Input) -> Outcome {
     })
 }
 
-/// The entries of a payload, with their positions, up to the first that is not sound, and whether
-/// there is none such. `first` is where the position starts.
-fn decoded(payload: &[u8], first: i32) -> (Vec<(usize, u8)>, bool) {
+/// The entries of a payload, with their positions, up to the first that is not sound, and the offset of
+/// that one if there is one. `first` is where the position starts.
+fn decoded(payload: &[u8], first: i32) -> (Vec<(usize, u8)>, Option<usize>) {
     let mut entries = Vec::new();
     let mut position = first;
     let mut rest = payload;
     while !rest.is_empty() {
+        let offset = payload.len() - rest.len();
         let (jump, value, after) = match rest {
             [255, low, high, value, after @ ..] => {
                 (u16::from_le_bytes([*low, *high]), value, after)
             }
             [jump @ 0..=254, value, after @ ..] => (u16::from(*jump), value, after),
-            _ => return (entries, false),
+            _ => return (entries, Some(offset)),
         };
         position += i32::from(jump) + 1;
         match usize::try_from(position) {
             Ok(place) if place < PAGE => entries.push((place, *value)),
-            _ => return (entries, false),
+            _ => return (entries, Some(offset)),
         }
         rest = after;
     }
-    (entries, true)
+    (entries, None)
 }
 
 /// Apply once more, with two places for a fault: where the position starts, and whether the page is
@@ -222,16 +224,18 @@ fn own_apply(input: &Input, first: i32, while_checking: bool) -> Outcome {
         if outcome.answer.number() == 1 || !length_sound {
             return;
         }
-        let (entries, sound) = decoded(payload, first);
-        *outcome = Outcome { answer: Answer::of(&[7]), buffers: input.buffers.clone() };
-        if sound || while_checking {
+        let (entries, breaks_at) = decoded(payload, first);
+        outcome.buffers = input.buffers.clone();
+        if breaks_at.is_none() || while_checking {
             let mut page = generate::page_of_base(base);
             entries.iter().for_each(|(place, value)| page[*place] = *value);
             outcome.buffers[2] = page;
         }
-        if let (true, Some((last, _))) = (sound, entries.last()) {
-            outcome.answer = Answer::of(&[0, entries.len() as i128, *last as i128]);
-        }
+        let last = entries.last().map_or(-1, |(place, _)| *place as i128);
+        outcome.answer = match breaks_at {
+            Some(offset) => Answer::of(&[7, 0, 0, offset as i128]),
+            None => Answer::of(&[0, entries.len() as i128, last]),
+        };
     })
 }
 
@@ -259,6 +263,161 @@ fn looks_for_stray_pages_first(input: &Input) -> Outcome {
             if let Some(block) = stray {
                 outcome.answer = Answer::of(&[10, block as i128]);
             }
+        }
+    })
+}
+
+// Offsets that are not those of the first unsound entry.
+
+/// Alters the offset that is given with 7.
+fn altered_offset(input: &Input, alter: impl FnOnce(&mut i128)) -> Outcome {
+    let mut outcome = independent_outcome(input);
+    if let (7, Some(member)) = (outcome.answer.number(), input.call.offset_member()) {
+        alter(&mut outcome.answer.0[member]);
+    }
+    outcome
+}
+
+fn no_offset(input: &Input) -> Outcome {
+    altered_offset(input, |offset| *offset = 0)
+}
+
+/// Where the entry after the unsound one would start, or the payload ends.
+fn offset_of_the_entry_after(input: &Input) -> Outcome {
+    altered(input, Call::Apply, |outcome| {
+        let payload = &input.buffers[1];
+        if outcome.answer.number() == 7 && (1..=PAYLOAD).contains(&payload.len()) {
+            let at = outcome.answer.0[3] as usize;
+            let length = if payload[at] == 255 { 4 } else { 2 };
+            outcome.answer.0[3] = (at + length).min(payload.len()) as i128;
+        }
+    })
+}
+
+fn offset_of_the_entry_before(input: &Input) -> Outcome {
+    altered_offset(input, |offset| *offset = (*offset - 2).max(0))
+}
+
+/// The payload begins 8 bytes into its slot.
+fn offset_from_the_slot(input: &Input) -> Outcome {
+    let in_a_slot = matches!(input.call, Call::Read | Call::Build);
+    altered_offset(input, |offset| *offset += if in_a_slot { 8 } else { 0 })
+}
+
+fn offset_from_the_area(input: &Input) -> Outcome {
+    altered(input, Call::Build, |outcome| {
+        if outcome.answer.number() == 7 {
+            outcome.answer.0[2] += slot_range(outcome.answer.0[1] as u64).start as i128 + 8;
+        }
+    })
+}
+
+/// Overlong payloads are looked into.
+fn offset_in_an_overlong_payload(input: &Input) -> Outcome {
+    altered(input, Call::Apply, |outcome| {
+        if outcome.answer.number() == 7 && input.buffers[1].len() > PAYLOAD {
+            outcome.answer.0[3] = decoded(&input.buffers[1], -1).1.unwrap_or(PAYLOAD) as i128;
+        }
+    })
+}
+
+/// An Apply that looks at its payload before it looks at its pages, and keeps the offset.
+fn offset_beside_a_wrong_page(input: &Input) -> Outcome {
+    altered(input, Call::Apply, |outcome| {
+        let payload = &input.buffers[1];
+        if outcome.answer.number() == 1 && (1..=PAYLOAD).contains(&payload.len()) {
+            outcome.answer.0[3] = decoded(payload, -1).1.unwrap_or(0) as i128;
+        }
+    })
+}
+
+/// A sound payload that says where it ends.
+fn offset_of_the_end(input: &Input) -> Outcome {
+    altered(input, Call::Apply, |outcome| {
+        if outcome.answer.number() == 0 {
+            outcome.answer.0[3] = input.buffers[1].len() as i128;
+        }
+    })
+}
+
+// Readers that are wrong.
+
+/// Alters a step of a reader.
+fn altered_step(input: &Input, alter: impl FnOnce(&mut [i128; 5])) -> Outcome {
+    altered(input, Call::Next, |outcome| alter(&mut outcome.answer.0))
+}
+
+fn step_from(payload: &[u8], at: i128, position: i128) -> [i128; 5] {
+    independent_outcome(&Input::step(payload, (at as u64, position as i32))).answer.0
+}
+
+/// Where there is a second one.
+fn reader_skips_its_first_entry(input: &Input) -> Outcome {
+    altered_step(input, |step| {
+        if input.numbers.at == 0 && step[1] == 1 {
+            let second = step_from(&input.buffers[0], step[2], step[3]);
+            if second[1] == 1 {
+                *step = second;
+            }
+        }
+    })
+}
+
+/// Past a stop it tries the next byte.
+fn reader_goes_on_after_a_stop(input: &Input) -> Outcome {
+    altered_step(input, |step| {
+        let payload = &input.buffers[0];
+        if step[0] == 7 && (1..=PAYLOAD).contains(&payload.len()) {
+            let further = step_from(payload, step[2] + 1, step[3]);
+            if further[1] == 1 {
+                *step = further;
+            }
+        }
+    })
+}
+
+fn reader_moves_at_a_stop(input: &Input) -> Outcome {
+    altered_step(input, |step| {
+        if step[0] == 7 {
+            step[2] = input.buffers[0].len() as i128;
+        }
+    })
+}
+
+/// The first 504 bytes of an overlong payload are read.
+fn reader_of_overlong_payloads(input: &Input) -> Outcome {
+    altered_step(input, |step| {
+        let payload = &input.buffers[0];
+        let kept = &payload[..payload.len().min(PAYLOAD)];
+        *step = step_from(kept, input.numbers.at.into(), input.numbers.position.into());
+    })
+}
+
+fn reader_takes_a_stop_for_the_end(input: &Input) -> Outcome {
+    altered_step(input, |step| step[0] = 0)
+}
+
+fn reader_takes_any_position(input: &Input) -> Outcome {
+    altered_step(input, |step| {
+        let position = input.numbers.position.max(-1);
+        *step = step_from(&input.buffers[0], input.numbers.at.into(), position.into());
+    })
+}
+
+fn reader_forgets_its_position_at_the_end(input: &Input) -> Outcome {
+    altered_step(input, |step| {
+        if step[..2] == [0, 0] {
+            step[3] = 0;
+        }
+    })
+}
+
+fn place_cut_to_32_bits(input: &Input) -> Outcome {
+    altered_step(input, |step| {
+        let cut = input.numbers.at as u32;
+        *step = step_from(&input.buffers[0], cut.into(), input.numbers.position.into());
+        if step[1] == 0 {
+            step[2] = input.numbers.at.into();
         }
     })
 }
@@ -312,6 +471,104 @@ fn shortcuts_are_found() {
     must_find("always reading the base", always_reads_the_base);
 }
 
+const WRONG_OFFSETS: [(&str, Side); 8] = [
+    ("no offset", no_offset),
+    ("the offset of the entry after", offset_of_the_entry_after),
+    ("the offset of the entry before", offset_of_the_entry_before),
+    ("an offset counted from the slot", offset_from_the_slot),
+    ("an offset counted from the area", offset_from_the_area),
+    ("an offset in an overlong payload", offset_in_an_overlong_payload),
+    ("an offset beside a wrong page", offset_beside_a_wrong_page),
+    ("an offset of a sound payload", offset_of_the_end),
+];
+
+const WRONG_READERS: [(&str, Side); 8] = [
+    ("a reader that skips its first entry", reader_skips_its_first_entry),
+    ("a reader that goes on after a stop", reader_goes_on_after_a_stop),
+    ("a reader that moves at a stop", reader_moves_at_a_stop),
+    ("a reader of overlong payloads", reader_of_overlong_payloads),
+    ("a reader that takes a stop for the end", reader_takes_a_stop_for_the_end),
+    ("a reader that takes any position", reader_takes_any_position),
+    ("a reader that forgets its position", reader_forgets_its_position_at_the_end),
+    ("a place cut to 32 bits", place_cut_to_32_bits),
+];
+
+#[test]
+fn wrong_offsets_are_found() {
+    WRONG_OFFSETS.iter().for_each(|(name, wrong)| must_find(name, *wrong));
+}
+
+#[test]
+fn wrong_readers_are_found() {
+    WRONG_READERS.iter().for_each(|(name, wrong)| must_find(name, *wrong));
+}
+
+/// Short and longer payloads with a program in the place of both sides, or of one. The side that
+/// notices.
+fn payloads_notice(wrong: Side, on_both_sides: bool) -> Option<&'static str> {
+    let mut harness = Harness::new();
+    harness.expected = wrong;
+    if on_both_sides {
+        harness.in_place_of_library = Some(wrong);
+    }
+    let mut longer = (0..100).map(|case| Rng::for_case(SEED, "readers", case));
+    let found = payloads::every_short_one(&mut harness).err().or_else(|| {
+        longer.find_map(|mut rng| payloads::a_longer_one(&mut harness, &mut rng).err())
+    });
+    found.map(|mismatch| mismatch.side)
+}
+
+#[test]
+fn the_right_program_passes_every_payload() {
+    assert_eq!(payloads_notice(independent_outcome, false), None);
+    assert_eq!(payloads_notice(independent_outcome, true), None);
+}
+
+/// What short and longer payloads find, when only one side is wrong.
+#[test]
+fn payloads_find_wrong_offsets_and_readers() {
+    for (name, wrong) in [
+        ("the offset of the entry after", offset_of_the_entry_after as Side),
+        ("an offset counted from the slot", offset_from_the_slot),
+        ("an offset in an overlong payload", offset_in_an_overlong_payload),
+        ("a reader that skips its first entry", reader_skips_its_first_entry),
+        ("a reader that goes on after a stop", reader_goes_on_after_a_stop),
+        ("a reader of overlong payloads", reader_of_overlong_payloads),
+    ] {
+        assert!(payloads_notice(wrong, false).is_some(), "{name} was not noticed");
+    }
+}
+
+/// The same wrong program on both sides: only the demand on readers or a rule for all answers can
+/// notice.
+#[test]
+fn the_demand_on_readers_notices_wrong_programs() {
+    for (name, wrong, side) in [
+        ("no offset", no_offset as Side, "demand on readers"),
+        ("the offset of the entry after", offset_of_the_entry_after, "demand on readers"),
+        ("an offset counted from the slot", offset_from_the_slot, "demand on readers"),
+        ("an offset in an overlong payload", offset_in_an_overlong_payload, "demand on readers"),
+        ("an offset of a sound payload", offset_of_the_end, "rule of answers"),
+        ("a reader that skips its first entry", reader_skips_its_first_entry, "demand on readers"),
+        ("a reader that goes on after a stop", reader_goes_on_after_a_stop, "demand on readers"),
+        ("a reader that moves at a stop", reader_moves_at_a_stop, "rule of answers"),
+        ("a reader of overlong payloads", reader_of_overlong_payloads, "demand on readers"),
+    ] {
+        assert_eq!(payloads_notice(wrong, true), Some(side), "{name}");
+    }
+}
+
+/// An offset beside another refusal, on both sides: only the rule of answers can notice.
+#[test]
+fn an_offset_beside_another_refusal_is_noticed() {
+    let mut harness = Harness::new();
+    harness.expected = offset_beside_a_wrong_page;
+    harness.in_place_of_library = Some(offset_beside_a_wrong_page);
+    let input = Input::new(Call::Apply, vec![vec![1], vec![0, 7, 0], vec![0xEE; PAGE]]);
+    let mismatch = harness.check(&input).expect_err("noticed");
+    assert_eq!(mismatch.side, "rule of answers");
+}
+
 /// Runs whose both sides are the same wrong program: only the demand itself can notice.
 fn run_notices(wrong: Side) -> bool {
     let mut harness = Harness::new();
@@ -329,7 +586,7 @@ fn run_notices(wrong: Side) -> bool {
     })
 }
 
-/// A program on both sides that changes a byte and refuses: only the rule of refusals can notice.
+/// A program on both sides that changes a byte and refuses: only the rule of answers can notice.
 #[test]
 fn a_refusal_that_changes_a_byte_is_noticed() {
     let mut harness = Harness::new();
@@ -338,7 +595,7 @@ fn a_refusal_that_changes_a_byte_is_noticed() {
     let payload = vec![0, 1, 0];
     let input = Input::new(Call::Apply, vec![Vec::new(), payload, vec![0xEE; PAGE]]);
     let mismatch = harness.check(&input).expect_err("noticed");
-    assert_eq!(mismatch.side, "rule of refusals");
+    assert_eq!(mismatch.side, "rule of answers");
 }
 
 /// Another order of refusals on both sides: only the list of faults can notice.
@@ -352,12 +609,22 @@ fn another_order_of_refusals_is_noticed() {
         }
         outcome
     }
+    /// The end before the payload's length.
+    fn end_first(input: &Input) -> Outcome {
+        altered_step(input, |step| {
+            if input.numbers.at >= input.buffers[0].len() as u64 {
+                step[0] = 0;
+            }
+        })
+    }
     let mut harness = Harness::new();
     assert!(orders::check(&mut harness).is_ok());
-    harness.expected = version_first;
-    harness.in_place_of_library = Some(version_first);
-    let mismatch = orders::check(&mut harness).expect_err("noticed");
-    assert_eq!(mismatch.side, "order of refusals");
+    for wrong in [version_first as Side, end_first] {
+        harness.expected = wrong;
+        harness.in_place_of_library = Some(wrong);
+        let mismatch = orders::check(&mut harness).expect_err("noticed");
+        assert_eq!(mismatch.side, "order of refusals");
+    }
 }
 
 #[test]

@@ -97,7 +97,7 @@ impl<'b> Ground<'b> {
     fn given(&self, damaged: &Store, block: usize) -> Given {
         let mut page = [0; PAGE_SIZE];
         match damaged.read(block, &mut page) {
-            Err(refusal) => Given::Refused(refusal.number()),
+            Err(fault) => Given::Refused(fault.refusal.number()),
             Ok(kind) => Given::Page {
                 kind,
                 page: self.what_is(&page, block, &damaged.bases[block]),

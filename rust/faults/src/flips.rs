@@ -1,10 +1,15 @@
 //! Every bit of both areas turned over, one at a time.
 
-use thonxiliko::{Kind, Refusal, FULL_HEADER_SIZE, PAGE_SIZE, PATCH_HEADER_SIZE, SLOT_SIZE};
+use thonxiliko::{
+    entries, show, Ending, Kind, Refusal, FULL_HEADER_SIZE, PAGE_SIZE, PATCH_HEADER_SIZE, SLOT_SIZE,
+};
 
 use crate::checksum;
 use crate::shipped::Block;
 use crate::store::Store;
+
+/// What stands before a payload in its slot.
+const SLOT_HEAD: usize = 8;
 
 /// Where a bit lies.
 #[derive(Clone, Copy, Debug, PartialEq, Eq)]
@@ -43,7 +48,7 @@ impl Part {
 }
 
 /// How many bits of a part came to what. Each bit is counted in `bits` and in one other number, but for
-/// `taken`, which is a share of `other_page`.
+/// `named` and `taken`, which are shares of `payload` and `other_page`.
 #[derive(Clone, Copy, Debug, Default, PartialEq, Eq)]
 pub struct Counts {
     pub bits: u64,
@@ -52,6 +57,8 @@ pub struct Counts {
     pub version: u64,
     pub slot: u64,
     pub payload: u64,
+    /// Of `payload`: the flipped bit lies in the entry that the offset names.
+    pub named: u64,
     pub no_full_page: u64,
     /// Refused by Build with 10; Read gives the page that was written.
     pub stray_right: u64,
@@ -72,6 +79,7 @@ impl Counts {
         self.version += other.version;
         self.slot += other.slot;
         self.payload += other.payload;
+        self.named += other.named;
         self.no_full_page += other.no_full_page;
         self.stray_right += other.stray_right;
         self.stray_wrong += other.stray_wrong;
@@ -91,6 +99,7 @@ impl Counts {
     /// Every bit came to one thing.
     pub fn add_up(&self) -> bool {
         self.bits == self.refused_by_build() + self.other_page + self.same_page
+            && self.named <= self.payload
             && self.taken <= self.other_page
     }
 }
@@ -106,7 +115,10 @@ pub fn count(store: &Store, blocks: &[Block]) -> Table {
         let (part, block) = in_patch_area(store, at);
         for bit in 0..8 {
             damaged.patch[at] ^= 1 << bit;
-            ask(&damaged, blocks, block, &mut table[part as usize]);
+            let counts = &mut table[part as usize];
+            if let Some(offset) = ask(&damaged, blocks, block, counts) {
+                counts.named += u64::from(names(&damaged, block, offset, at));
+            }
             damaged.patch[at] ^= 1 << bit;
         }
     }
@@ -124,7 +136,6 @@ pub fn count(store: &Store, blocks: &[Block]) -> Table {
 /// The part that a byte belongs to, and the block that is read. A header belongs to every block; block 0
 /// is read for it.
 fn in_patch_area(store: &Store, at: usize) -> (Part, usize) {
-    const HEAD: usize = 8;
     if at < PATCH_HEADER_SIZE {
         return (Part::PatchHeader, 0);
     }
@@ -133,8 +144,8 @@ fn in_patch_area(store: &Store, at: usize) -> (Part, usize) {
     let part = match kind {
         Kind::Empty => Part::EmptySlot,
         Kind::Full => Part::FullSlot,
-        Kind::Patch if inside < HEAD => Part::PatchHead,
-        Kind::Patch if inside < HEAD + length => Part::Payload,
+        Kind::Patch if inside < SLOT_HEAD => Part::PatchHead,
+        Kind::Patch if inside < SLOT_HEAD + length => Part::Payload,
         Kind::Patch => Part::PatchTail,
     };
     (part, block)
@@ -149,9 +160,9 @@ fn in_full_area(store: &Store, at: usize) -> (Part, usize) {
     (if kind == Kind::Full { Part::FullPage } else { Part::ZeroPlace }, block)
 }
 
-/// Asks Build and Read, and counts what they answer. Where both refuse they must agree, and Build must
-/// name the block; only 10 is Build's alone.
-fn ask(damaged: &Store, blocks: &[Block], block: usize, counts: &mut Counts) {
+/// Asks Build and Read, and counts what they answer. Where both refuse they must agree, in the payload's
+/// offset too, and Build must name the block; only 10 is Build's alone. The offset, if there is one.
+fn ask(damaged: &Store, blocks: &[Block], block: usize, counts: &mut Counts) -> Option<usize> {
     let mut page = [0; PAGE_SIZE];
     let built = damaged.build();
     let read = damaged.read(block, &mut page);
@@ -160,16 +171,40 @@ fn ask(damaged: &Store, blocks: &[Block], block: usize, counts: &mut Counts) {
     if let Some(named) = built.err().and_then(|fault| fault.block) {
         assert_eq!(named, block as u64, "Build names another block");
     }
-    match (built.map_err(|fault| fault.refusal), read) {
-        (Err(one), Err(other)) if one == other => *refused(counts, one) += 1,
-        (Err(Refusal::StrayPage), Ok(_)) if right => counts.stray_right += 1,
-        (Err(Refusal::StrayPage), Ok(_)) => counts.stray_wrong += 1,
+    let built = built.map_err(|fault| (fault.refusal, fault.offset));
+    match (built, read.map_err(|fault| (fault.refusal, fault.offset))) {
+        (Err(one), Err(other)) if one == other => {
+            let (refusal, offset) = one;
+            *refused(counts, refusal) += 1;
+            hold_reader(damaged, block, offset);
+            return offset;
+        }
+        (Err((Refusal::StrayPage, None)), Ok(_)) if right => counts.stray_right += 1,
+        (Err((Refusal::StrayPage, None)), Ok(_)) => counts.stray_wrong += 1,
         (Ok(()), Ok(_)) if right => counts.same_page += 1,
         (Ok(()), Ok(_)) => {
             counts.other_page += 1;
             counts.taken += u64::from(checksum::taken(&page, blocks[block].number));
         }
         (built, read) => panic!("block {block}: Build says {built:?} and Read {read:?}"),
+    }
+    None
+}
+
+/// Whether the entry at this offset of the block's payload takes in this byte of the patch area.
+fn names(damaged: &Store, block: usize, offset: usize, at: usize) -> bool {
+    let start = PATCH_HEADER_SIZE + SLOT_SIZE * block + SLOT_HEAD + offset;
+    let length = if damaged.patch[start] == 255 { 4 } else { 2 };
+    (start..start + length).contains(&at)
+}
+
+/// A reader of a payload that breaks stops where Build and Read say.
+fn hold_reader(damaged: &Store, block: usize, offset: Option<usize>) {
+    if let Some(offset) = offset {
+        let payload = show(&damaged.patch, block as u64).expect("the slot is sound");
+        let mut reader = entries(payload);
+        reader.by_ref().for_each(drop);
+        assert_eq!(reader.ending(), Some(Ending::Stopped { offset }), "block {block}");
     }
 }
 

@@ -4,8 +4,8 @@ use std::ops::Range;
 
 use thonxiliko::{
     build, compare, format, full_area_len, judge, map_len, patch_area_len, read, write,
-    BuildRefusal, Difference, Kind, Refusal, FULL_HEADER_SIZE, PAGE_SIZE, PATCH_HEADER_SIZE,
-    PAYLOAD_SIZE, SLOT_SIZE,
+    BuildRefusal, Difference, Kind, PayloadRefusal, Refusal, FULL_HEADER_SIZE, PAGE_SIZE,
+    PATCH_HEADER_SIZE, PAYLOAD_SIZE, SLOT_SIZE,
 };
 
 use crate::shipped::Block;
@@ -63,7 +63,7 @@ impl Store {
         (0..self.bases.len()).map(|block| self.judge(block).map(|(kind, _)| kind)).collect()
     }
 
-    pub fn read(&self, block: usize, page: &mut [u8]) -> Result<Kind, Refusal> {
+    pub fn read(&self, block: usize, page: &mut [u8]) -> Result<Kind, PayloadRefusal> {
         read(&self.patch, &self.full, block as u64, &self.bases[block], page)
     }
 

@@ -76,7 +76,8 @@ pub fn flips(table: &Table) -> String {
     format!("{head}\n|---|--:|--:|--:|--:|--:|--:|--:|--:|--:|--:|--:|\n{text}")
 }
 
-/// The patch area in one sentence, and its slots that are not EMPTY in another.
+/// The patch area, its slots that are not EMPTY and its payloads in a sentence each, and what the offset of
+/// a payload that breaks says of the damage.
 pub fn in_words(table: &Table) -> String {
     let used = [Part::PatchHead, Part::Payload, Part::PatchTail, Part::FullSlot];
     let say = |what: &str, counts: Counts| {
@@ -87,6 +88,13 @@ pub fn in_words(table: &Table) -> String {
     say("the patch area", sum(table, Part::in_patch_area))
         + &say("its slots in use", sum(table, |part| used.contains(&part)))
         + &say("its payloads", sum(table, |part| part == Part::Payload))
+        + &offsets(&table[Part::Payload as usize])
+}
+
+fn offsets(payloads: &Counts) -> String {
+    let noticed = thousands(payloads.payload);
+    let [named, before] = [payloads.named, payloads.payload - payloads.named].map(thousands);
+    format!("Of these {noticed} bits {named} lay in the entry that the offset names, {before} before it.\n")
 }
 
 fn page(page: Page) -> String {

@@ -33,7 +33,7 @@ fn first(store: &Store, kind: Kind) -> usize {
 
 fn read(store: &Store, block: usize) -> (Result<Kind, Refusal>, Vec<u8>) {
     let mut page = vec![0xAB; PAGE_SIZE];
-    (store.read(block, &mut page), page)
+    (store.read(block, &mut page).map_err(Refusal::from), page)
 }
 
 #[test]
@@ -78,6 +78,9 @@ fn every_flipped_bit_comes_to_one_thing() {
         assert_eq!(of(header).header + of(header).version, of(header).bits);
     }
     assert_eq!(of(Part::PatchTail).slot, of(Part::PatchTail).bits);
+    // An offset names the damaged entry at times, and an entry behind it at others.
+    let payloads = of(Part::Payload);
+    assert!(payloads.named > 0 && payloads.named < payloads.payload);
     assert_eq!(of(Part::FullSlot).refused_by_build(), of(Part::FullSlot).bits);
     assert_eq!(of(Part::ZeroPlace).stray_right, of(Part::ZeroPlace).bits);
 

@@ -49,6 +49,16 @@ pub struct Applied {
     pub number: u32,
     pub entries: u32,
     pub last: i32,
+    pub offset: u32,
+}
+
+#[derive(Clone, Copy, Debug, Default, PartialEq, Eq)]
+pub struct Step {
+    pub number: u32,
+    pub found: u32,
+    pub at: u64,
+    pub position: i32,
+    pub value: u32,
 }
 
 #[derive(Clone, Copy, Debug, Default, PartialEq, Eq)]
@@ -68,6 +78,7 @@ pub struct Part {
 pub struct Reading {
     pub number: u32,
     pub kind: u32,
+    pub offset: u32,
 }
 
 #[derive(Clone, Copy, Debug, Default, PartialEq, Eq)]
@@ -81,6 +92,7 @@ pub struct Written {
 pub struct Built {
     pub number: u32,
     pub block: u64,
+    pub offset: u32,
 }
 
 #[derive(Clone, Copy, Debug, Default, PartialEq, Eq)]
@@ -229,30 +241,55 @@ struct Entry {
     value: u8,
 }
 
-/// The entries of a payload, if it is sound.
-fn entries_of(payload: &[u8]) -> Option<Vec<Entry>> {
-    if payload.is_empty() || payload.len() > PAYLOAD_MAX {
-        return None;
+/// Whether a payload has a length that a sound one can have.
+fn is_payload_length(length: usize) -> bool {
+    (1..=PAYLOAD_MAX).contains(&length)
+}
+
+/// Why a payload or its block is refused, and with 7 where the payload breaks.
+struct Refused {
+    number: u32,
+    offset: u32,
+}
+
+impl From<u32> for Refused {
+    fn from(number: u32) -> Refused {
+        Refused { number, offset: 0 }
+    }
+}
+
+/// The entries of a payload. If it is not sound, 7 and the offset at which the first unsound entry
+/// starts, 0 for an empty or overlong payload.
+fn entries_of(payload: &[u8]) -> Result<Vec<Entry>, Refused> {
+    if !is_payload_length(payload.len()) {
+        return Err(Refused { number: BAD_PAYLOAD, offset: 0 });
     }
     let mut entries = Vec::new();
     let mut position: i32 = -1;
     let mut bytes = payload.iter().copied();
-    while let Some(first) = bytes.next() {
-        let jump = if first == 255 {
+    while bytes.len() > 0 {
+        let offset = (payload.len() - bytes.len()) as u32;
+        let entry = entry_from(&mut bytes, position);
+        let entry = entry.ok_or(Refused { number: BAD_PAYLOAD, offset })?;
+        position = entry.position;
+        entries.push(entry);
+    }
+    Ok(entries)
+}
+
+/// Takes one entry, if it is whole and stays in the page.
+fn entry_from(bytes: &mut impl Iterator<Item = u8>, position: i32) -> Option<Entry> {
+    let jump = match bytes.next()? {
+        255 => {
             let low = bytes.next()?;
             let high = bytes.next()?;
             i32::from(low) + 256 * i32::from(high)
-        } else {
-            i32::from(first)
-        };
-        let value = bytes.next()?;
-        position += jump + 1;
-        if position > 8191 {
-            return None;
         }
-        entries.push(Entry { position, value });
-    }
-    Some(entries)
+        short => i32::from(short),
+    };
+    let value = bytes.next()?;
+    let position = position + jump + 1;
+    (position <= 8191).then_some(Entry { position, value })
 }
 
 fn put_entries(page: &mut [u8], entries: &[Entry]) {
@@ -357,17 +394,43 @@ pub fn apply(base: &[u8], payload: &[u8], page: &mut [u8]) -> Applied {
         return Applied { number: BAD_PAGE_LENGTH, ..Applied::default() };
     }
     match entries_of(payload) {
-        None => Applied { number: BAD_PAYLOAD, ..Applied::default() },
-        Some(entries) => {
+        Err(Refused { number, offset }) => Applied { number, offset, ..Applied::default() },
+        Ok(entries) => {
             page.copy_from_slice(&base_page(base));
             put_entries(page, &entries);
             Applied {
                 number: DONE,
                 entries: entries.len() as u32,
                 last: entries.last().map_or(-1, |entry| entry.position),
+                offset: 0,
             }
         }
     }
+}
+
+/// One step of a reader that stands at a place in a payload and has come to a position. Not by the
+/// code above, so that both can be held against each other.
+pub fn next(payload: &[u8], at: u64, position: i32) -> Step {
+    let stands = |number| Step { number, found: 0, at, position, value: 0 };
+    if !is_payload_length(payload.len()) {
+        return stands(BAD_PAYLOAD);
+    }
+    if at >= payload.len() as u64 {
+        return stands(DONE);
+    }
+    if !(-1..=8191).contains(&position) {
+        return stands(BAD_PAYLOAD);
+    }
+    let (jump, value, length) = match payload[at as usize..] {
+        [255, low, high, value, ..] => (number16(&[low, high], 0) as i32, value, 4),
+        [short @ 0..=254, value, ..] => (i32::from(short), value, 2),
+        _ => return stands(BAD_PAYLOAD),
+    };
+    let reached = position + jump + 1;
+    if reached > 8191 {
+        return stands(BAD_PAYLOAD);
+    }
+    Step { number: DONE, found: 1, at: at + length, position: reached, value: u32::from(value) }
 }
 
 pub fn judge(slot: &[u8]) -> Judged {
@@ -416,18 +479,18 @@ fn fill_page(
     block: u64,
     base: &[u8],
     page: &mut [u8],
-) -> Result<u32, u32> {
+) -> Result<u32, Refused> {
     let m = judge_lent(patch, full, block, base, page)?;
     let slot = slot_of(patch, block);
     let (kind, length) = sound_slot(slot).ok_or(BAD_SLOT)?;
     match kind {
-        FULL_REF if block >= m => return Err(NO_FULL_PAGE),
+        FULL_REF if block >= m => return Err(NO_FULL_PAGE.into()),
         FULL_REF => {
             let start = place_start(block);
             page.copy_from_slice(&full[start..start + PAGE]);
         }
         PATCH => {
-            let entries = entries_of(&slot[8..8 + length]).ok_or(BAD_PAYLOAD)?;
+            let entries = entries_of(&slot[8..8 + length])?;
             page.copy_from_slice(&base_page(base));
             put_entries(page, &entries);
         }
@@ -438,8 +501,8 @@ fn fill_page(
 
 pub fn read(patch: &[u8], full: &[u8], block: u64, base: &[u8], page: &mut [u8]) -> Reading {
     match fill_page(patch, full, block, base, page) {
-        Ok(kind) => Reading { number: DONE, kind },
-        Err(number) => Reading { number, kind: 0 },
+        Ok(kind) => Reading { number: DONE, kind, offset: 0 },
+        Err(Refused { number, offset }) => Reading { number, kind: 0, offset },
     }
 }
 
@@ -477,24 +540,24 @@ pub fn write(patch: &mut [u8], full: &mut [u8], block: u64, base: &[u8], page: &
     Written { number: DONE, kind: stream.kind(), length: stream.length() }
 }
 
-/// The pair of one block in the map, or the number of its first fault.
-fn pair_of_block(patch: &[u8], full: &[u8], m: u64, block: u64) -> Result<u8, u32> {
+/// The pair of one block in the map, or its first fault.
+fn pair_of_block(patch: &[u8], full: &[u8], m: u64, block: u64) -> Result<u8, Refused> {
     let slot = slot_of(patch, block);
     let (kind, length) = sound_slot(slot).ok_or(BAD_SLOT)?;
     if kind == FULL_REF {
-        return if block < m { Ok(1) } else { Err(NO_FULL_PAGE) };
+        return if block < m { Ok(1) } else { Err(NO_FULL_PAGE.into()) };
     }
-    if kind == PATCH && entries_of(&slot[8..8 + length]).is_none() {
-        return Err(BAD_PAYLOAD);
+    if kind == PATCH {
+        entries_of(&slot[8..8 + length])?;
     }
     if block < m && !all_zero(&full[place_start(block)..place_start(block) + PAGE]) {
-        return Err(STRAY_PAGE);
+        return Err(STRAY_PAGE.into());
     }
     Ok(if kind == PATCH { 2 } else { 0 })
 }
 
 pub fn build(patch: &[u8], full: &[u8], map: &mut [u8]) -> Built {
-    let refused = |number| Built { number, block: 0 };
+    let refused = |number| Built { number, block: 0, offset: 0 };
     let (n, m) = match sizes_of(patch, full) {
         None => return refused(BAD_AREA_LENGTH),
         Some(sizes) => sizes,
@@ -508,12 +571,12 @@ pub fn build(patch: &[u8], full: &[u8], map: &mut [u8]) -> Built {
     let mut made = vec![0u8; map_length(n) as usize];
     for block in 0..n {
         match pair_of_block(patch, full, m, block) {
-            Err(number) => return Built { number, block },
+            Err(Refused { number, offset }) => return Built { number, block, offset },
             Ok(pair) => made[(block / 4) as usize] |= pair << (2 * (block % 4)),
         }
     }
     map[..made.len()].copy_from_slice(&made);
-    Built { number: DONE, block: 0 }
+    Built { number: DONE, block: 0, offset: 0 }
 }
 
 fn pair_at(map: &[u8], block: u64) -> u32 {

@@ -14,17 +14,18 @@ macro_rules! answer {
 
 answer!(thx_done { number: u32 });
 answer!(thx_compared { number: u32, kind: u32, length: u32, entries: u32, last: i32 });
-answer!(thx_applied { number: u32, entries: u32, last: i32 });
+answer!(thx_applied { number: u32, entries: u32, last: i32, offset: u32 });
 answer!(thx_judged { number: u32, kind: u32, length: u32 });
 answer!(
     /// `patch[at .. at + len]`; both 0 for an empty part.
     thx_part { at: u64, len: u64 }
 );
-answer!(thx_reading { number: u32, kind: u32 });
+answer!(thx_reading { number: u32, kind: u32, offset: u32 });
 answer!(thx_written { number: u32, kind: u32, length: u32 });
-answer!(thx_built { number: u32, block: u64 });
+answer!(thx_built { number: u32, block: u64, offset: u32 });
 answer!(thx_pair { number: u32, pair: u32 });
 answer!(thx_tallied { number: u32, patch: u64, full: u64 });
+answer!(thx_entry { number: u32, found: u32, at: u64, position: i32, value: u32 });
 
 extern "C" {
     pub fn thx_format(patch: *mut u8, patch_len: usize, full: *mut u8, full_len: usize)
@@ -47,6 +48,8 @@ extern "C" {
         page: *mut u8,
         page_len: usize,
     ) -> thx_applied;
+
+    pub fn thx_next(payload: *const u8, payload_len: usize, at: u64, position: i32) -> thx_entry;
 
     pub fn thx_judge(slot: *const u8, slot_len: usize) -> thx_judged;
 

@@ -13,6 +13,8 @@
 //! Every call takes any slices and any numbers. Bad input is answered by a [`Refusal`], and a refused
 //! call changes no byte that it was lent. Where several refusals apply, the first in this order is
 //! given: 1, 2, 9, headers (patch before full; magic, version, then the rest), 5, 6, 8, 7, 10, 11.
+//! Where a payload is not sound, [`apply`], [`read`] and [`build`] also say at which of its bytes, and
+//! [`entries`] steps through it up to there.
 //!
 //! No call panics, unless the archive that was linked answers with a number that its interface does
 //! not have.
@@ -48,6 +50,7 @@
 
 use std::error::Error;
 use std::fmt;
+use std::iter::FusedIterator;
 
 use thonxiliko_sys as sys;
 
@@ -255,9 +258,42 @@ impl fmt::Display for Refusal {
 
 impl Error for Refusal {}
 
-/// Why [`build`] was refused, and at which block. Later versions of the library may say more.
+/// Why [`apply`] or [`read`] was refused, and where the payload breaks. Later versions of the library
+/// may say more.
 ///
-/// Where the block is of no interest, `?` makes a [`Refusal`] of it.
+/// Where the offset is of no interest, `?` makes a [`Refusal`] of it.
+#[derive(Clone, Copy, Debug, PartialEq, Eq, Hash)]
+#[non_exhaustive]
+pub struct PayloadRefusal {
+    /// The refusal.
+    pub refusal: Refusal,
+    /// With [`Refusal::Payload`], the payload offset at which the first entry starts that is not
+    /// sound; 0 for a payload that is empty or longer than 504 bytes. None with any other refusal. What
+    /// damaged a payload mostly stands before it: a wrong jump moves every entry after it.
+    pub offset: Option<usize>,
+}
+
+impl fmt::Display for PayloadRefusal {
+    fn fmt(&self, f: &mut fmt::Formatter<'_>) -> fmt::Result {
+        match self.offset {
+            Some(offset) => write!(f, "{} (offset {offset})", self.refusal),
+            None => self.refusal.fmt(f),
+        }
+    }
+}
+
+impl Error for PayloadRefusal {}
+
+impl From<PayloadRefusal> for Refusal {
+    fn from(fault: PayloadRefusal) -> Refusal {
+        fault.refusal
+    }
+}
+
+/// Why [`build`] was refused, at which block, and where its payload breaks. Later versions of the
+/// library may say more.
+///
+/// Where block and offset are of no interest, `?` makes a [`Refusal`] of it.
 #[derive(Clone, Copy, Debug, PartialEq, Eq, Hash)]
 #[non_exhaustive]
 pub struct BuildRefusal {
@@ -265,13 +301,18 @@ pub struct BuildRefusal {
     pub refusal: Refusal,
     /// The first block at fault, where the fault is one of a block (6, 7, 8 and 10).
     pub block: Option<u64>,
+    /// As in [`PayloadRefusal`], in the payload of that block.
+    pub offset: Option<usize>,
 }
 
 impl fmt::Display for BuildRefusal {
     fn fmt(&self, f: &mut fmt::Formatter<'_>) -> fmt::Result {
-        match self.block {
-            Some(block) => write!(f, "{} (block {block})", self.refusal),
-            None => self.refusal.fmt(f),
+        match (self.block, self.offset) {
+            (Some(block), Some(offset)) => {
+                write!(f, "{} (block {block}, offset {offset})", self.refusal)
+            }
+            (Some(block), None) => write!(f, "{} (block {block})", self.refusal),
+            (None, _) => self.refusal.fmt(f),
         }
     }
 }
@@ -304,6 +345,27 @@ pub struct Applied {
     pub entries: usize,
     /// The position of the last one.
     pub last: usize,
+}
+
+/// One entry of a payload, given by [`Entries`].
+#[derive(Clone, Copy, Debug, PartialEq, Eq, Hash)]
+pub struct Entry {
+    /// The byte of the page that it changes.
+    pub position: usize,
+    /// What that byte becomes.
+    pub value: u8,
+}
+
+/// How [`Entries`] came to give no more.
+#[derive(Clone, Copy, Debug, PartialEq, Eq, Hash)]
+pub enum Ending {
+    /// The payload is used up: it is sound.
+    End,
+    /// The payload is not sound.
+    Stopped {
+        /// The offset that [`apply`] gives: where the first entry starts that is not sound.
+        offset: usize,
+    },
 }
 
 /// What [`judge`] found.
@@ -372,6 +434,16 @@ fn pair(number: u32) -> Pair {
         2 => Pair::Patch,
         _ => foreign("the pair", number),
     }
+}
+
+/// The offset that is given with [`Refusal::Payload`] alone.
+fn break_of(refusal: Refusal, offset: u32) -> Option<usize> {
+    (refusal == Refusal::Payload).then_some(offset as usize)
+}
+
+fn payload_accepted(number: u32, offset: u32) -> Result<(), PayloadRefusal> {
+    accepted(number)
+        .map_err(|refusal| PayloadRefusal { refusal, offset: break_of(refusal, offset) })
 }
 
 /// A position is a place in a page, or -1 for none.
@@ -452,9 +524,14 @@ pub fn compare(base: &[u8], page: &[u8], payload: &mut [u8]) -> Result<Compared,
 /// let applied = thonxiliko::apply(&[], &[0xFE, 0x01], &mut page)?;
 /// assert_eq!((applied.entries, applied.last), (1, 254));
 /// assert_eq!((page[253], page[254], page[255]), (0, 1, 0));
+///
+/// // The second entry has a jump and no value.
+/// let fault = thonxiliko::apply(&[], &[0xFE, 0x01, 0x00], &mut page).unwrap_err();
+/// assert_eq!(fault.to_string(), "refused 7: the payload is not sound (offset 2)");
+/// assert_eq!(fault.offset, Some(2));
 /// # Ok::<(), thonxiliko::Refusal>(())
 /// ```
-pub fn apply(base: &[u8], payload: &[u8], page: &mut [u8]) -> Result<Applied, Refusal> {
+pub fn apply(base: &[u8], payload: &[u8], page: &mut [u8]) -> Result<Applied, PayloadRefusal> {
     // SAFETY: as in `format`.
     let applied = unsafe {
         sys::thx_apply(
@@ -466,11 +543,89 @@ pub fn apply(base: &[u8], payload: &[u8], page: &mut [u8]) -> Result<Applied, Re
             page.len(),
         )
     };
-    accepted(applied.number)?;
+    payload_accepted(applied.number, applied.offset)?;
     Ok(Applied {
         entries: applied.entries as usize,
         last: position(applied.last).unwrap_or_else(|| foreign("the last position", applied.last)),
     })
+}
+
+/// Reads the entries of a payload, one after the other.
+///
+/// Joined, they are those that [`apply`] uses. Of a payload that is not sound, those before the first
+/// entry that is not sound are given. [`Entries::ending`] tells which it was.
+///
+/// ```
+/// use thonxiliko::{entries, Ending, Entry};
+///
+/// let mut sound = entries(&[0x00, 0x07, 0xFE, 0x01]);
+/// assert_eq!(sound.next(), Some(Entry { position: 0, value: 7 }));
+/// assert_eq!(sound.ending(), None);
+/// assert_eq!(sound.next(), Some(Entry { position: 255, value: 1 }));
+/// assert_eq!((sound.next(), sound.ending()), (None, Some(Ending::End)));
+///
+/// // The second entry leaves the page.
+/// let mut broken = entries(&[0x00, 0x07, 0xFF, 0xFF, 0x1F, 0x01]);
+/// assert_eq!(broken.by_ref().count(), 1);
+/// assert_eq!(broken.ending(), Some(Ending::Stopped { offset: 2 }));
+/// assert_eq!(broken.next(), None);
+/// ```
+pub fn entries(payload: &[u8]) -> Entries<'_> {
+    Entries { payload, at: 0, position: -1, ending: None }
+}
+
+/// A reader of entries, made by [`entries`]. It remembers its payload and its place.
+#[derive(Clone, Debug)]
+pub struct Entries<'a> {
+    payload: &'a [u8],
+    at: u64,
+    position: i32,
+    ending: Option<Ending>,
+}
+
+impl Entries<'_> {
+    /// Where the reader stands: the payload offset of the entry that comes next, or at which it has
+    /// ended or stopped.
+    pub fn offset(&self) -> usize {
+        self.at as usize
+    }
+
+    /// How the reader came to give no more; none as long as it has not said so by `None`.
+    pub fn ending(&self) -> Option<Ending> {
+        self.ending
+    }
+}
+
+impl Iterator for Entries<'_> {
+    type Item = Entry;
+
+    fn next(&mut self) -> Option<Entry> {
+        if self.ending.is_some() {
+            return None;
+        }
+        let Entries { payload, at, position, .. } = *self;
+        // SAFETY: as in `format`.
+        let step = unsafe { sys::thx_next(payload.as_ptr(), payload.len(), at, position) };
+        match (step.number, step.found) {
+            (0, 1) => {
+                (self.at, self.position) = (step.at, step.position);
+                return Some(entry(step));
+            }
+            (0, 0) => self.ending = Some(Ending::End),
+            (7, 0) => self.ending = Some(Ending::Stopped { offset: self.offset() }),
+            (number, _) => foreign("the number", number),
+        }
+        None
+    }
+}
+
+impl FusedIterator for Entries<'_> {}
+
+fn entry(step: sys::thx_entry) -> Entry {
+    Entry {
+        position: position(step.position).unwrap_or_else(|| foreign("the position", step.position)),
+        value: u8::try_from(step.value).unwrap_or_else(|_| foreign("the value", step.value)),
+    }
 }
 
 /// Tells whether one slot is sound. The entries of its payload are not looked at.
@@ -535,7 +690,12 @@ pub fn show(patch: &[u8], block: u64) -> Option<&[u8]> {
 /// let mut page = vec![0; PAGE_SIZE];
 /// assert_eq!(read(&patch, &[], 0, &base, &mut page)?, Kind::Empty);
 /// assert_eq!(page, base);
-/// assert_eq!(read(&patch, &[], 1, &base, &mut page), Err(Refusal::Block));
+/// let fault = read(&patch, &[], 1, &base, &mut page).unwrap_err();
+/// assert_eq!((fault.refusal, fault.offset), (Refusal::Block, None));
+///
+/// patch[512..522].copy_from_slice(&[1, 1, 3, 0, 0, 0, 0, 0, 0x00, 0x07]); // 00 07 00: cut off
+/// let fault = read(&patch, &[], 0, &base, &mut page).unwrap_err();
+/// assert_eq!((fault.refusal, fault.offset), (Refusal::Payload, Some(2)));
 /// # Ok::<(), Refusal>(())
 /// ```
 pub fn read(
@@ -544,7 +704,7 @@ pub fn read(
     block: u64,
     base: &[u8],
     page: &mut [u8],
-) -> Result<Kind, Refusal> {
+) -> Result<Kind, PayloadRefusal> {
     // SAFETY: as in `format`.
     let reading = unsafe {
         sys::thx_read(
@@ -559,7 +719,7 @@ pub fn read(
             page.len(),
         )
     };
-    accepted(reading.number)?;
+    payload_accepted(reading.number, reading.offset)?;
     Ok(kind(reading.kind))
 }
 
@@ -629,7 +789,11 @@ pub fn write(
 ///
 /// patch[512 + 512 * 3] = 9; // no such kind
 /// let fault = build(&patch, &[], &mut map).unwrap_err();
-/// assert_eq!((fault.refusal, fault.block), (Refusal::Slot, Some(3)));
+/// assert_eq!((fault.refusal, fault.block, fault.offset), (Refusal::Slot, Some(3), None));
+///
+/// patch[1024..1034].copy_from_slice(&[1, 1, 3, 0, 0, 0, 0, 0, 0x00, 0x07]); // 00 07 00: cut off
+/// let fault = build(&patch, &[], &mut map).unwrap_err();
+/// assert_eq!(fault.to_string(), "refused 7: the payload is not sound (block 1, offset 2)");
 /// # Ok::<(), Refusal>(())
 /// ```
 pub fn build(patch: &[u8], full: &[u8], map: &mut [u8]) -> Result<(), BuildRefusal> {
@@ -652,6 +816,7 @@ pub fn build(patch: &[u8], full: &[u8], map: &mut [u8]) -> Result<(), BuildRefus
             }
             _ => None,
         },
+        offset: break_of(refusal, built.offset),
     })
 }
 

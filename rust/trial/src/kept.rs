@@ -165,7 +165,9 @@ fn rebuild_segments(
     progress.start("rebuilding", blocks);
     for path in segments {
         let (from, to) = (base.join(path), folder.join(path));
-        load(path)?.rebuild(&from, &to, progress)?;
+        load(path)?
+            .rebuild(&from, &to, progress)
+            .map_err(|problem| format!("{}: {problem}", path.display()))?;
         let model = if from.exists() { from } else { base.join("PG_VERSION") };
         if model.exists() {
             fs::set_permissions(&to, fs::metadata(model)?.permissions())?;
@@ -285,6 +287,17 @@ mod tests {
         bytes[1024 + 511] = 1;
         fs::write(&patch, &bytes).expect("written");
         assert!(rebuild(&at("base"), &at("kept"), &at("one"), &mut progress).is_err());
+
+        // A payload with a jump too many, after 20 entries: the message says which and where.
+        let mut bytes = sound.clone();
+        assert_eq!(bytes[1024 + 2], 40);
+        bytes[1024 + 2] = 41;
+        fs::write(&patch, &bytes).expect("written");
+        let problem = rebuild(&at("base"), &at("kept"), &at("three"), &mut progress).err();
+        assert_eq!(
+            problem.expect("refused").to_string(),
+            "base/1/11: block 1: refused 7: the payload is not sound (offset 40)"
+        );
 
         // Another value in a sound slot gives another page, which the comparison sees.
         let mut bytes = sound;

@@ -129,7 +129,7 @@ impl Areas {
         for block in 0..blocks {
             base.next_page(&mut base_page)?;
             changed.next_page(&mut page)?;
-            let kind = read(&self.patch, &self.full, block, &base_page, &mut again)?;
+            let kind = self.read(block, &base_page, &mut again)?;
             if again != page {
                 let path = changed_path.display();
                 return Err(format!("{path}: block {block} reads back wrongly").into());
@@ -151,6 +151,12 @@ impl Areas {
         Ok(counts)
     }
 
+    /// Reads one block. A refusal is told with the block and, where its payload breaks, the offset.
+    fn read(&self, block: u64, base: &[u8], page: &mut [u8]) -> Outcome<Kind> {
+        read(&self.patch, &self.full, block, base, page)
+            .map_err(|refusal| format!("block {block}: {refusal}").into())
+    }
+
     /// Makes the segment's file from its base and the areas.
     pub fn rebuild(&self, base: &Path, to: &Path, progress: &mut Progress) -> Outcome<()> {
         let mut base = Pages::open(base)?;
@@ -159,7 +165,7 @@ impl Areas {
         let mut page = vec![0; PAGE_SIZE];
         for block in 0..self.blocks() {
             base.next_page(&mut base_page)?;
-            read(&self.patch, &self.full, block, &base_page, &mut page)?;
+            self.read(block, &base_page, &mut page)?;
             file.write_all(&page)?;
             progress.block();
         }

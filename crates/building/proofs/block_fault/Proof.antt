@@ -1,4 +1,4 @@
-use Rattle.building.proofs.BuildTold.{told-unsound, told-full-none, told-full, told-empty, told-payload, told-patched}
+use Rattle.building.proofs.BuildTold.{stray-number, told-unsound, told-full-none, told-full, told-empty, told-payload, told-patched}
 use native.Mathlib.Omega.{arith}
 use mathlib.Core.Path.{_∙_}
 use borrow.Author.Needs.{needs}
@@ -38,20 +38,26 @@ part-requires-2 c κs = search needs
 check-requires : tie.Need-check-requires
 check-requires c κs = search needs
 
+enum-known-offset : tie.Need-enum-known-offset
+enum-known-offset c = search needs
+
 enum-told-3 : tie.Need-enum-told-3
 enum-told-3 c = search needs
-
-enum-told-4 : tie.Need-enum-told-4
-enum-told-4 c = search needs
 
 place-fault-requires : tie.Need-place-fault-requires
 place-fault-requires c κs = search needs
 
-enum-told-5 : tie.Need-enum-told-5
-enum-told-5 c = search needs
+no-offset-requires : tie.Need-no-offset-requires
+no-offset-requires c κs = search needs
+
+enum-told-4 : tie.Need-enum-told-4
+enum-told-4 c = search needs
 
 place-fault-requires-2 : tie.Need-place-fault-requires-2
 place-fault-requires-2 c κs = search needs
+
+no-offset-requires-2 : tie.Need-no-offset-requires-2
+no-offset-requires-2 c κs = search needs
 
 returns-2 : tie.Need-returns-2
 returns-2 c =
@@ -73,38 +79,40 @@ returns-3 c =
 
 returns-4 : tie.Need-returns-4
 returns-4 c =
-    let s = c .before .before .before .before .before .before .before in
-    let k = c .before .before in
+    let s = c .before .before .before .before .before .before .before .before in
+    let k = c .before .before .before in
     let a = s .before .before .before .before .before .args in
     told-payload (a .size) (a .patch .now) (a .full .now) (a .block)
     (s .before .before .slot-at .result) (s .before .part .result .now) (s .slot-state .result)
     (s .before .before .slot-at .ensures) (s .before .part .ensures .0) (s .slot-state .ensures)
     (k .before .before .before .n .given .0 .0) (k .before .part2 .result .now) (k .check .result)
     (k .before .before .before .n .given .1) (k .before .part2 .ensures .0) (s .before .before .before .before .before .pre .0) (k .check .ensures)
-    (c .enum-told3 .given .1)
+    (c .before .offset .given .0 .0) (c .before .offset .given .1)
 
 returns-5 : tie.Need-returns-5
 returns-5 c =
-    let s = c .before .before .before .before .before .before .before .before in
-    let k = c .before .before .before in
+    let s = c .before .before .before .before .before .before .before .before .before in
+    let k = c .before .before .before .before in
     let a = s .before .before .before .before .before .args in
-    c .place-fault .ensures
+    c .no-offset .ensures
+    ∙ stray-number (c .before .place-fault .ensures)
     ∙ told-patched (a .size) (a .patch .now) (a .full .now) (a .block)
     (s .before .before .slot-at .result) (s .before .part .result .now) (s .slot-state .result)
     (s .before .before .slot-at .ensures) (s .before .part .ensures .0) (s .slot-state .ensures)
     (k .before .before .before .n .given .0 .0) (k .before .part2 .result .now) (k .check .result)
     (k .before .before .before .n .given .1) (k .before .part2 .ensures .0) (s .before .before .before .before .before .pre .0) (k .check .ensures)
-    (c .before .enum-told4 .given .1)
+    (c .before .before .enum-told3 .given .1)
 
 returns-6 : tie.Need-returns-6
 returns-6 c =
-    let s = c .before .before .before in
+    let s = c .before .before .before .before in
     let a = s .before .before .before .before .before .args in
-    c .place-fault2 .ensures
+    c .no-offset2 .ensures
+    ∙ stray-number (c .before .place-fault2 .ensures)
     ∙ told-empty (a .size) (a .patch .now) (a .full .now) (a .block)
     (s .before .before .slot-at .result) (s .before .part .result .now) (s .slot-state .result)
     (s .before .before .slot-at .ensures) (s .before .part .ensures .0) (s .slot-state .ensures)
-    (c .before .enum-told5 .given .1)
+    (c .before .before .enum-told4 .given .1)
 
 pub block-fault-spec : {M : Type 1} → statement M
 block-fault-spec =
@@ -119,11 +127,13 @@ block-fault-spec =
     enum-known-n
     part-requires-2
     check-requires
+    enum-known-offset
     enum-told-3
-    enum-told-4
     place-fault-requires
-    enum-told-5
+    no-offset-requires
+    enum-told-4
     place-fault-requires-2
+    no-offset-requires-2
     returns-2
     returns-3
     returns-4

@@ -6,6 +6,9 @@ use Rattle.building.specs.Build.{blockFault, buildFault, BuildNumbers, b
 use Rattle.building.specs.declared.Built.{Built}
 use Rattle.building.specs.declared.Built.the-variants.{Done, Refused}
 use Rattle.blockmap.specs.Pack.{packed}
+use Rattle.slots.specs.Slots.{payloadOf}
+use Rattle.payload.specs.Entries.{offsetWith}
+use Rattle.store.specs.Block.{slotOf}
 use Rattle.layout.specs.FirstFault.{firstFault}
 use Rattle.layout.specs.Numbers.{refusalNumber}
 use Rattle.layout.specs.NumberLaws.{refusal-some}
@@ -33,11 +36,11 @@ opened c =
 
 -- and the first fault that was told is that of the call's own size and n
 fault-is : (P : ℕ) (patch full : List ℕ) (size n b : ℕ) (x y : Built) → size ≡ P → n ≡ b
-    → builtNumbers x ≡ faultNumbers (firstFault (blockFault size patch full) 0 n) → x ≡ y
-    → faultNumbers (firstFault (blockFault P patch full) 0 b) ≡ builtNumbers y
+    → builtNumbers x ≡ faultNumbers size patch (firstFault (blockFault size patch full) 0 n) → x ≡ y
+    → faultNumbers P patch (firstFault (blockFault P patch full) 0 b) ≡ builtNumbers y
 fault-is P patch full size n b x y own blocks told is =
-    ap (λ (k : ℕ). faultNumbers (firstFault (blockFault k patch full) 0 b)) (sym own)
-    ∙ ap (λ (k : ℕ). faultNumbers (firstFault (blockFault size patch full) 0 k)) (sym blocks)
+    ap (λ (k : ℕ). faultNumbers k patch (firstFault (blockFault k patch full) 0 b)) (sym own)
+    ∙ ap (λ (k : ℕ). faultNumbers size patch (firstFault (blockFault size patch full) 0 k)) (sym blocks)
     ∙ sym told
     ∙ ap builtNumbers is
 
@@ -98,16 +101,19 @@ returns-2 : tie.Need-returns-2
 returns-2 c =
     let w = c .before .before .before .before .before in
     let a = w .before .before .before .before .before .before .before .before .args in
-    let o = opened w in
+    let w′ = opened w in
     let r = c .before .refusal2 .given .0 .0 in
     let b = c .before .refusal2 .given .0 .1 .0 in
+    let o = c .before .refusal2 .given .0 .1 .1 .0 in
     let f = c .before .before .before .first-fault in
-    let t : faultNumbers (buildFault pageSize (a .patch .now) (a .full .now)) ≡ builtNumbers (Refused r b) =
-    fault-is pageSize (a .patch .now) (a .full .now) _ _ _ (f .result) (Refused r b) (o .own) (o .blocks) (f .ensures) (c .before .refusal2 .given .1) in
+    let t : faultNumbers pageSize (a .patch .now) (buildFault pageSize (a .patch .now) (a .full .now)) ≡ builtNumbers (Refused r b o) =
+    fault-is pageSize (a .patch .now) (a .full .now) _ _ _ (f .result) (Refused r b o) (w′ .own) (w′ .blocks) (f .ensures) (c .before .refusal2 .given .1) in
     let e =
-    build-faulty pageSize (a .patch .now) (a .full .now) (a .map .now) (o .none) (refusalNumber r) b
+    build-faulty pageSize (a .patch .now) (a .full .now) (a .map .now) (w′ .none) (refusalNumber r) b
     (ap (λ (x : BuildNumbers). x .number) t) (ap (λ (x : BuildNumbers). x .block) t) (refusal-some r) in
-    record { numbers = rw e; bytes = rw e }
+    let q : o ≡ offsetWith (refusalNumber r) pageSize (payloadOf (slotOf (a .patch .now) b)) = sym (ap (λ (x : BuildNumbers). x .offset) t)
+    ∙ ap (λ (x : BuildNumbers). offsetWith (x .number) pageSize (payloadOf (slotOf (a .patch .now) (x .block)))) t in
+    record { numbers = rw e (λ i. record { number = refusalNumber r; block = b; offset = q i }); bytes = rw e }
 
 same-length : tie.Need-same-length
 same-length c = search needs
@@ -118,7 +124,7 @@ returns-3 c =
     let a = w .before .before .before .before .before .before .before .before .args in
     let o = opened w in
     let f = c .before .before .before .before .before .before .first-fault in
-    let t : faultNumbers (buildFault pageSize (a .patch .now) (a .full .now)) ≡ builtNumbers Done =
+    let t : faultNumbers pageSize (a .patch .now) (buildFault pageSize (a .patch .now) (a .full .now)) ≡ builtNumbers Done =
     fault-is pageSize (a .patch .now) (a .full .now) _ _ _ (f .result) Done (o .own) (o .blocks) (f .ensures)
     (c .before .before .before .before .enum-told .given .1) in
     let z : buildFault pageSize (a .patch .now) (a .full .now) .number ≡ 0 = ap (λ (x : BuildNumbers). x .number) t in

@@ -1,9 +1,10 @@
-use Rattle.layout.specs.Numbers.{faultNumber, refusalNumber}
+use Rattle.layout.specs.Numbers.{refusalNumber}
 use Rattle.layout.specs.NumberLaws.{refusal-some}
-use Rattle.layout.specs.FirstFault.{firstFault}
+use Rattle.layout.specs.FirstFault.{BlockFault, firstFault}
 use Rattle.layout.specs.FirstFaultLaws.{fault-next, fault-here, fault-end}
 use Rattle.building.specs.Build.{blockFault}
-use Rattle.building.specs.Steps.{faultNumbers}
+use Rattle.building.proofs.BuildTold.{found-numbers}
+use Rattle.building.specs.Steps.{FindingNumbers, findingNumbers, faultNumbers}
 use Prim.Native.Nat.{ℕ, _-_, _≤_}
 use native.Mathlib.Omega.{arith}
 use mathlib.Core.Path.{_≡_, sym, ap, _∙_}
@@ -39,9 +40,12 @@ returns c =
     let a = c .before .before .before .before .before .before .before .before .args in
     let l = c .before .before .before .before .before .loop in
     let r = c .before .refusal .given .0 .0 in
-    let e = sym (c .before .before .before .block-fault .ensures) ∙ ap faultNumber (c .before .refusal .given .1) in
-    let here = fault-here (blockFault (a .size) (a .patch .now) (a .full .now)) (l .block) (a .n) (refusalNumber r) in
-    sym (ap faultNumbers (l .inv .1 ∙ here (omega (arith, c .before .before .before .before .loop-test .taken)) e (refusal-some r)))
+    let o = c .before .refusal .given .0 .1 .0 in
+    let e = sym (c .before .before .before .block-fault .ensures) ∙ ap findingNumbers (c .before .refusal .given .1) in
+    let here =
+    fault-here (blockFault (a .size) (a .patch .now) (a .full .now)) (l .block) (a .n) (refusalNumber r)
+    (omega (arith, c .before .before .before .before .loop-test .taken)) (ap (λ (x : FindingNumbers). x .number) e) (refusal-some r) in
+    found-numbers (a .size) (a .patch .now) (a .full .now) (l .block) (refusalNumber r) o _ (l .inv .1 ∙ here) e
 
 enum-told : tie.Need-enum-told Inv-loop μ-loop
 enum-told c = search needs
@@ -57,7 +61,7 @@ loop-again c =
     let a = c .before .before .before .before .before .before .before .args in
     let l = c .before .before .before .before .loop in
     let t = c .before .before .before .loop-test .taken in
-    let e = sym (c .before .before .block-fault .ensures) ∙ ap faultNumber (c .enum-told .given .1) in
+    let e = ap (λ (x : FindingNumbers). x .number) (sym (c .before .before .block-fault .ensures) ∙ ap findingNumbers (c .enum-told .given .1)) in
     let next = fault-next (blockFault (a .size) (a .patch .now) (a .full .now)) (l .block) (a .n) in
     (omega (arith, t), l .inv .1 ∙ next (omega (arith, t)) e)
 
@@ -66,7 +70,7 @@ returns-2 c =
     let a = c .before .before .before .before .args in
     let l = c .before .loop in
     let end = fault-end (blockFault (a .size) (a .patch .now) (a .full .now)) (l .block) (a .n) in
-    sym (ap faultNumbers (l .inv .1 ∙ end (omega (arith, c .loop-test .left))))
+    sym (ap (λ (f : BlockFault). faultNumbers (a .size) (a .patch .now) f) (l .inv .1 ∙ end (omega (arith, c .loop-test .left))))
 
 pub first-fault-spec : {M : Type 1} → statement M
 first-fault-spec =

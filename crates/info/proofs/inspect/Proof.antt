@@ -76,7 +76,7 @@ returns-5 c =
       numbers =
           sym
           (broken-told pageSize bytes (payload .result .now) n (checked .check .result) (state .before .if1 .left) is
-          (payload .ensures .0) (checked .check .ensures) (c .enum-told4 .given .1));
+          (payload .ensures .0) (checked .check .ensures) (c .enum-told4 .given .0 .0) (c .enum-told4 .given .1));
     }
 
 returns-6 : tie.Need-returns-6

@@ -22,12 +22,12 @@ abbrev μ-loop : tie.MeasureT-loop
 returns : tie.Need-returns Inv-loop μ-loop
 returns c =
     let a = c .before .before .args in
-    unsound-told (reach (a .size)) (a .payload .now) (unsound-empty (reach (a .size)) (a .payload .now) (c .if1 .taken))
+    unsound-told (reach (a .size)) (a .payload .now) 0 (unsound-empty (reach (a .size)) (a .payload .now) (c .if1 .taken))
 
 returns-2 : tie.Need-returns-2 Inv-loop μ-loop
 returns-2 c =
     let a = c .before .before .before .args in
-    unsound-told (reach (a .size)) (a .payload .now) (unsound-long (reach (a .size)) (a .payload .now) (c .if2 .taken))
+    unsound-told (reach (a .size)) (a .payload .now) 0 (unsound-long (reach (a .size)) (a .payload .now) (c .if2 .taken))
 
 loop-holds : tie.Need-loop-holds Inv-loop μ-loop
 loop-holds c =
@@ -62,8 +62,8 @@ returns-4 c =
     Broken =
     told (reach (a .size)) (a .payload .now) (l .place) (stream (reach (a .size)) (toZ w32 (l .last)) code (drop (l .place) (a .payload .now)))
     (c .before .before .step .result) Broken (c .enum-told2 .given .1) (c .before .before .step .ensures) in
-    unsound-told (reach (a .size)) (a .payload .now)
-    (passed-broken (reach (a .size)) (a .payload .now) (l .place) (toZ w32 (l .last)) (l .entries) (l .inv) f)
+    unsound-told (reach (a .size)) (a .payload .now) (l .place)
+    (passed-broken (reach (a .size)) (a .payload .now) (l .place) (toZ w32 (l .last)) (l .entries) (l .inv) (omega arith) f)
 
 enum-known-at : tie.Need-enum-known-at Inv-loop μ-loop
 enum-known-at c = search needs

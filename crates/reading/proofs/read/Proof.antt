@@ -56,7 +56,7 @@ returns c =
     let a = c .before .before .before .before .before .before .before .before .before .before .before .args in
     let o = opened (c .before .before) in
     let e : readOutcome pageSize (a .patch .now) (a .full .now) (a .block) (a .base .now) (a .page .now)
-    ≡ readRefused 5 (a .page .now) = read-block pageSize (a .patch .now) (a .full .now) (a .block) (a .base .now) (a .page .now)
+    ≡ readRefused 5 0 (a .page .now) = read-block pageSize (a .patch .now) (a .full .now) (a .block) (a .base .now) (a .page .now)
     (o .none) (omega (arith, o .blocks, c .if1 .taken)) in
     record { numbers = rw e; bytes = rw e }
 
@@ -122,7 +122,7 @@ returns-3 c =
     let told = lent-refused pageSize (a .patch .now) (a .full .now) (a .base .now) (a .page .now) (p .result) (f .result) (p .ensures) (f .ensures)
     r (c .before .r .given .1) in
     let e : readOutcome pageSize (a .patch .now) (a .full .now) (a .block) (a .base .now) (a .page .now)
-    ≡ readRefused (refusalNumber r) (a .page .now) = read-frame pageSize (a .patch .now) (a .full .now) (a .block) (a .base .now)
+    ≡ readRefused (refusalNumber r) 0 (a .page .now) = read-frame pageSize (a .patch .now) (a .full .now) (a .block) (a .base .now)
     (a .page .now) (refusalNumber r) told (refusal-some r) in
     record { numbers = rw e; bytes = rw e }
 

@@ -61,7 +61,7 @@ returns c =
     let numbers : stateNumbers (c .before .before .before .slot-state .result) ≡ slotNumbers s = c .before .before .before .slot-state
     .ensures ∙ ap (λ (l : List ℕ). slotNumbers l) same-slot in
     let e : slotOutcome (a .size) (a .patch .now) (a .full .now) (a .block) (a .base .now) (a .page .now)
-    ≡ readRefused 8 (a .page .now) =
+    ≡ readRefused 8 0 (a .page .now) =
     slot-missing (a .size) (a .patch .now) (a .full .now) (a .block) (a .base .now) (a .page .now) (sym numbers
     ∙ ap stateNumbers (c .before .enum-told3 .given .1)) (omega (arith, at .pre .1 .0, c .if1 .taken)) in
     record { numbers = rw e; bytes = rw e }
@@ -86,7 +86,7 @@ returns-2 c =
     let numbers : stateNumbers (c .before .before .slot-state .result) ≡ slotNumbers s = c .before .before .slot-state .ensures
     ∙ ap (λ (l : List ℕ). slotNumbers l) same-slot in
     let e : slotOutcome (a .size) (a .patch .now) (a .full .now) (a .block) (a .base .now) (a .page .now)
-    ≡ readRefused 6 (a .page .now) =
+    ≡ readRefused 6 0 (a .page .now) =
     slot-unsound (a .size) (a .patch .now) (a .full .now) (a .block) (a .base .now) (a .page .now) (sym numbers ∙ ap stateNumbers (c .enum-told .given .1)) in
     record { numbers = rw e; bytes = rw e }
 

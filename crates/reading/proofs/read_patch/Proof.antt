@@ -21,7 +21,7 @@ returns c =
     let a = at .args in
     let p = c .before .before .before .before .before .apply-to in
     apply-refuses (a .base .now) (a .payload .now) (a .page .now) (p .last .1 .1 .0) (p .result) (at .pre .0) (at .pre .1) (p .ensures)
-    (c .before .refusal .given .0 .0) (c .before .refusal .given .1)
+    (c .before .refusal .given .0 .0) (c .before .refusal .given .0 .1 .0) (c .before .refusal .given .1)
 
 same-length-2 : tie.Need-same-length-2
 same-length-2 c = search needs

@@ -16,8 +16,8 @@ use Rattle.stream.proofs.apply_to.Tie as tie
 check-requires : tie.Need-check-requires
 check-requires c κs = search needs
 
-enum-told : tie.Need-enum-told
-enum-told c = search needs
+enum-known-offset : tie.Need-enum-known-offset
+enum-known-offset c = search needs
 
 enum-known-entries : tie.Need-enum-known-entries
 enum-known-entries c = search needs
@@ -30,11 +30,11 @@ overlay-requires c κs = search needs
 
 returns : tie.Need-returns
 returns c =
-    let a = c .before .before .before .before .before .before .args in
+    let a = c .before .before .before .before .before .before .before .args in
     let k : ℕ = reach (length (a .page .now)) in
-    applies-unsound k (a .base .now) (a .payload .now) (a .page .now)
-    (subst (λ (r : Checked). Judges k (a .payload .now) r) (c .enum-told .given .1)
-    (judged k (a .payload .now) (c .before .before .check .result) (c .before .before .check .ensures)))
+    applies-unsound k (a .base .now) (a .payload .now) (a .page .now) (c .before .offset .given .0 .0)
+    (subst (λ (r : Checked). Judges k (a .payload .now) r) (c .before .offset .given .1)
+    (judged k (a .payload .now) (c .before .before .before .check .result) (c .before .before .before .check .ensures)))
 
 same-length : tie.Need-same-length
 same-length c = search needs
@@ -51,7 +51,7 @@ returns-2 c =
     (judged k (a .payload .now) (checked .result) (checked .ensures)) in
     applies-sound (a .base .now) (a .payload .now) (a .page .now) (c .before .before .before .before .before .before .copy .last .0)
     (c .before .before .overlay .last .0) e l (toZ w32 (ofZ w32 l))
-    (toZ-ofZ w32 l (record { sfits = c .before .before .before .before .before .before .before .before .known-told .given .1 .0 .1 })) s
+    (toZ-ofZ w32 l (record { sfits = c .before .before .before .before .before .before .before .before .known-told2 .given .1 .0 .1 })) s
     (c .before .before .before .before .before .before .copy .ensures) (c .before .before .overlay .ensures)
 
 pub apply-to-spec : {M : Type 1} → statement M
@@ -59,7 +59,7 @@ apply-to-spec =
     tie.close
     (tie.spec
     check-requires
-    enum-told
+    enum-known-offset
     enum-known-entries
     copy-requires
     overlay-requires

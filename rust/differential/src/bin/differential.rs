@@ -7,7 +7,7 @@ use differential::generate;
 use differential::harness::{Counts, Harness, Mismatch};
 use differential::rng::Rng;
 use differential::runs::{self, Pairs};
-use differential::{cases, crash, huge, orders, sweep};
+use differential::{cases, crash, huge, orders, payloads, sweep};
 
 const HELP: &str = "\
 usage: differential [--quick | --long] [--seed N] [--part NAME [--case I]] [--trace]
@@ -18,8 +18,8 @@ independent implementation; compares every answer and every lent byte after ever
   --quick       a few seconds (the default)
   --long        more than a million calls
   --seed N      replay with this seed (otherwise drawn from the clock, and printed)
-  --part NAME   only one part: cases, orders, lengths, numbers, random, runs, huge
-  --case I      only this case of the part, which is random or runs
+  --part NAME   only one part: cases, orders, lengths, numbers, payloads, readers, random, runs, huge
+  --case I      only this case of the part, which is readers, random or runs
   --trace       print each input before the call, to find the one that crashed
 ";
 
@@ -37,11 +37,17 @@ struct Part {
 }
 
 /// The parts in the order of a whole run.
-const PARTS: [Part; 7] = [
+const PARTS: [Part; 9] = [
     Part { name: "cases", work: Work::Whole(hand_written), meets_all: true },
     Part { name: "orders", work: Work::Whole(every_order), meets_all: false },
     Part { name: "lengths", work: Work::Whole(lengths), meets_all: false },
     Part { name: "numbers", work: Work::Whole(numbers), meets_all: false },
+    Part { name: "payloads", work: Work::Whole(short_payloads), meets_all: false },
+    Part {
+        name: "readers",
+        work: Work::Drawn { quick: 400, long: 8_000, run: longer_payload },
+        meets_all: false,
+    },
     Part {
         name: "random",
         work: Work::Drawn { quick: 60_000, long: 1_100_000, run: random },
@@ -108,7 +114,7 @@ impl Options {
         let drawn = |part: &Part| matches!(part.work, Work::Drawn { .. });
         let one_drawn = PARTS.iter().filter(|part| self.wants(part)).all(drawn);
         if self.case.is_some() && !one_drawn {
-            return Err("--case goes with --part random or --part runs".to_string());
+            return Err("--case goes with --part readers, random or runs".to_string());
         }
         Ok(())
     }
@@ -271,7 +277,16 @@ fn lengths(session: &mut Session) -> Result<(), Mismatch> {
 
 fn numbers(session: &mut Session) -> Result<(), Mismatch> {
     sweep::nothing_at_all(&mut session.harness)?;
+    sweep::places(&mut session.harness)?;
     sweep::numbers(&mut session.harness)
+}
+
+fn short_payloads(session: &mut Session) -> Result<(), Mismatch> {
+    payloads::every_short_one(&mut session.harness)
+}
+
+fn longer_payload(session: &mut Session, rng: &mut Rng) -> Result<(), Mismatch> {
+    payloads::a_longer_one(&mut session.harness, rng)
 }
 
 fn random(session: &mut Session, rng: &mut Rng) -> Result<(), Mismatch> {

@@ -1,3 +1,4 @@
+use Rattle.thonxiliko.specs.Widths.{read-offset-fits}
 use Rattle.thonxiliko.specs.AreaLaws.{read-held}
 use Rattle.reading.specs.Read.{readingNumbers}
 use mathlib.Core.Path.{sym, ap, _∙_}
@@ -20,6 +21,11 @@ enum-known-refusal c = search needs
 refusal-number-requires : tie.Need-refusal-number-requires
 refusal-number-requires c κs = search needs
 
+cast-t16 : tie.Need-cast-t16
+cast-t16 c =
+    let told = c .before .before .refusal .given in
+    record { fits = read-offset-fits (c .before .before .before .before .before .before .read .ensures) (told .1) }
+
 same-length : tie.Need-same-length
 same-length c = search needs
 
@@ -27,7 +33,7 @@ returns : tie.Need-returns
 returns c =
     let told = c .before .before .kind .given in
     read-held (c .before .before .before .before .before .before .read .ensures)
-    ((λ i. record { number = 0; kind = c .kind-number .ensures i }) ∙ ap readingNumbers (sym (told .1)))
+    ((λ i. record { number = 0; kind = c .kind-number .ensures i; offset = 0 }) ∙ ap readingNumbers (sym (told .1)))
 
 same-length-2 : tie.Need-same-length-2
 same-length-2 c = search needs
@@ -36,7 +42,7 @@ returns-2 : tie.Need-returns-2
 returns-2 c =
     let told = c .before .before .refusal .given in
     read-held (c .before .before .before .before .before .before .read .ensures)
-    ((λ i. record { number = c .refusal-number .ensures i; kind = 0 }) ∙ ap readingNumbers (sym (told .1)))
+    ((λ i. record { number = c .refusal-number .ensures i; kind = 0; offset = told .0 .1 .0 }) ∙ ap readingNumbers (sym (told .1)))
 
 pub thx-read-spec : {M : Type 1} → statement M
 thx-read-spec =
@@ -47,6 +53,7 @@ thx-read-spec =
     kind-number-requires
     enum-known-refusal
     refusal-number-requires
+    cast-t16
     same-length
     returns
     same-length-2

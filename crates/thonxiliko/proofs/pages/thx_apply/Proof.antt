@@ -1,4 +1,4 @@
-use Rattle.thonxiliko.specs.Widths.{apply-fits}
+use Rattle.thonxiliko.specs.Widths.{apply-fits, apply-offset-fits}
 use Rattle.thonxiliko.specs.PageLaws.{apply-held}
 use Rattle.stream.specs.Calls.{appliedNumbers, applyDone, applyRefused}
 use lib.IntN.{ℤ, pos}
@@ -16,8 +16,8 @@ apply-requires c κs = search needs
 enum-known-entries : tie.Need-enum-known-entries
 enum-known-entries c = search needs
 
-cast-t11 : tie.Need-cast-t11
-cast-t11 c =
+cast-t12 : tie.Need-cast-t12
+cast-t12 c =
     let a = c .before .before .before .before .before .before .before .before .before .before .args in
     let ensures = c .before .before .before .before .before .apply .ensures in
     record { fits = apply-fits (a .base .now) (a .payload .now) (a .page .now) ensures (c .before .entries .given .1) }
@@ -27,6 +27,11 @@ enum-known-refusal c = search needs
 
 refusal-number-requires : tie.Need-refusal-number-requires
 refusal-number-requires c κs = search needs
+
+cast-t14 : tie.Need-cast-t14
+cast-t14 c =
+    let told = c .before .before .refusal .given in
+    record { fits = apply-offset-fits (c .before .before .before .before .before .before .apply .ensures) (told .1) }
 
 same-length : tie.Need-same-length
 same-length c = search needs
@@ -46,7 +51,7 @@ returns-2 : tie.Need-returns-2
 returns-2 c =
     let told = c .before .before .refusal .given in
     apply-held (c .before .before .before .before .before .before .apply .ensures)
-    ((λ i. applyRefused (c .refusal-number .ensures i)) ∙ ap appliedNumbers (sym (told .1)))
+    ((λ i. applyRefused (c .refusal-number .ensures i) (told .0 .1 .0)) ∙ ap appliedNumbers (sym (told .1)))
 
 pub thx-apply-spec : {M : Type 1} → statement M
 thx-apply-spec =
@@ -54,9 +59,10 @@ thx-apply-spec =
     (tie.spec
     apply-requires
     enum-known-entries
-    cast-t11
+    cast-t12
     enum-known-refusal
     refusal-number-requires
+    cast-t14
     same-length
     returns
     same-length-2

@@ -1,0 +1,12 @@
+pub mod Turns
+pub mod TurnLaws
+pub mod Given
+pub mod Reader
+pub mod Walk
+pub mod FitLaws
+pub mod WalkLaws
+pub mod Reads
+pub mod Meaning
+pub mod Claims
+pub mod ClaimLaws
+pub mod Wrong
