@@ -14,7 +14,8 @@ use mir.Val.{Fits, SFits, toZ, ofZ}
 use mir.ValLaws.{toZ-ofZ}
 use borrow.Author.Tests.{le-leb, lt-leb, ltb-true}
 use Rattle.layout.specs.Sizes.{room}
-use Rattle.payload.specs.Entries.{Stream, done, cut, out, code, inPage, stream, start, payloadStream, whole, sound, entries, last, used, breaksAt, put, applied}
+use Rattle.payload.specs.Entries.{Stream, done, cut, out, code, inPage, stream, start, payloadStream, whole, sound}
+use Rattle.payload.specs.Entries.{entries, last, used, breaksAt, put, applied}
 use Rattle.payload.specs.Steps.{Follows, Entered}
 use Rattle.payload.specs.StepLaws.{SoundAs, UnsoundAt}
 use Rattle.payload.specs.declared.Step.{Step}

@@ -120,6 +120,32 @@ record Front (n : ℕ) (p : ℤ) (l : List ℕ) : Type 0 where
   pub stops : Stops n (reached p entries) rest
   pub ended : listed (stream n (reached p entries) code rest) ≡ []
 
+-- entries before a stream: what they take, and what they list
+abbrev wide : Form → ℕ
+wide short = 2
+wide long = 4
+
+abbrev prefixed : ℤ → List Spelt → Stream → Stream
+prefixed p [] s = s
+prefixed p (e ∷ es) s = entry (wide (e .form)) (p +ℤ pos (e .jump + 1)) (e .value) (prefixed (p +ℤ pos (e .jump + 1)) es s)
+
+used-prefixed : (p : ℤ) (es : List Spelt) (s : Stream) → used (prefixed p es s) ≡ length (joined es) + used s
+unfolding used le
+used-prefixed p [] s = omega arith
+used-prefixed p (e ∷ es) s = go (e .form) (used-prefixed (p +ℤ pos (e .jump + 1)) es s)
+  where
+    go : (f : Form) → used (prefixed (p +ℤ pos (e .jump + 1)) es s) ≡ length (joined es) + used s
+        → wide f + used (prefixed (p +ℤ pos (e .jump + 1)) es s) ≡ length (bytes f (e .jump) (e .value) ++ joined es) + used s
+    go short r = omega (arith, r)
+    go long r = omega (arith, r)
+
+listed-prefixed : (p : ℤ) (es : List Spelt) (s : Stream) → listed (prefixed p es s) ≡ landed p es ++ listed s
+unfolding listed
+listed-prefixed p [] s = refl
+listed-prefixed p (e ∷ es) s =
+    ap (λ (l : List Listed). record { position = p +ℤ pos (e .jump + 1); value = e .value } ∷ l)
+    (listed-prefixed (p +ℤ pos (e .jump + 1)) es s)
+
 cut-none : (n : ℕ) (p : ℤ) (l : List ℕ) → length l < 3 → listed (stream n p low l) ≡ []
 unfolding stream listed
 cut-none n p [] h = refl
@@ -216,53 +242,39 @@ module _ (n : ℕ) where
       go false e near far = front-short b v (c ∷ d ∷ bs) p (eqb-false b 255 e) (h .0) near
 
   -- entries that stay in the page are read, and reading goes on after them
-  pub used-spelled : (es : List Spelt) (p : ℤ) (rest : List ℕ) → Coded es → Stays n p es
+  read-spelled : (es : List Spelt) (p : ℤ) (rest : List ℕ) → Coded es → Stays n p es
+      → stream n p code (joined es ++ rest) ≡ prefixed p es (stream n (reached p es) code rest)
+  unfolding le stream
+  read-spelled [] p rest c s = refl
+  read-spelled (e ∷ es) p rest c s = go (e .form) (c .0) (read-spelled es (p +ℤ pos (e .jump + 1)) rest (c .1) (s .1))
+    where
+      q : ℤ
+      q = p +ℤ pos (e .jump + 1)
+
+      inp : inPage n q ≡ true
+      inp = inside-page n q (s .0)
+
+      go : (f : Form) → takes f (e .jump)
+          → stream n (p +ℤ pos (e .jump + 1)) code (joined es ++ rest)
+          ≡ prefixed (p +ℤ pos (e .jump + 1)) es (stream n (reached (p +ℤ pos (e .jump + 1)) es) code rest)
+          → stream n p code (bytes f (e .jump) (e .value) ++ joined es ++ rest)
+          ≡ entry (wide f) (p +ℤ pos (e .jump + 1)) (e .value)
+          (prefixed (p +ℤ pos (e .jump + 1)) es (stream n (reached (p +ℤ pos (e .jump + 1)) es) code rest))
+      go short t r =
+          short-in n p (e .jump) (e .value) (joined es ++ rest) (λ z. omega arith) inp ∙ ap (λ (x : Stream). entry 2 q (e .value) x) r
+      go long t r =
+          long-in n p (e .jump % 256) (e .jump / 256 % 256) (e .value) (e .jump) (joined es ++ rest) (two-bytes (e .jump) t) inp
+          ∙ ap (λ (x : Stream). entry 4 q (e .value) x) r
+
+  used-spelled : (es : List Spelt) (p : ℤ) (rest : List ℕ) → Coded es → Stays n p es
       → used (stream n p code (joined es ++ rest)) ≡ length (joined es) + used (stream n (reached p es) code rest)
-  unfolding used le stream
-  used-spelled [] p rest c s = omega arith
-  used-spelled (e ∷ es) p rest c s = go (e .form) (c .0) (used-spelled es (p +ℤ pos (e .jump + 1)) rest (c .1) (s .1))
-    where
-      inp : inPage n (p +ℤ pos (e .jump + 1)) ≡ true
-      inp = inside-page n (p +ℤ pos (e .jump + 1)) (s .0)
+  used-spelled es p rest c s =
+      ap (λ (x : Stream). used x) (read-spelled es p rest c s) ∙ used-prefixed p es (stream n (reached p es) code rest)
 
-      go : (f : Form) → takes f (e .jump)
-          → used (stream n (p +ℤ pos (e .jump + 1)) code (joined es ++ rest))
-          ≡ length (joined es) + used (stream n (reached (p +ℤ pos (e .jump + 1)) es) code rest)
-          → used (stream n p code (bytes f (e .jump) (e .value) ++ joined es ++ rest))
-          ≡ length (bytes f (e .jump) (e .value) ++ joined es) + used (stream n (reached (p +ℤ pos (e .jump + 1)) es) code rest)
-      go short t r =
-          let f = ap (λ (x : Stream). used x) (short-in n p (e .jump) (e .value) (joined es ++ rest) (λ q. omega arith) inp) in
-          omega (arith, f, r)
-      go long t r =
-          let f =
-          ap (λ (x : Stream). used x) (long-in n p (e .jump % 256) (e .jump / 256 % 256) (e .value) (e .jump) (joined es ++ rest)
-          (two-bytes (e .jump) t) inp) in
-          omega (arith, f, r)
-
-  pub listed-spelled : (es : List Spelt) (p : ℤ) (rest : List ℕ) → Coded es → Stays n p es
+  listed-spelled : (es : List Spelt) (p : ℤ) (rest : List ℕ) → Coded es → Stays n p es
       → listed (stream n p code (joined es ++ rest)) ≡ landed p es ++ listed (stream n (reached p es) code rest)
-  unfolding listed le stream
-  listed-spelled [] p rest c s = refl
-  listed-spelled (e ∷ es) p rest c s = go (e .form) (c .0) (listed-spelled es (p +ℤ pos (e .jump + 1)) rest (c .1) (s .1))
-    where
-      inp : inPage n (p +ℤ pos (e .jump + 1)) ≡ true
-      inp = inside-page n (p +ℤ pos (e .jump + 1)) (s .0)
-
-      first : Listed
-      first = record { position = p +ℤ pos (e .jump + 1); value = e .value }
-
-      go : (f : Form) → takes f (e .jump)
-          → listed (stream n (p +ℤ pos (e .jump + 1)) code (joined es ++ rest))
-          ≡ landed (p +ℤ pos (e .jump + 1)) es ++ listed (stream n (reached (p +ℤ pos (e .jump + 1)) es) code rest)
-          → listed (stream n p code (bytes f (e .jump) (e .value) ++ joined es ++ rest))
-          ≡ landed p (e ∷ es) ++ listed (stream n (reached p (e ∷ es)) code rest)
-      go short t r =
-          ap (λ (x : Stream). listed x) (short-in n p (e .jump) (e .value) (joined es ++ rest) (λ q. omega arith) inp)
-          ∙ ap (λ (l : List Listed). first ∷ l) r
-      go long t r =
-          ap (λ (x : Stream). listed x) (long-in n p (e .jump % 256) (e .jump / 256 % 256) (e .value) (e .jump) (joined es ++ rest)
-          (two-bytes (e .jump) t) inp)
-          ∙ ap (λ (l : List Listed). first ∷ l) r
+  listed-spelled es p rest c s =
+      ap (λ (x : Stream). listed x) (read-spelled es p rest c s) ∙ listed-prefixed p es (stream n (reached p es) code rest)
 
 module _ (n : ℕ) (payload : List ℕ) (h : Bytes payload) where
   -- nothing is read where no entry begins
