@@ -53,8 +53,10 @@ else
     TARGET_CC=$CPU-linux-gnu-gcc
     TARGET_CXX=$CPU-linux-gnu-g++
     RUN=qemu-$CPU
-    # Where Debian's cross packages have the target's C library.
-    QEMU_LD_PREFIX=/usr/$CPU-linux-gnu
+    # The target's C library: its own package's where that is there (Rust's library brings it), else
+    # the cross compiler's. A loader of one and a library of the other end every program.
+    QEMU_LD_PREFIX=/
+    [ -e "$LOADER" ] || QEMU_LD_PREFIX=/usr/$CPU-linux-gnu
     CARGO_TARGET=$TRIPLE/
     CARGO_BUILD_TARGET=$TRIPLE
     # The emulator may hang where two threads change mappings at once.
@@ -89,7 +91,7 @@ compiles() {
 missing_to_run() {
     [ -n "$RUN" ] || return 0
     have "$RUN" || echo "an emulator ($RUN)"
-    [ -e "$QEMU_LD_PREFIX$LOADER" ] || [ -e "$LOADER" ] || echo "the C library of $TARGET"
+    [ -e "$QEMU_LD_PREFIX$LOADER" ] || echo "the C library of $TARGET"
 }
 
 missing_for_c() {
