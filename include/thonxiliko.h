@@ -12,9 +12,11 @@
  *
  * thx_format makes both areas empty. A page is written with thx_write and read back with thx_read,
  * always together with its page in the base. thx_build checks a whole store and makes a map that
- * tells for each block where its page is. thx_show and thx_next look into a slot: where its bytes
- * lie, and what they say. Both areas and all pages are the caller's memory. The library opens no
- * file, allocates nothing and keeps nothing between two calls.
+ * tells for each block where its page is. A program that keeps this map lends it to every write, by
+ * thx_write_mapped, and may then read by it, with thx_read_mapped. thx_show and thx_next look into
+ * a slot: where its bytes lie, and what they say. Both areas, the map and all pages are the
+ * caller's memory. The library opens no file, allocates nothing and keeps nothing between two
+ * calls.
  *
  *
  * LINKING
@@ -25,8 +27,8 @@
  *
  *   cc -I include program.c target/staticlib/libthonxiliko.a -o program
  *
- * A call takes less than 10 KiB of stack. thx_compare, thx_apply, thx_read and thx_write keep room
- * for a page of zeros there; the others take less than 1 KiB.
+ * A call takes less than 10 KiB of stack. thx_compare, thx_apply and the reads and writes of blocks
+ * keep room for a page of zeros there; the others take less than 1 KiB.
  *
  *
  * SIZES (bytes)
@@ -77,6 +79,32 @@
  * one with more than 252 never does.
  *
  *
+ * A MAP THAT IS KEPT
+ *
+ * A map has two bits for each block, a pair: block b in bits 2 * (b mod 4) and up of byte b / 4.
+ * It is 0 for EMPTY, 2 for PATCH, 1 for FULL_REF, and never 3. thx_build looks at every slot to
+ * make it. To keep it instead:
+ *
+ *   - begin with n / 4 bytes, rounded up, of zeros beside areas that were just formatted, or with
+ *     the map that thx_build makes of areas that come from elsewhere, from disk for instance;
+ *   - lend it to EVERY write from then on, by thx_write_mapped;
+ *   - then it is, after each of these writes, the map that thx_build would make, and
+ *     thx_read_mapped answers as thx_read does. A refused write leaves it as it is, and right.
+ *
+ * Nothing in a map says which store it belongs to or how old it is, and thx_read_mapped trusts it.
+ * A single write by thx_write, a thx_format, a map of another store, or areas put back to an
+ * earlier state make it wrong, and a read by it is then mostly not refused:
+ *
+ *   pair 0   gives the base, though the block was written: yesterday's page, in silence. The slot
+ *            is not looked at.
+ *   pair 1   gives what stands in the block's place, zeros for instance. The slot is not looked at.
+ *   pair 2   is refused with 6 unless the slot is a sound PATCH slot; with another sound PATCH slot
+ *            it is as right as that slot.
+ *
+ * Where a map may have missed a write, build it anew. Do not keep it in a file that can be older
+ * than the areas: opening a store is the time to build it.
+ *
+ *
  * ANSWERS
  *
  * Every function but thx_show, which has no number, answers with a struct whose first member
@@ -99,6 +127,7 @@
  *
  * Order. Where several refusals apply, the first one in this order is given:
  *   1, 2, 9, headers, 5, 6, 8, 7, 10, 11.
+ * thx_read_mapped alone has 11 elsewhere, right after 5: it looks at the pair before the slot.
  * "Headers" is six steps: patch magic (3), patch version (4), the rest of the patch header (3),
  * then the same three for the full header. A full area of length 0 has no header to check.
  * thx_build takes blocks in rising order and stops at the first that is at fault.
@@ -107,7 +136,7 @@
  * (`last` too), with two exceptions:
  *
  *   thx_build gives the block with 6, 7, 8 and 10;
- *   thx_apply, thx_read and thx_build give the offset with 7.
+ *   thx_apply, thx_read, thx_read_mapped and thx_build give the offset with 7.
  *
  * A refusal is given whenever its condition holds and no earlier one does, and at no other time.
  * thx_next is no part of this: it has an order of its own, and where it gives no entry it stands
@@ -132,7 +161,8 @@
  * Threads. Two calls may run at the same time if no buffer that one of them writes is lent to the
  * other, not even a part of it. So calls that only read the same buffers may: for instance two of
  * thx_read on one store, into two pages. Two of thx_write on one store may not, even for different
- * blocks. The library takes no lock.
+ * blocks, nor two of thx_write_mapped with one map: four blocks share a byte of it. The library
+ * takes no lock.
  *
  * Numbers may be anything that their type holds: a block or an n that is too large is refused, and
  * thx_next takes any place and any position.
@@ -171,12 +201,12 @@ extern "C" {
 #define THX_STRAY_PAGE 10
 #define THX_BAD_PAIR 11
 
-/* Kinds of a slot, in the answers of thx_judge, thx_read and thx_write. */
+/* Kinds of a slot, in the answers of thx_judge and of the reads and writes. */
 #define THX_KIND_EMPTY 0
 #define THX_KIND_PATCH 1
 #define THX_KIND_FULL 2
 
-/* Kinds of a difference, in the answer of thx_compare; thx_write makes the slot of that number. */
+/* Kinds of a difference, in the answer of thx_compare; a write makes the slot of that number. */
 #define THX_DIFFERENCE_SAME 0
 #define THX_DIFFERENCE_PATCH 1
 #define THX_DIFFERENCE_LARGE 2
@@ -326,9 +356,47 @@ thx_written thx_write(uint8_t *patch, size_t patch_len, uint8_t *full, size_t fu
                       size_t page_len);
 
 /*
+ * Write with a map: keep `page` as the block's page, and the block's pair in `map`.
+ *
+ * The areas and the answer are those of thx_write. `map` is the store's own, lent to every write:
+ * see A MAP THAT IS KEPT.
+ * Refuses, in this order: 1 if base_len is not 0 or 8,192 or page_len is not 8,192; 2 if the length
+ * of an area is wrong; 9 if map_len is below n / 4, rounded up; 3 or 4 for the headers; 5 if the
+ * block is not below n; 8 if the page needs the full area and the block is not below m.
+ * Writes: what thx_write writes; then the block's own pair, whatever it was: THX_PAIR_EMPTY,
+ * THX_PAIR_PATCH or THX_PAIR_FULL for the kind stored. Nothing else of the map is looked at or
+ * changed: other pairs, unused pairs of the last byte and later bytes stay, a 3 among them too.
+ * Answers: kind and length, as in thx_write.
+ */
+thx_written thx_write_mapped(uint8_t *patch, size_t patch_len, uint8_t *full, size_t full_len,
+                             uint8_t *map, size_t map_len, uint64_t block, const uint8_t *base,
+                             size_t base_len, const uint8_t *page, size_t page_len);
+
+/*
+ * Read by the map: fill `page` with a block as its pair in the map says.
+ *
+ * It trusts the map: with one that missed a write it can give yesterday's page. See A MAP THAT IS
+ * KEPT. `base` is the block's page in the base, the same that it was written with.
+ * Refuses, in this order: 1 if base_len is not 0 or 8,192 or page_len is not 8,192; 2 if the length
+ * of an area is wrong; 9 if map_len is below n / 4, rounded up; 3 or 4 for the headers; 5 if the
+ * block is not below n; 11 if the block's own pair is 3; and then
+ *   for THX_PAIR_EMPTY   nothing: neither slot nor place is looked at;
+ *   for THX_PAIR_PATCH   6 if the slot is not a sound PATCH slot; 7 if its payload is not sound;
+ *   for THX_PAIR_FULL    8 if the block is not below m. The slot is not looked at.
+ * Other blocks and their pairs are not looked at.
+ * Writes: all 8,192 bytes of `page`: the base for EMPTY, the base with the payload's entries for
+ * PATCH, the block's page in the full area for FULL.
+ * Answers: kind    the one that the pair stands for: 0, 1 or 2 for pair 0, 2 or 1;
+ *          offset  with 7, where the block's payload breaks; else 0.
+ */
+thx_reading thx_read_mapped(const uint8_t *patch, size_t patch_len, const uint8_t *full,
+                            size_t full_len, const uint8_t *map, size_t map_len, uint64_t block,
+                            const uint8_t *base, size_t base_len, uint8_t *page, size_t page_len);
+
+/*
  * Build: check every block and make the block map.
  *
- * The map has two bits for each block, a pair: block b in bits 2 * (b mod 4) and up of byte b / 4.
+ * The map is as described in A MAP THAT IS KEPT.
  * Refuses, in this order: 2 if the length of an area is wrong; 9 if map_len is below n / 4, rounded
  * up; 3 or 4 for the headers; then block by block in rising order, stopping at the first fault, and
  * for one block 6 if its slot is not sound, 8 if it is FULL_REF and not below m, 7 if its payload

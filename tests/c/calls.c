@@ -9,8 +9,9 @@
  *
  * The base is zeros but for byte 100. Compare and Write get a page by the block: for block 0 the
  * base itself, for block 1 the base with byte 0 changed, for block 2 the fives. So Write changes
- * the kind of every block. A map has the pairs PATCH, full, EMPTY, EMPTY over and over. All bytes
- * are set by hand from document 01. A buffer that a call only writes to is full of EE before.
+ * the kind of every block. A map has the pairs PATCH, full, EMPTY, EMPTY over and over, which is the
+ * map of the three blocks. All bytes are set by hand from document 01. A buffer that a call only
+ * writes to is full of EE before.
  */
 #include "check.h"
 
@@ -38,6 +39,9 @@ static const struct {
     {"thx_look_up", BIT(MAP), 0},
     {"thx_tally", BIT(MAP), 0},
     {"thx_next", BIT(PAYLOAD), 0},
+    {"thx_write_mapped", BIT(PATCH) | BIT(FULL) | BIT(MAP) | BIT(BASE) | BIT(PAGE),
+     BIT(PATCH) | BIT(FULL) | BIT(MAP)},
+    {"thx_read_mapped", BIT(PATCH) | BIT(FULL) | BIT(MAP) | BIT(BASE) | BIT(PAGE), BIT(PAGE)},
 };
 
 int takes(int call, int role) {
@@ -85,8 +89,9 @@ ask sound_ask(int call) {
 
 /* The bytes that a buffer has before the call, but for those made wrong. */
 static const uint8_t *before(const ask *a, int role) {
-    /* Write's areas hold the store; the other buffers that are written may hold anything. */
-    if ((calls[a->call].writes & BIT(role)) != 0 && a->call != WRITE) {
+    /* A write's areas and map hold the store; other buffers that are written may hold anything. */
+    int keeps = a->call == WRITE || a->call == WRITE_MAPPED;
+    if ((calls[a->call].writes & BIT(role)) != 0 && !keeps) {
         return old;
     }
     switch (role) {
@@ -126,6 +131,16 @@ static answer call_on_areas(const ask *a, uint8_t *const at[ROLES]) {
         thx_written r = thx_write(at[PATCH], len[PATCH], at[FULL], len[FULL], a->block, at[BASE],
                                   len[BASE], at[PAGE], len[PAGE]);
         return give(r.number, r.kind, r.length, 0, 0);
+    } else if (a->call == WRITE_MAPPED) {
+        thx_written r = thx_write_mapped(at[PATCH], len[PATCH], at[FULL], len[FULL], at[MAP],
+                                         len[MAP], a->block, at[BASE], len[BASE], at[PAGE],
+                                         len[PAGE]);
+        return give(r.number, r.kind, r.length, 0, 0);
+    } else if (a->call == READ_MAPPED) {
+        thx_reading r = thx_read_mapped(at[PATCH], len[PATCH], at[FULL], len[FULL], at[MAP],
+                                        len[MAP], a->block, at[BASE], len[BASE], at[PAGE],
+                                        len[PAGE]);
+        return give(r.number, r.kind, r.offset, 0, 0);
     } else {
         thx_built r = thx_build(at[PATCH], len[PATCH], at[FULL], len[FULL], at[MAP], len[MAP]);
         return give(r.number, (int64_t)r.block, r.offset, 0, 0);

@@ -3,7 +3,7 @@
  *
  * Most calls are made on one scene, a sound store of three blocks with pages and a map (calls.c).
  * An ask is a call with its lengths and numbers, perhaps with a byte or two made wrong. What an ask
- * without wrong bytes must give is in rules.c, written from document 01.
+ * without wrong bytes must give is in rules.c, written from document 01 and Request 02.
  */
 #ifndef CHECK_H
 #define CHECK_H
@@ -14,7 +14,10 @@
 void check(int holds, const char *what, const char *file, int line);
 #define CHECK(condition) check((condition) ? 1 : 0, #condition, __FILE__, __LINE__)
 
-enum { FORMAT, COMPARE, APPLY, JUDGE, SHOW, READ, WRITE, BUILD, LOOK_UP, TALLY, NEXT, CALLS };
+enum {
+    FORMAT, COMPARE, APPLY, JUDGE, SHOW, READ, WRITE, BUILD, LOOK_UP, TALLY, NEXT,
+    WRITE_MAPPED, READ_MAPPED, CALLS
+};
 enum { PATCH, FULL, BASE, PAGE, PAYLOAD, MAP, SLOT, ROLES };
 #define BIT(number) (1u << (number))
 
@@ -52,11 +55,12 @@ void try_call(const ask *asked, const answer *wanted);
 answer answer_of(const ask *asked);
 void change(const ask *asked, uint8_t *const bytes[ROLES]);
 
-/* refusals.c, lengths.c and payloads.c: tests. */
+/* refusals.c, lengths.c, payloads.c and maps.c: tests. */
 void every_refusal(void);
 void every_length(void);
 void every_number(void);
 void every_step(void);
 void every_payload(void);
+void every_map(void);
 
 #endif

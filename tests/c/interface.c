@@ -152,6 +152,38 @@ static void example_map(void) {
     CHECK(tallied.number == THX_DONE && tallied.patch == 1 && tallied.full == 1);
 }
 
+/* The same store with a map kept: it is the built one, and reads by it are those of thx_read. */
+static void example_kept_map(void) {
+    static uint8_t kept[1];
+    thx_written written;
+    thx_reading reading;
+
+    CHECK(thx_format(patch, sizeof patch, full, sizeof full).number == THX_DONE);
+    written = thx_write_mapped(patch, sizeof patch, full, sizeof full, kept, sizeof kept, 0, base,
+                               sizeof base, page, sizeof page);
+    CHECK(written.number == THX_DONE && written.kind == THX_KIND_FULL && written.length == 16384);
+    CHECK(kept[0] == 0x01 && memcmp(full + THX_FULL_HEADER_SIZE, page, sizeof page) == 0);
+    memset(again, 0, sizeof again);
+    again[0] = 7;
+    written = thx_write_mapped(patch, sizeof patch, full, sizeof full, kept, sizeof kept, 1, NULL,
+                               0, again, sizeof again);
+    CHECK(written.number == THX_DONE && written.kind == THX_KIND_PATCH && written.length == 2);
+    CHECK(kept[0] == 0x09 && memcmp(patch + 1032, stream, 2) == 0);
+    map[0] = 0xEE;
+    CHECK(thx_build(patch, sizeof patch, full, sizeof full, map, sizeof map).number == THX_DONE);
+    CHECK(map[0] == kept[0]);
+
+    memset(again, 0xEE, sizeof again);
+    reading = thx_read_mapped(patch, sizeof patch, full, sizeof full, kept, sizeof kept, 0, NULL, 0,
+                              again, sizeof again);
+    CHECK(reading.number == THX_DONE && reading.kind == THX_KIND_FULL && reading.offset == 0);
+    CHECK(memcmp(again, page, sizeof page) == 0);
+    reading = thx_read_mapped(patch, sizeof patch, full, sizeof full, kept, sizeof kept, 1, base,
+                              sizeof base, again, sizeof again);
+    CHECK(reading.number == THX_DONE && reading.kind == THX_KIND_PATCH && reading.offset == 0);
+    CHECK(again[0] == 7 && memcmp(again + 1, base + 1, sizeof again - 1) == 0);
+}
+
 /* Buffers that a call only reads may be the same or overlap. */
 static void overlap(void) {
     thx_reading reading;
@@ -161,6 +193,14 @@ static void overlap(void) {
                        sizeof again);
     CHECK(reading.number == THX_DONE && reading.kind == THX_KIND_FULL);
     CHECK(memcmp(again, inside, sizeof again) == 0);
+    /* A map in the header's zeros, and as the base. */
+    reading = thx_read_mapped(patch, sizeof patch, full, sizeof full, full + 100, 1, 0, inside,
+                              THX_PAGE_SIZE, again, sizeof again);
+    CHECK(reading.number == THX_DONE && reading.kind == THX_KIND_EMPTY);
+    CHECK(memcmp(again, inside, sizeof again) == 0);
+    reading = thx_read_mapped(patch, sizeof patch, full, sizeof full, base, sizeof base, 1, base,
+                              sizeof base, again, sizeof again);
+    CHECK(reading.number == THX_DONE && memcmp(again, base, sizeof again) == 0);
 }
 
 /* The archive takes each size of the header, and neither a byte less nor a byte more. */
@@ -219,6 +259,27 @@ static void largest_area(uint8_t *area, size_t length, uint8_t *bits) {
     CHECK(tallied.number == THX_DONE && tallied.patch == 1 && tallied.full == 0);
 }
 
+/* The same area, written with its map and read by it. The map has no byte too many. */
+static void largest_map(uint8_t *area, size_t length, uint8_t *bits) {
+    CHECK(thx_write_mapped(area, length, NULL, 0, bits, 32767, 131070, NULL, 0, again, 8192).number
+          == THX_SHORT_BUFFER);
+    CHECK(thx_write_mapped(area, length, NULL, 0, bits, 32768, 131072, NULL, 0, again, 8192).number
+          == THX_BAD_BLOCK);
+    CHECK(bits[32767] == 0x80);
+    CHECK(thx_write_mapped(area, length, NULL, 0, bits, 32768, 131070, NULL, 0, again, 8192).length
+          == 4);
+    CHECK(bits[0] == 0 && memcmp(bits, bits + 1, 32766) == 0 && bits[32767] == 0xA0);
+    memset(page, 0xEE, sizeof page);
+    CHECK(thx_read_mapped(area, length, NULL, 0, bits, 32767, 131070, NULL, 0, page, 8192).number
+          == THX_SHORT_BUFFER);
+    CHECK(page[0] == 0xEE && memcmp(page, page + 1, sizeof page - 1) == 0);
+    CHECK(thx_read_mapped(area, length, NULL, 0, bits, 32768, 131070, NULL, 0, page, 8192).kind
+          == THX_KIND_PATCH);
+    CHECK(memcmp(page, again, sizeof page) == 0);
+    CHECK(thx_read_mapped(area, length, NULL, 0, bits, 32768, 131069, NULL, 0, page, 8192).kind
+          == THX_KIND_EMPTY);
+}
+
 /* The same area with a block more is refused by every call that takes it. */
 static void too_large_area(uint8_t *area, size_t length, uint8_t *bits) {
     thx_part part = thx_show(area, length, 131071);
@@ -228,6 +289,11 @@ static void too_large_area(uint8_t *area, size_t length, uint8_t *bits) {
     CHECK(thx_write(area, length, NULL, 0, 131071, NULL, 0, page, 8192).number
           == THX_BAD_AREA_LENGTH);
     CHECK(thx_build(area, length, NULL, 0, bits, 32768).number == THX_BAD_AREA_LENGTH);
+    /* n is too large before the map is too short for it. */
+    CHECK(thx_write_mapped(area, length, NULL, 0, bits, 32768, 0, NULL, 0, page, 8192).number
+          == THX_BAD_AREA_LENGTH);
+    CHECK(thx_read_mapped(area, length, NULL, 0, bits, 32768, 0, NULL, 0, page, 8192).number
+          == THX_BAD_AREA_LENGTH);
     CHECK(thx_format(area, length, NULL, 0).number == THX_BAD_AREA_LENGTH);
     CHECK(memcmp(area, "PBKPATCH\2", 9) == 0 && area[67108864] == 1);
 }
@@ -242,6 +308,7 @@ static void largest(void) {
     }
     memset(bits, 0xEE, 32768);
     largest_area(area, length, bits);
+    largest_map(area, length, bits);
     too_large_area(area, length + 512, bits);
     free(area);
     free(bits);
@@ -254,6 +321,7 @@ int main(void) {
         example_page();
         example_block();
         example_map();
+        example_kept_map();
         overlap();
         sizes();
         largest();
@@ -262,6 +330,7 @@ int main(void) {
         every_number();
         every_step();
         every_payload();
+        every_map();
     }
     printf("%lu checks, %lu failed\n", checks, failures);
     return failures == 0 ? EXIT_SUCCESS : EXIT_FAILURE;

@@ -40,6 +40,11 @@ void every_length(void) {
             }
             for (a.block = 0; a.block < 3; a.block++) {
                 sweep(a, role);
+                if (takes(call, MAP) && takes(call, PATCH) && role == PATCH) {
+                    ask longer = a; /* enough for every length of the patch area */
+                    longer.length[MAP] = 20;
+                    sweep(longer, role);
+                }
                 if (takes(call, FULL) && role != FULL) {
                     ask without = a;
                     without.length[FULL] = 0;
@@ -81,7 +86,7 @@ void every_step(void) {
 
 /* Where a number could be cut to 31 or 32 bits, or a product with 512 or 8,192 could wrap. */
 static const uint64_t numbers[] = {
-    0, 1, 2, 3, 4, 5, 1999, 2000, 131071, 131072, 131073,
+    0, 1, 2, 3, 4, 5, 8, 1999, 2000, 131071, 131072, 131073,
     UINT64_C(0x7FFFFFFF), UINT64_C(0x80000000), UINT64_C(0xFFFFFFFF),
     UINT64_C(0x100000000), UINT64_C(0x100000001), UINT64_C(0x100000002),
     UINT64_C(1) << 51, UINT64_C(1) << 55, (UINT64_C(1) << 55) + 1,
@@ -137,6 +142,25 @@ static void blocks_of_a_store(ask a) {
     }
 }
 
+/* Every block in areas of up to nine blocks, and maps of every length around what they want. */
+static void blocks_of_a_mapped_store(ask a) {
+    static const size_t fulls[] = {0, 4096, 12288, 20480, 36864};
+    size_t block, n, full, map;
+    for (block = 0; block < NUMBERS; block++) {
+        for (n = 0; n <= 9; n++) {
+            for (map = 0; map <= 4; map++) {
+                for (full = 0; full < 5; full++) {
+                    a.block = numbers[block];
+                    a.length[PATCH] = 512 + 512 * n;
+                    a.length[FULL] = fulls[full];
+                    a.length[MAP] = map;
+                    try_by_rules(&a);
+                }
+            }
+        }
+    }
+}
+
 void every_number(void) {
     int call;
     for (call = 0; call < CALLS; call++) {
@@ -148,6 +172,10 @@ void every_number(void) {
             blocks_of_a_store(a);
             a.length[BASE] = 0;
             blocks_of_a_store(a);
+        } else if (call == WRITE_MAPPED || call == READ_MAPPED) {
+            blocks_of_a_mapped_store(a);
+            a.length[BASE] = 0;
+            blocks_of_a_mapped_store(a);
         }
     }
 }

@@ -22,12 +22,18 @@ typedef struct {
 /* The block does not matter. */
 #define ANY UINT64_MAX
 
-#define PAGES (BIT(COMPARE) | BIT(APPLY) | BIT(READ) | BIT(WRITE))
-#define AREAS (BIT(READ) | BIT(WRITE) | BIT(BUILD))
+#define MAPPED (BIT(WRITE_MAPPED) | BIT(READ_MAPPED))
+#define PAGES (BIT(COMPARE) | BIT(APPLY) | BIT(READ) | BIT(WRITE) | MAPPED)
+#define AREAS (BIT(READ) | BIT(WRITE) | BIT(BUILD) | MAPPED)
+#define BLOCKS (BIT(SHOW) | BIT(READ) | BIT(WRITE) | MAPPED)
 #define SLOTS (BIT(SHOW) | BIT(READ) | BIT(BUILD))
+#define READS (BIT(READ) | BIT(READ_MAPPED))
 #define MAPS (BIT(LOOK_UP) | BIT(TALLY))
 
-/* In the order of document 01: of two rows for one call the upper one is given. */
+/*
+ * In the order of document 01: of two rows for one call the upper one is given. A read by the map
+ * gives 11 after 5. Where the map says PATCH, as of block 0, its 6 and 7 are Read's.
+ */
 static const row rows[] = {
     {PAGES, THX_BAD_PAGE_LENGTH, 1, LENGTH, BASE, 8191, 0, ANY, 0},
     {PAGES, THX_BAD_PAGE_LENGTH, 1, LENGTH, PAGE, 8191, 0, ANY, 0},
@@ -37,7 +43,7 @@ static const row rows[] = {
     {BIT(JUDGE), THX_BAD_AREA_LENGTH, 2, LENGTH, SLOT, 511, 0, ANY, 0},
     {MAPS, THX_BAD_AREA_LENGTH, 2, COUNT, 0, 131073, 0, ANY, 0},
     {BIT(COMPARE), THX_SHORT_BUFFER, 9, LENGTH, PAYLOAD, 503, 0, ANY, 0},
-    {MAPS | BIT(BUILD), THX_SHORT_BUFFER, 9, LENGTH, MAP, 0, 0, ANY, 0},
+    {MAPS | BIT(BUILD) | MAPPED, THX_SHORT_BUFFER, 9, LENGTH, MAP, 0, 0, ANY, 0},
     {AREAS | BIT(SHOW), THX_BAD_HEADER, 3, BYTE, PATCH, 0, 'b', ANY, 0},
     {AREAS | BIT(SHOW), THX_BAD_VERSION, 4, BYTE, PATCH, 8, 1, ANY, 0},
     {AREAS | BIT(SHOW), THX_BAD_HEADER, 3, BYTE, PATCH, 10, 1, ANY, 0},
@@ -50,26 +56,31 @@ static const row rows[] = {
     {AREAS, THX_BAD_HEADER, 3, BYTE, FULL, 13, 0, ANY, 0},
     {AREAS, THX_BAD_HEADER, 3, BYTE, FULL, 17, 2, ANY, 0},
     {AREAS, THX_BAD_HEADER, 3, BYTE, FULL, 4095, 1, ANY, 0},
-    {BIT(SHOW) | BIT(READ) | BIT(WRITE), THX_BAD_BLOCK, 5, BLOCK, 0, 0, 0, 5, 0}, /* a large page */
-    {BIT(LOOK_UP), THX_BAD_BLOCK, 5, BLOCK, 0, 0, 0, 3, 0},
+    {BLOCKS, THX_BAD_BLOCK, 5, BLOCK, 0, 0, 0, 5, 0}, /* a large page */
+    {BIT(LOOK_UP) | MAPPED, THX_BAD_BLOCK, 5, BLOCK, 0, 0, 0, 3, 0},
+    {BIT(READ_MAPPED), THX_BAD_PAIR, 11, BYTE, MAP, 0, 0x07, 0, 0},
+    {BIT(READ_MAPPED), THX_BAD_PAIR, 11, BYTE, MAP, 0, 0x0E, 1, 0},
+    {BIT(READ_MAPPED), THX_BAD_PAIR, 11, BYTE, MAP, 0, 0x36, 2, 0},
+    {BIT(READ_MAPPED), THX_BAD_SLOT, 6, BYTE, MAP, 0, 0x0A, 1, 0}, /* PATCH over FULL_REF */
+    {BIT(READ_MAPPED), THX_BAD_SLOT, 6, BYTE, MAP, 0, 0x26, 2, 0}, /* PATCH over EMPTY */
     {BIT(JUDGE), THX_BAD_SLOT, 6, BYTE, SLOT, 0, 3, 0, 0},
     {BIT(JUDGE), THX_BAD_SLOT, 6, BYTE, SLOT, 2, 0, 0, 0},   /* payload length 0 */
     {BIT(JUDGE), THX_BAD_SLOT, 6, BYTE, SLOT, 511, 1, 1, 0}, /* FULL_REF is zero but for its kind */
     {BIT(JUDGE), THX_BAD_SLOT, 6, BYTE, SLOT, 8, 1, 2, 0},   /* EMPTY is zero */
-    {SLOTS, THX_BAD_SLOT, 6, BYTE, PATCH, 512, 3, 0, 0},
-    {SLOTS, THX_BAD_SLOT, 6, BYTE, PATCH, 513, 0, 0, 0},
-    {SLOTS, THX_BAD_SLOT, 6, BYTE, PATCH, 515, 2, 0, 0}, /* payload length 514 */
-    {SLOTS, THX_BAD_SLOT, 6, BYTE, PATCH, 519, 1, 0, 0},
-    {SLOTS, THX_BAD_SLOT, 6, BYTE, PATCH, 1023, 1, 0, 0}, /* not zero after the payload */
+    {SLOTS | BIT(READ_MAPPED), THX_BAD_SLOT, 6, BYTE, PATCH, 512, 3, 0, 0},
+    {SLOTS | BIT(READ_MAPPED), THX_BAD_SLOT, 6, BYTE, PATCH, 513, 0, 0, 0},
+    {SLOTS | BIT(READ_MAPPED), THX_BAD_SLOT, 6, BYTE, PATCH, 515, 2, 0, 0}, /* payload length 514 */
+    {SLOTS | BIT(READ_MAPPED), THX_BAD_SLOT, 6, BYTE, PATCH, 519, 1, 0, 0},
+    {SLOTS | BIT(READ_MAPPED), THX_BAD_SLOT, 6, BYTE, PATCH, 1023, 1, 0, 0}, /* not zero after the payload */
     {SLOTS, THX_BAD_SLOT, 6, BYTE, PATCH, 1535, 1, 1, 0},
     {SLOTS, THX_BAD_SLOT, 6, BYTE, PATCH, 1536, 4, 2, 0},
-    {BIT(READ) | BIT(BUILD), THX_NO_FULL_PAGE, 8, LENGTH, FULL, 12288, 0, 1, 0},
-    {BIT(WRITE), THX_NO_FULL_PAGE, 8, LENGTH, FULL, 20480, 0, 2, 0},
+    {READS | BIT(BUILD), THX_NO_FULL_PAGE, 8, LENGTH, FULL, 12288, 0, 1, 0},
+    {BIT(WRITE) | BIT(WRITE_MAPPED), THX_NO_FULL_PAGE, 8, LENGTH, FULL, 20480, 0, 2, 0},
     {BIT(APPLY), THX_BAD_PAYLOAD, 7, LENGTH, PAYLOAD, 505, 0, 0, 0},
     {BIT(APPLY), THX_BAD_PAYLOAD, 7, BYTE, PAYLOAD, 0, 255, 0, 0}, /* ends inside its entry */
     {BIT(APPLY), THX_BAD_PAYLOAD, 7, LENGTH, PAYLOAD, 3, 0, 0, 2}, /* ends inside the next entry */
-    {BIT(READ) | BIT(BUILD), THX_BAD_PAYLOAD, 7, BYTE, PATCH, 520, 255, 0, 0},
-    {BIT(READ) | BIT(BUILD), THX_BAD_PAYLOAD, 7, BYTE, PATCH, 514, 3, 0, 2}, /* payload length 3 */
+    {READS | BIT(BUILD), THX_BAD_PAYLOAD, 7, BYTE, PATCH, 520, 255, 0, 0},
+    {READS | BIT(BUILD), THX_BAD_PAYLOAD, 7, BYTE, PATCH, 514, 3, 0, 2}, /* payload length 3 */
     {BIT(BUILD), THX_STRAY_PAGE, 10, BYTE, FULL, 4096, 1, 0, 0},
     {BIT(BUILD), THX_STRAY_PAGE, 10, BYTE, FULL, 28671, 1, 2, 0},
     {MAPS, THX_BAD_PAIR, 11, BYTE, MAP, 0, 0xC7, 0, 0}, /* the pairs of blocks 0 and 3 are 3 */
@@ -114,7 +125,7 @@ static void try_refusal(const ask *a, const row *r) {
     if (a->call == BUILD) {
         wanted.rest[0] = r->block != ANY ? (int64_t)r->block : 0;
         wanted.rest[1] = r->offset;
-    } else if (a->call == READ) {
+    } else if (a->call == READ || a->call == READ_MAPPED) {
         wanted.rest[1] = r->offset;
     } else if (a->call == APPLY) {
         wanted.rest[2] = r->offset;

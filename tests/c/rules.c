@@ -1,5 +1,5 @@
 /*
- * Document 01 for the asks of the scene in calls.c: the number, the other members of the answer and
+ * Documents 01 and 02 for the asks of the scene in calls.c: the number, the other members of the answer and
  * the bytes after a call that is done. Lengths are as document 01 writes them. Numbers, kinds and
  * pairs are by the header's names, so that the archive is held against the names.
  */
@@ -32,6 +32,31 @@ static const difference *page_difference(const ask *a) {
 /* The kind of the scene's slot of a block. */
 static uint32_t slot_kind(uint64_t block) {
     return block == 0 ? THX_KIND_PATCH : block == 1 ? THX_KIND_FULL : THX_KIND_EMPTY;
+}
+
+/* The pair of a block in the scene's map, and the kind that it stands for. */
+static uint32_t pair_of(uint64_t block) {
+    static const uint32_t pairs[4] = {THX_PAIR_PATCH, THX_PAIR_FULL, THX_PAIR_EMPTY,
+                                      THX_PAIR_EMPTY};
+    return pairs[block % 4];
+}
+
+static uint32_t pair_kind(uint64_t block) {
+    static const uint32_t kinds[3] = {THX_KIND_EMPTY, THX_KIND_FULL, THX_KIND_PATCH};
+    return kinds[pair_of(block)];
+}
+
+/* The kind by which a block is read. */
+static uint32_t read_kind(const ask *a) {
+    return a->call == READ_MAPPED ? pair_kind(a->block) : slot_kind(a->block);
+}
+
+static int reads(int call) {
+    return call == READ || call == READ_MAPPED;
+}
+
+static int writes(int call) {
+    return call == WRITE || call == WRITE_MAPPED;
 }
 
 /* How many blocks there are: as told, or seen in the patch area. */
@@ -102,17 +127,25 @@ static uint32_t step_refusal(const ask *a) {
     return THX_DONE;
 }
 
-/* 5, 8, 7 and 11, once the lengths are right. The headers and slots of the scene are sound. */
+/*
+ * 5, 6, 8, 7 and 11, once the lengths are right. The headers and slots of the scene are sound, and
+ * no pair of its map is 3.
+ */
 static uint32_t later_refusal(const ask *a) {
     size_t payload = a->length[PAYLOAD];
-    int has_block = a->call == SHOW || a->call == READ || a->call == WRITE || a->call == LOOK_UP;
+    int has_block = a->call == SHOW || reads(a->call) || writes(a->call) || a->call == LOOK_UP;
     if (has_block && a->block >= blocks(a)) {
         return THX_BAD_BLOCK;
     }
-    if (a->call == READ && slot_kind(a->block) == THX_KIND_FULL && a->block >= places(a)) {
+    /* Where the map says PATCH the slot must be one. */
+    if (a->call == READ_MAPPED && pair_of(a->block) == THX_PAIR_PATCH
+        && slot_kind(a->block) != THX_KIND_PATCH) {
+        return THX_BAD_SLOT;
+    }
+    if (reads(a->call) && read_kind(a) == THX_KIND_FULL && a->block >= places(a)) {
         return THX_NO_FULL_PAGE;
     }
-    if (a->call == WRITE && a->block % 3 == 2 && a->block >= places(a)) {
+    if (writes(a->call) && a->block % 3 == 2 && a->block >= places(a)) {
         return THX_NO_FULL_PAGE;
     }
     if (a->call == BUILD && blocks(a) > 1 && places(a) < 2) {
@@ -134,11 +167,9 @@ static uint32_t later_refusal(const ask *a) {
 
 /* The other members of the answer of a call that is done. */
 static void set_members(const ask *a, int64_t rest[4]) {
-    static const uint32_t pairs[4] = {THX_PAIR_PATCH, THX_PAIR_FULL, THX_PAIR_EMPTY,
-                                      THX_PAIR_EMPTY};
     const difference *differs = page_difference(a);
     uint32_t kind = slot_kind(a->block);
-    if (a->call == COMPARE || a->call == WRITE) {
+    if (a->call == COMPARE || writes(a->call)) {
         rest[0] = differs->kind;
         rest[1] = differs->length;
         rest[2] = a->call == COMPARE ? differs->entries : 0;
@@ -152,10 +183,10 @@ static void set_members(const ask *a, int64_t rest[4]) {
     } else if (a->call == SHOW && kind == THX_KIND_PATCH) {
         rest[0] = 520;
         rest[1] = 2;
-    } else if (a->call == READ) {
-        rest[0] = kind;
+    } else if (reads(a->call)) {
+        rest[0] = read_kind(a);
     } else if (a->call == LOOK_UP) {
-        rest[0] = pairs[a->block % 4];
+        rest[0] = pair_of(a->block);
     } else if (a->call == TALLY) {
         rest[0] = (int64_t)(a->n + 3) / 4;
         rest[1] = (int64_t)(a->n + 2) / 4;
@@ -208,7 +239,7 @@ static void format_bytes(const ask *a, uint8_t *const bytes[ROLES]) {
 
 /* The base or zeros, with sevens from the payload's entries; or the page in the full area. */
 static void page_bytes(const ask *a, uint8_t *const bytes[ROLES]) {
-    uint32_t kind = a->call == APPLY ? THX_KIND_PATCH : slot_kind(a->block);
+    uint32_t kind = a->call == APPLY ? THX_KIND_PATCH : read_kind(a);
     memset(bytes[PAGE], 0, 8192);
     if (a->length[BASE] != 0) {
         memcpy(bytes[PAGE], bytes[BASE], 8192);
@@ -236,15 +267,27 @@ static void write_bytes(const ask *a, uint8_t *const bytes[ROLES]) {
     }
 }
 
+/* The block's own pair for the kind that was written: its two bits of its byte, and no others. */
+static void pair_bytes(const ask *a, uint8_t *const bytes[ROLES]) {
+    static const uint8_t others[4] = {0xFC, 0xF3, 0xCF, 0x3F};
+    static const uint8_t own[3][4] = {
+        {0x00, 0x00, 0x00, 0x00}, {0x02, 0x08, 0x20, 0x80}, {0x01, 0x04, 0x10, 0x40}};
+    uint8_t *byte = bytes[MAP] + a->block / 4;
+    *byte = (uint8_t)((*byte & others[a->block % 4]) | own[page_difference(a)->kind][a->block % 4]);
+}
+
 void change(const ask *a, uint8_t *const bytes[ROLES]) {
     if (a->call == FORMAT) {
         format_bytes(a, bytes);
     } else if (a->call == COMPARE && page_difference(a)->kind == THX_DIFFERENCE_PATCH) {
         memcpy(bytes[PAYLOAD], page_difference(a)->stream, page_difference(a)->length);
-    } else if (a->call == APPLY || a->call == READ) {
+    } else if (a->call == APPLY || reads(a->call)) {
         page_bytes(a, bytes);
     } else if (a->call == WRITE) {
         write_bytes(a, bytes);
+    } else if (a->call == WRITE_MAPPED) {
+        write_bytes(a, bytes);
+        pair_bytes(a, bytes);
     } else if (a->call == BUILD) {
         memset(bytes[MAP], 0, (blocks(a) + 3) / 4);
         if (blocks(a) > 0) {

@@ -1,7 +1,9 @@
 -- Look up and Tally, outcome by outcome; and that each has one outcome.
 use Prim.Native.Nat.{ℕ, suc, _≤_, _<_}
+use native.Mathlib.Omega.{arith}
+use native.Mathlib.Decide.{decLt}
 use mathlib.Core.Path.{_≡_, refl, sym, ap, _∙_}
-use mathlib.Core.Bool.{true, false}
+use mathlib.Core.Bool.{true, false, not}
 use mathlib.Core.List.{List}
 use lib.Dec.{eqb, leb, ltb}
 use lib.ListN.{length}
@@ -21,6 +23,16 @@ use Rattle.blockmap.specs.declared.Looked.{Looked}
 use Rattle.blockmap.specs.declared.Looked.the-variants.{Done as LookedDone, Refused as LookedRefused}
 use Rattle.blockmap.specs.declared.Tallied.{Tallied}
 use Rattle.blockmap.specs.declared.Tallied.the-variants.{Done as TalliedDone, Refused as TalliedRefused}
+
+-- what a test of the length says of the row
+pub not-fits : (k l : ℕ) → ltb l k ≡ not (leb k l)
+not-fits k l =
+    elim (decLt l k) [
+      | yes h ↦ rw (lt-ltb l k h, lt-leb k l h)
+      | no h ↦
+          let i : k ≤ l = omega arith in
+          rw (le-ltb l k i, le-leb k l i)
+    ]
 
 module _ (P : ℕ) (map : List ℕ) (n : ℕ) where
   look-refused : (b k : ℕ) (r : Refusal) → refusalNumber r ≡ suc k → firstOf (lookUpRows P map n b) ≡ suc k

@@ -15,11 +15,15 @@ use Rattle.blockmap.specs.declared.Looked.the-variants.{Done as LookedDo
 use Rattle.blockmap.specs.declared.Tallied.{Tallied}
 use Rattle.blockmap.specs.declared.Tallied.the-variants.{Done as TalliedDone, Refused as TalliedRefused}
 
+-- 9: the map of n blocks does not fit
+abbrev pub shortMap : List ℕ → ℕ → List Row
+shortMap map n = (9 ⇐ ltb (length map) (mapBytes n)) ∷ []
+
 -- both are told n
 abbrev pub mapGroups : ℕ → List ℕ → ℕ → List Row → List Row → List Grouped
 mapGroups P map n block pair =
     (group.lengths ▸ (2 ⇐ ltb (blocksAtMost P) n) ∷ [])
-    ∷ (group.buffers ▸ (9 ⇐ ltb (length map) (mapBytes n)) ∷ [])
+    ∷ (group.buffers ▸ shortMap map n)
     ∷ (group.block ▸ block)
     ∷ (group.pair ▸ pair)
     ∷ []

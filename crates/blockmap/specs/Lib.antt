@@ -4,6 +4,8 @@ pub mod PairLaws
 pub mod Meaning
 pub mod Pack
 pub mod PackLaws
+pub mod SetPair
+pub mod SetLaws
 pub mod Calls
 pub mod CallLaws
 pub mod Given

@@ -29,21 +29,25 @@ module _ (p q r s : ℕ) where
   unfolding byteOf
   byte-of-below = omega arith
 
-  byte-0 : byteOf p q r s % 4 ≡ p % 4
+  pub byte-0 : byteOf p q r s % 4 ≡ p % 4
   unfolding byteOf
   byte-0 = omega arith
 
-  byte-1 : byteOf p q r s / 4 % 4 ≡ q % 4
+  pub byte-1 : byteOf p q r s / 4 % 4 ≡ q % 4
   unfolding byteOf
   byte-1 = omega arith
 
-  byte-2 : byteOf p q r s / 16 % 4 ≡ r % 4
+  pub byte-2 : byteOf p q r s / 16 % 4 ≡ r % 4
   unfolding byteOf
   byte-2 = omega arith
 
-  byte-3 : byteOf p q r s / 64 % 4 ≡ s % 4
+  pub byte-3 : byteOf p q r s / 64 % 4 ≡ s % 4
   unfolding byteOf
   byte-3 = omega arith
+
+zero-byte : byteOf 0 0 0 0 ≡ 0
+unfolding byteOf
+zero-byte = refl
 
 -- a byte is its four pairs
 
@@ -144,7 +148,7 @@ module _ (f : ℕ → ℕ) (n : ℕ) where
 
 -- A map is determined by its pairs
 
-byte-one : (xs ys : List ℕ) (i : ℕ) → getD xs i 0 < 256 → getD ys i 0 < 256
+pub byte-one : (xs ys : List ℕ) (i : ℕ) → getD xs i 0 < 256 → getD ys i 0 < 256
     → ((b : ℕ) → b < 4 * (i + 1) → 4 * i ≤ b → pairAt xs b ≡ pairAt ys b) → getD xs i 0 ≡ getD ys i 0
 byte-one xs ys i h k e =
     let x : ℕ = getD xs i 0 in
@@ -176,3 +180,12 @@ packed-same f g n e =
           | yes k ↦ pair-used f n b k ∙ e b k ∙ sym (pair-used g n b k)
           | no k ↦ pair-unused f n b (omega arith) ∙ sym (pair-unused g n b (omega arith))
         ]
+
+-- and one of n blocks that all have pair 0 is zero
+pub packed-zero : (f : ℕ → ℕ) (n : ℕ) → ((b : ℕ) → b < n → f b ≡ 0) → (i : ℕ) → i < mapBytes n → getD (packed f n) i 0 ≡ 0
+unfolding packedByte
+packed-zero f n e i h =
+    packed-at f n i h ∙ rw (none (4 * i), none (4 * i + 1), none (4 * i + 2), none (4 * i + 3)) zero-byte
+  where
+    none : (b : ℕ) → pairIn f n b ≡ 0
+    none b = elim (decLt b n) [ yes k ↦ pair-used f n b k ∙ e b k | no k ↦ pair-unused f n b (omega arith) ]

@@ -9,7 +9,7 @@ ghost use Prim.Native.Nat.{_+_, _-_, _*_, _/_, _%_, _^_};
 ghost use Rattle.layout.specs.Sizes.{pageSize};
 ghost use Rattle.layout.specs.Numbers.{kindNumber};
 ghost use Rattle.blockmap.specs.Pairs.{mapBytes, someUsed};
-ghost use Rattle.blockmap.specs.Pack.{byteOf, pairOf};
+ghost use Rattle.blockmap.specs.Pack.{byteOf, pairOf, kindOf, withPair, setPair};
 ghost use Rattle.blockmap.specs.Calls.{LookUp, Tally};
 
 // The pairs of the three kinds, and the one that no block may have.
@@ -54,11 +54,52 @@ pub fn pair_of(kind: Kind) -> u8
     }
 }
 
+// The kind that a pair stands for.
+pub fn kind_of(pair: u8) -> Kind
+    ensures { λ r. ⌜ kindNumber r ≡ kindOf pair ⌝ }
+{
+    if pair == PATCH {
+        return Kind::Patch;
+    }
+    if pair == FULL {
+        return Kind::Full;
+    }
+    Kind::Empty
+}
+
 // The byte that holds these four pairs, the first in its lowest bits. Of each number only the two lowest bits count.
 pub fn byte_of(p0: u8, p1: u8, p2: u8, p3: u8) -> u8
     ensures { λ r. ⌜ r ≡ byteOf p0 p1 p2 p3 ⌝ }
 {
     p0 % 4 + p1 % 4 * 4 + p2 % 4 * 16 + p3 % 4 * 64
+}
+
+// A byte with one block's pair set, the other three as they are.
+fn with_pair(byte: u8, block: usize, pair: u8) -> u8
+    ensures { λ r. ⌜ r ≡ withPair byte (block % 4) pair ⌝ }
+{
+    let place = block % 4;
+    if place == 0 {
+        return byte_of(pair, byte / 4, byte / 16, byte / 64);
+    }
+    if place == 1 {
+        return byte_of(byte, pair, byte / 16, byte / 64);
+    }
+    if place == 2 {
+        return byte_of(byte, byte / 4, pair, byte / 64);
+    }
+    byte_of(byte, byte / 4, byte / 16, pair)
+}
+
+// Sets one block's pair; every other pair and byte stays. A map that does not reach to the block stays whole.
+pub fn set_pair(map: &mut [u8], block: usize, pair: u8)
+    ensures { λ _. ⌜ now (map .exit) ≡ setPair (now (map .entry)) block pair ⌝ }
+{
+    let at = block / 4;
+    if map.len() <= at {
+        return;
+    }
+    map[at] = with_pair(map[at], block, pair);
 }
 
 // The pairs of a byte from a block's own on, this one in the lowest bits.

@@ -25,6 +25,7 @@ use Rattle.layout.specs.FirstFault.{BlockFault}
 use Rattle.layout.specs.Lengths.{blocksIn, pagesIn}
 use Rattle.layout.specs.LengthLaws.{patch-fits-is}
 use Rattle.blockmap.specs.Pairs.{mapBytes}
+use Rattle.blockmap.specs.CallLaws.{not-fits}
 use Rattle.store.specs.Block.{slotOf, placeOf, Sized}
 use Rattle.store.specs.Open.{openRows, openNumbers, openedNumbers}
 use Rattle.store.specs.OpenLaws.{opened-frame, opened-refused}
@@ -35,7 +36,7 @@ use Rattle.layout.specs.declared.Refusal.{Refusal}
 use Rattle.building.specs.Build.{blockFault, buildRows}
 use Rattle.building.specs.Steps.{straysIn, FindingNumbers, blockFinding, faultNumbers}
 use Rattle.building.specs.BuildLaws.{block-unsound, block-full-none, block-full, block-payload, block-patch, block-empty}
-use Rattle.building.specs.BuildLaws.{strays-other, not-fits, build-frame}
+use Rattle.building.specs.BuildLaws.{strays-other, build-frame}
 
 pub place-told : (P : ℕ) (full : List ℕ) (b at : ℕ) (r : Bool) → at ≡ pageAt P b → r ≡ same (part at P full) (zeros P)
     → same (placeOf P full b) (zeros P) ≡ r

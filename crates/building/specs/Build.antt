@@ -16,7 +16,7 @@ use Rattle.layout.specs.Lengths.{blocksIn, pagesIn, lengthRows}
 use Rattle.headers.specs.Headers.{headerRows}
 use Rattle.slots.specs.Slots.{slotNumbers, payloadOf}
 use Rattle.payload.specs.Entries.{offsetWith}
-use Rattle.blockmap.specs.Pairs.{mapBytes}
+use Rattle.blockmap.specs.Calls.{shortMap}
 use Rattle.blockmap.specs.Pack.{pairOf, packed}
 use Rattle.store.specs.Block.{slotOf, placeOf, slotRows, fullRows, payloadRows}
 use Rattle.building.specs.declared.Built.{Built}
@@ -54,7 +54,7 @@ buildFault P patch full = firstFault (blockFault P patch full) 0 (blocksIn (leng
 abbrev pub buildGroups : ℕ → List ℕ → List ℕ → List ℕ → List Grouped
 buildGroups P patch full map =
     (group.lengths ▸ lengthRows P (length patch) (length full))
-    ∷ (group.buffers ▸ (9 ⇐ ltb (length map) (mapBytes (blocksIn (length patch)))) ∷ [])
+    ∷ (group.buffers ▸ shortMap map (blocksIn (length patch)))
     ∷ (group.headers ▸ headerRows P patch full)
     ∷ []
 

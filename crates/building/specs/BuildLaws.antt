@@ -5,7 +5,7 @@ use native.Mathlib.Decide.{decLt}
 use mathlib.Core.Path.{_≡_, refl, sym, ap, _∙_}
 use mathlib.Core.Bool.{Bool, true, false, not, _&&_, cond}
 use mathlib.Core.List.{List, [], _∷_, _++_}
-use lib.Dec.{eqb, ltb, leb}
+use lib.Dec.{eqb, ltb}
 use lib.ListN.{length}
 use borrow.Author.Tests.{lt-ltb, le-ltb, le-leb, lt-leb, eqb-true, not-false}
 use Rattle.span.specs.Bytes.{zeros, same, splice}
@@ -104,15 +104,6 @@ module _ (P : ℕ) (patch full : List ℕ) (b : ℕ) where
       eqb-true n 0 (not-false (eqb n 0) (row-off 5 (not (eqb n 0)) (or-none (cond (not (eqb n 0)) 6 0) (firstOf r) e .0)))
 
 -- The frame
-
-pub not-fits : (k l : ℕ) → ltb l k ≡ not (leb k l)
-not-fits k l =
-    elim (decLt l k) [
-      | yes h ↦ rw (lt-ltb l k h, lt-leb k l h)
-      | no h ↦
-          let i : k ≤ l = omega arith in
-          rw (le-ltb l k i, le-leb k l i)
-    ]
 
 pub frame-none : (P : ℕ) (patch full : List ℕ) (fits : Bool)
     → firstOf (frameRows P ((1 ⇐ false) ∷ []) ((9 ⇐ not fits) ∷ []) patch full) ≡ 0

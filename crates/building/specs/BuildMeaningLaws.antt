@@ -29,7 +29,7 @@ use Rattle.payload.specs.Spelling.{Spelled, Bytes, bytes-part, spelled-sound, s
 use Rattle.blockmap.specs.Pairs.{mapBytes, pairAt, patchPair, fullPair, badPairs}
 use Rattle.blockmap.specs.Pack.{pairOf}
 use Rattle.blockmap.specs.Meaning.{blocksWith, pairs-count, JustThose, HasPair, blocks-with}
-use Rattle.blockmap.specs.CallLaws.{tally-done}
+use Rattle.blockmap.specs.CallLaws.{not-fits, tally-done}
 use Rattle.store.specs.Block.{slotOf, placeOf}
 use Rattle.store.specs.BlockLaws.{payload-bytes}
 use Rattle.store.specs.Frame.{frameRows}
@@ -39,7 +39,7 @@ use Rattle.building.specs.Steps.{straysIn}
 use Rattle.building.specs.BuildLaws.{no-place, clean-place, stray-place, no-strays}
 use Rattle.building.specs.BuildLaws.{block-unsound, block-full-none, block-full, block-payload, block-patch, block-empty}
 use Rattle.building.specs.BuildLaws.{slot-sound}
-use Rattle.building.specs.BuildLaws.{not-fits, frame-none, build-frame, build-refused, build-done, build-faulty, build-zero, refused-map}
+use Rattle.building.specs.BuildLaws.{frame-none, build-frame, build-refused, build-done, build-faulty, build-zero, refused-map}
 use Rattle.building.specs.MapLaws.{laid-later, laid-length, built-length, built-pair, built-unused, built-good}
 use Rattle.building.specs.BuildWords.{blocks, places, SoundFrame, IsEmpty, PatchOf, IsPatch, IsFull, Placeless, blank, spelt}
 use Rattle.building.specs.BuildWords.{BlockGives, slot-6, page-8, payload-7, place-10, placeless-0, full-0, PairsOf, Tallies}

@@ -19,13 +19,14 @@ use Rattle.slots.specs.Slots.{payloadOf}
 use Rattle.payload.specs.Entries.{offsetWith}
 use Rattle.payload.specs.EntryLaws.{offset-other}
 use Rattle.blockmap.specs.Pairs.{mapBytes}
+use Rattle.blockmap.specs.CallLaws.{not-fits}
 use Rattle.store.specs.Block.{slotOf, slotRows, fullRows, payloadRows}
 use Rattle.store.specs.Frame.{frameRows}
 use Rattle.store.specs.FrameLaws.{frame-lacks}
 use Rattle.building.specs.Build.{placeRows, faultGroups, faultRows, buildGroups, blockFault, buildFault, buildRows, BuildOutcome}
 use Rattle.building.specs.Build.{buildRefused}
 use Rattle.building.specs.Build.{buildOutcome}
-use Rattle.building.specs.BuildLaws.{not-fits, build-frame, build-refused, build-faulty, build-done}
+use Rattle.building.specs.BuildLaws.{build-frame, build-refused, build-faulty, build-done}
 
 module _ (P : ℕ) (patch full : List ℕ) where
   fault-numbered : (b : ℕ) → Numbered (faultRows P patch full b)

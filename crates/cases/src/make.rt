@@ -94,11 +94,12 @@ pub fn make(dst: &mut [u8], description: &[u8]) -> usize
     span::shorter(number(piece(description, 0, b' ')), dst.len())
 }
 
-// The same, but `=` leaves the buffer and its length as they are.
+// The same, but `=` leaves the buffer and its length as they are, and so does a line that has no such field.
 pub fn make_or_keep(dst: &mut [u8], description: &[u8], kept: usize) -> usize
     ensures { λ r. ⌜ r ≤ length (now (dst .entry)) ⌝ }
 {
-    if first(description) == b'=' {
+    let sign = first(description);
+    if sign == b'=' || sign == 0 {
         return span::shorter(kept, dst.len());
     }
     make(dst, description)

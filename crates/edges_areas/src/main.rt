@@ -1,6 +1,6 @@
-// Runs the edges and the refusal orders of the paper for the calls on areas, which stay from line to line: reads a case a line from
-// standard input, makes its call, and prints what the call answered and every lent byte that it changed. The cases and what must be
-// printed were written by hand from the paper.
+// Runs the edges and the refusal orders of the paper for the calls on areas. The areas and the map beside them stay from line to line. It
+// reads a case a line from standard input, makes its call, and prints what the call answered and every lent byte that it changed. The
+// cases and what must be printed were written by hand from the paper.
 mod answers;
 
 use cases::delta::delta;
@@ -10,6 +10,8 @@ use cases::make::buffer;
 use cases::make::make_or_keep;
 use cases::say;
 use layout::Layout;
+use reading::Reading;
+use writing::Written;
 
 // The calls by their first letters.
 const FORMAT: u8 = b'f';
@@ -22,10 +24,18 @@ const WRITE: u8 = b'w';
 
 const BUILD: u8 = b'b';
 
+// Read and Write with the map: a read by it, and a write that keeps it.
+const MAPPED: u8 = b'm';
+
+const KEEP: u8 = b'k';
+
 // Room for a byte more than five blocks or two full pages have.
 const PATCH_ROOM: usize = Layout::PATCH_HEAD + 5 * Layout::SLOT + 1;
 
 const FULL_ROOM: usize = Layout::FULL_HEAD + 2 * Layout::PAGE + 1;
+
+// Room for two bytes more than the map of five blocks has.
+const MAP_ROOM: usize = 4;
 
 // show | name | patch | full | block. The full area is not lent.
 fn show(line: &[u8], patch: &[u8]) {
@@ -42,8 +52,24 @@ fn show(line: &[u8], patch: &[u8]) {
     answers::first_bytes(part);
 }
 
-// read | name | patch | full | block | base | page
-fn read(line: &[u8], patch: &[u8], full: &[u8]) {
+// The read that this call names.
+fn read_by(
+    call: u8,
+    patch: &[u8],
+    full: &[u8],
+    map: &[u8],
+    block: usize,
+    base: &[u8],
+    page: &mut [u8],
+) -> Reading {
+    if call == MAPPED {
+        return reading::mapped::read_mapped(patch, full, map, block, base, page);
+    }
+    reading::read(patch, full, block, base, page)
+}
+
+// read | name | patch | full | block | base | page, and mapped with one more, | map
+fn read(call: u8, line: &[u8], patch: &[u8], full: &[u8], map: &[u8]) {
     let block = fields::number(field(line, 4));
     let base = buffer(field(line, 5));
     let base_bytes = base.bytes;
@@ -52,9 +78,11 @@ fn read(line: &[u8], patch: &[u8], full: &[u8]) {
     let mut bytes = page.bytes;
     let lent: &mut [u8] = &mut bytes;
     let n = page.length;
-    answers::reading(reading::read(
+    answers::reading(read_by(
+        call,
         patch,
         full,
+        map,
         block,
         span::part(&base_bytes, 0, base.length),
         &mut lent[0..n],
@@ -73,16 +101,34 @@ fn build(line: &[u8], patch: &[u8], full: &[u8]) {
     delta(b"map", &was, lent);
 }
 
-// write | name | patch | full | block | base | page
-fn write(line: &[u8], patch: &mut [u8], full: &mut [u8]) {
+// The write that this call names.
+fn write_by(
+    call: u8,
+    patch: &mut [u8],
+    full: &mut [u8],
+    map: &mut [u8],
+    block: usize,
+    base: &[u8],
+    page: &[u8],
+) -> Written {
+    if call == KEEP {
+        return writing::mapped::write_mapped(patch, full, map, block, base, page);
+    }
+    writing::write(patch, full, block, base, page)
+}
+
+// write | name | patch | full | block | base | page, and keep with one more, | map
+fn write(call: u8, line: &[u8], patch: &mut [u8], full: &mut [u8], map: &mut [u8]) {
     let block = fields::number(field(line, 4));
     let base = buffer(field(line, 5));
     let base_bytes = base.bytes;
     let page = buffer(field(line, 6));
     let page_bytes = page.bytes;
-    answers::written(writing::write(
+    answers::written(write_by(
+        call,
         patch,
         full,
+        map,
         block,
         span::part(&base_bytes, 0, base.length),
         span::part(&page_bytes, 0, page.length),
@@ -90,42 +136,46 @@ fn write(line: &[u8], patch: &mut [u8], full: &mut [u8]) {
 }
 
 // The calls that change the areas, of which format | name | patch | full takes nothing else. It answers whether this was one.
-fn store(call: u8, line: &[u8], patch: &mut [u8], full: &mut [u8]) -> bool {
+fn store(call: u8, line: &[u8], patch: &mut [u8], full: &mut [u8], map: &mut [u8]) -> bool {
     if call == FORMAT {
         answers::formatted(store::format::format(patch, full));
         return true;
     }
-    if call == WRITE {
-        write(line, patch, full);
+    if call == WRITE || call == KEEP {
+        write(call, line, patch, full, map);
         return true;
     }
     false
 }
 
-// An area as it is now.
-fn copied(area: &[u8]) -> [u8; FULL_ROOM] {
+// An area or the map as it is now.
+fn copied(lent: &[u8]) -> [u8; FULL_ROOM] {
     let mut bytes = [0u8; FULL_ROOM];
-    span::copy(&mut bytes, area);
+    span::copy(&mut bytes, lent);
     bytes
 }
 
-// Makes such a call, and tells what it changed.
-fn change(call: u8, line: &[u8], patch: &mut [u8], full: &mut [u8]) {
+// Makes such a call, and tells what it changed. Only one of them is lent the map.
+fn change(call: u8, line: &[u8], patch: &mut [u8], full: &mut [u8], map: &mut [u8]) {
     let patch_was = copied(patch);
     let full_was = copied(full);
-    if store(call, line, patch, full) {
+    let map_was = copied(map);
+    if store(call, line, patch, full, map) {
         delta(b"patch", &patch_was, patch);
         delta(b"full", &full_was, full);
+    }
+    if call == KEEP {
+        delta(b"map", &map_was, map);
     }
 }
 
 // The calls that change no area.
-fn look(call: u8, line: &[u8], patch: &[u8], full: &[u8]) {
+fn look(call: u8, line: &[u8], patch: &[u8], full: &[u8], map: &[u8]) {
     if call == SHOW {
         show(line, patch);
     }
-    if call == READ {
-        read(line, patch, full);
+    if call == READ || call == MAPPED {
+        read(call, line, patch, full, map);
     }
     if call == BUILD {
         build(line, patch, full);
@@ -133,27 +183,32 @@ fn look(call: u8, line: &[u8], patch: &[u8], full: &[u8]) {
 }
 
 // One case.
-fn run(line: &[u8], patch: &mut [u8], full: &mut [u8]) {
+fn run(line: &[u8], patch: &mut [u8], full: &mut [u8], map: &mut [u8]) {
     let call = say::case(line);
-    look(call, line, patch, full);
-    change(call, line, patch, full);
+    look(call, line, patch, full, map);
+    change(call, line, patch, full, map);
     say::text(b"\n");
 }
 
+// A map is the last field of the lines that lend one; the other lines leave it.
 fn run_all(text: &[u8]) {
     let mut a = [0u8; PATCH_ROOM];
     let patch: &mut [u8] = &mut a;
     let mut b = [0u8; FULL_ROOM];
     let full: &mut [u8] = &mut b;
+    let mut c = [0u8; MAP_ROOM];
+    let map: &mut [u8] = &mut c;
     let mut n = 0;
     let mut m = 0;
+    let mut k = 0;
     let mut at = 0;
     while at < text.len() {
         let line = fields::line_at(text, at);
+        at += line.len() + 1;
         n = make_or_keep(patch, field(line, 2), n);
         m = make_or_keep(full, field(line, 3), m);
-        run(line, &mut patch[0..n], &mut full[0..m]);
-        at += line.len() + 1;
+        k = make_or_keep(map, field(line, 7), k);
+        run(line, &mut patch[0..n], &mut full[0..m], &mut map[0..k]);
     }
 }
 

@@ -9,7 +9,7 @@ use Rattle.layout.specs.Refusals.{firstOf, orElse}
 use Rattle.layout.specs.RefusalLaws.{first-append}
 use mathlib.Core.Path.{_≡_, refl, sym, ap, _∙_}
 use Rattle.layout.specs.Groups.{Group, rank, opening, inside, Grouped, rowsOf, inOrder, ordered}
-use Rattle.layout.specs.Groups.{pages, lengths, buffers, headers, block, slot, full, payload, place, pair}
+use Rattle.layout.specs.Groups.{pages, lengths, buffers, headers, block, own, slot, full, payload, place, pair}
 
 -- no group is named twice: a computed test, so that no row is lost
 abbrev pub names : Group → List Grouped → Bool
@@ -36,6 +36,7 @@ each-once lengths = refl
 each-once buffers = refl
 each-once headers = refl
 each-once block = refl
+each-once own = refl
 each-once slot = refl
 each-once full = refl
 each-once payload = refl

@@ -6,7 +6,7 @@ use lib.Dec.{eqb}
 use Rattle.layout.specs.Refusals.{Row}
 
 pub data Group : Type 0 where
-  pages lengths buffers headers block slot full payload place pair : Group
+  pages lengths buffers headers block own slot full payload place pair : Group
 
 abbrev pub rank : Group → ℕ
 rank pages = 0
@@ -14,19 +14,20 @@ rank lengths = 1
 rank buffers = 2
 rank headers = 3
 rank block = 4
-rank slot = 5
-rank full = 6
-rank payload = 7
-rank place = 8
-rank pair = 9
+rank own = 5
+rank slot = 6
+rank full = 7
+rank payload = 8
+rank place = 9
+rank pair = 10
 
 -- what is decided before any block is looked at: 1, 2, 9, headers
 abbrev pub opening : List Group
 opening = pages ∷ lengths ∷ buffers ∷ headers ∷ []
 
--- and what is decided of blocks: 5, 6, 8, 7, 10, 11
+-- and what is decided of blocks: 5, 6, 8, 7, 10, 11. A read by the map looks at the block's own pair first: there 11 comes straight after 5
 abbrev pub inside : List Group
-inside = block ∷ slot ∷ full ∷ payload ∷ place ∷ pair ∷ []
+inside = block ∷ own ∷ slot ∷ full ∷ payload ∷ place ∷ pair ∷ []
 
 -- the rows of a group, as `group ▸ rows`
 pub record Grouped : Type 0 where

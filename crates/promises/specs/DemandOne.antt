@@ -4,7 +4,7 @@
 -- That every call takes anything and ends is what the prover checks: no call has a `requires`. The rest stands here, over the predicates
 -- that the contracts cite: each number is given exactly when its condition holds and no earlier one does; and where the answer's number
 -- is not 0, every lent byte is as it was, and the other numbers of the answer are 0, "except that Build gives the block with 6, 7, 8 and
--- 10", and Apply, Read and Build the payload offset with 7. Judge, Look up and Tally are lent nothing to write.
+-- 10", and Apply, both reads and Build the payload offset with 7. Judge, Look up and Tally are lent nothing to write.
 use Prim.Native.Nat.{ℕ, _≤_}
 use native.Mathlib.Omega.{arith}
 use mathlib.Core.Path.{_≡_, refl, sym, ap, _∙_, subst}
@@ -38,11 +38,13 @@ use Rattle.store.specs.Format.{formatRows, formattedNumber, Format}
 use Rattle.store.specs.Judge.{judgeRows, judgedNumbers, Judge}
 use Rattle.store.specs.Show.{showRows, Show}
 use Rattle.reading.specs.Read.{ReadNumbers, readRows, readingNumbers, Read}
+use Rattle.reading.specs.Mapped.{readMappedRows, ReadMapped}
 use Rattle.writing.specs.Write.{WriteNumbers, writeRows, writtenNumbers, Write}
+use Rattle.writing.specs.Mapped.{writeMappedRows, WriteMapped}
 use Rattle.building.specs.Build.{faultRows, blockFault, BuildNumbers, builtNumbers, Build}
 use Rattle.store.specs.Given.{format-exactly, judge-exactly, show-exactly, show-some}
-use Rattle.reading.specs.Given.{read-exactly, read-told}
-use Rattle.writing.specs.Given.{write-exactly}
+use Rattle.reading.specs.Given.{read-exactly, read-told, read-mapped-exactly, read-mapped-told}
+use Rattle.writing.specs.Given.{write-exactly, write-mapped-exactly}
 use Rattle.building.specs.Given.{block-exactly, allRows, build-exactly, build-told}
 use Rattle.store.specs.declared.Formatted.{Formatted}
 use Rattle.store.specs.declared.Judged.{Judged}
@@ -54,6 +56,7 @@ use Rattle.writing.specs.declared.Written.the-variants.{Done as WrittenDone, Re
 use Rattle.building.specs.declared.Built.{Built}
 use Rattle.promises.specs.Words.{OfBlock}
 use Rattle.promises.specs.Kept.{format-kept, compare-kept, apply-kept, show-kept, read-kept, write-kept, build-kept}
+use Rattle.promises.specs.Kept.{write-mapped-kept, read-mapped-kept}
 
 -- a refusal is a number from the table
 pub from-the-table : (r : Refusal) → (1 ≤ refusalNumber r) × (refusalNumber r ≤ 11)
@@ -110,6 +113,17 @@ module _ (P : ℕ) where
       → Exactly (writeRows P patch full b base page) (writtenNumbers a .number)
   write-refuses patch full b base page a p f x = rw (x .numbers) (write-exactly P patch full b base page)
 
+  -- with a lent map: "9 for a short map in 01's place; on reads only, 11 for pair 3, after 5"
+  pub read-mapped-refuses : (patch full map : List ℕ) (b : ℕ) (base page : List ℕ) (a : Reading) (after : List ℕ)
+      → ReadMapped P patch full map b base page a after
+      → Exactly (readMappedRows P patch full map b base page) (readingNumbers a .number)
+  read-mapped-refuses patch full map b base page a after x = rw (x .numbers) (read-mapped-exactly P patch full map b base page)
+
+  pub write-mapped-refuses : (patch full map : List ℕ) (b : ℕ) (base page : List ℕ) (a : Written) (p f m : List ℕ)
+      → WriteMapped P patch full map b base page a p f m
+      → Exactly (writeMappedRows P patch full map b base page) (writtenNumbers a .number)
+  write-mapped-refuses patch full map b base page a p f m x = rw (x .numbers) (write-mapped-exactly P patch full map b base page)
+
   -- Build's rows are those of the frame and then each block's, in rising order. Which block it gives stands in `BuildGives`, by the
   -- number of each block
   pub build-refuses : (patch full map : List ℕ) (a : Built) (after : List ℕ) → Build P patch full map a after
@@ -156,6 +170,18 @@ module _ (P : ℕ) where
       let k = write-kept P patch full b base page (λ e. h (ap (λ (n : WriteNumbers). n .number) (x .numbers) ∙ e)) in
       (x .patch-bytes ∙ k .0, x .full-bytes ∙ k .1)
 
+  pub read-mapped-keeps : (patch full map : List ℕ) (b : ℕ) (base page : List ℕ) (a : Reading) (after : List ℕ)
+      → ReadMapped P patch full map b base page a after
+      → (readingNumbers a .number ≡ 0 → ⊥) → after ≡ page
+  read-mapped-keeps patch full map b base page a after x h =
+      x .bytes ∙ read-mapped-kept P patch full map b base page (λ e. h (ap (λ (n : ReadNumbers). n .number) (x .numbers) ∙ e))
+
+  pub write-mapped-keeps : (patch full map : List ℕ) (b : ℕ) (base page : List ℕ) (a : Written) (p f m : List ℕ)
+      → WriteMapped P patch full map b base page a p f m → (writtenNumbers a .number ≡ 0 → ⊥) → (p ≡ patch) × (f ≡ full) × (m ≡ map)
+  write-mapped-keeps patch full map b base page a p f m x h =
+      let k = write-mapped-kept P patch full map b base page (λ e. h (ap (λ (n : WriteNumbers). n .number) (x .numbers) ∙ e)) in
+      (x .patch-bytes ∙ k .0, x .full-bytes ∙ k .1, x .map-bytes ∙ k .2)
+
   pub build-keeps : (patch full map : List ℕ) (a : Built) (after : List ℕ) → Build P patch full map a after
       → (builtNumbers a .number ≡ 0 → ⊥) → (after ≡ map) × ((builtNumbers a .block ≡ 0) ⊎ OfBlock (builtNumbers a .number))
   build-keeps patch full map a after x h =
@@ -173,6 +199,11 @@ module _ (P : ℕ) where
       → Read P patch full b base page a after
       → readingNumbers a .offset ≡ offsetWith (readingNumbers a .number) P (payloadOf (slotOf patch b))
   read-offset patch full b base page a after x = rw (x .numbers) (read-told P patch full b base page)
+
+  pub read-mapped-offset : (patch full map : List ℕ) (b : ℕ) (base page : List ℕ) (a : Reading) (after : List ℕ)
+      → ReadMapped P patch full map b base page a after
+      → readingNumbers a .offset ≡ offsetWith (readingNumbers a .number) P (payloadOf (slotOf patch b))
+  read-mapped-offset patch full map b base page a after x = rw (x .numbers) (read-mapped-told P patch full map b base page)
 
   pub build-offset : (patch full map : List ℕ) (a : Built) (after : List ℕ) → Build P patch full map a after
       → builtNumbers a .offset ≡ offsetWith (builtNumbers a .number) P (payloadOf (slotOf patch (builtNumbers a .block)))

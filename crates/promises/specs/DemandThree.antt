@@ -6,17 +6,22 @@
 -- The words are in `RunWords`: `after P s os` are both areas after the run os from s, and `accepted P s os` those of its operations that
 -- were accepted when their turn came. An operation is a write, `write w`. Nothing is assumed of a run: its blocks, bases and pages are any,
 -- of any lengths.
+--
+-- "Demand 3 now includes the map: after any run from fresh areas and a zero map, lent to every write of the run, it equals the built one."
+-- The second half is about such runs; its words are in `MapWords`: `afterWith P x os` are both areas and the map after the run, and
+-- `acceptedWith P x os` the accepted operations. Later bytes of the map are any, and a map too short for its store is in the run too: every
+-- write is then refused.
 use Prim.Native.Nat.{ℕ, _≤_, _<_}
-use mathlib.Core.Path.{_≡_, ap, subst}
+use mathlib.Core.Path.{_≡_, sym, ap, _∙_, subst}
 use mathlib.Core.Logic.{_↔_}
 use mathlib.Core.Option.{some}
-use mathlib.Core.List.{List, map}
+use mathlib.Core.List.{List, [], map}
 use lib.Dec.{lit≤}
-use lib.ListN.{length}
+use lib.ListN.{length, getD}
 use Rattle.layout.specs.Sizes.{pageSize}
 use Rattle.blockmap.specs.Pairs.{mapBytes}
 use Rattle.stream.specs.Calls.{pageOf}
-use Rattle.building.specs.Build.{BuildOutcome, buildOutcome}
+use Rattle.building.specs.Build.{BuildOutcome, buildOutcome, buildDone}
 use Rattle.promises.specs.Words.{blocks, PagesFit}
 use Rattle.promises.specs.Runs.{NoRepeats, write}
 use Rattle.promises.specs.RunWords.{Areas, readAt, Lent, Operation, after, accepted, lastTo, JustLasts, decision, Decided, KeepsBases}
@@ -25,6 +30,12 @@ use Rattle.promises.specs.FreshLaws.{fresh-one}
 use Rattle.promises.specs.RunLaws.{last-decided, keeps-over, lasts-leave-same, lasts-list, reads-last, reads-base, build-accepts}
 use Rattle.promises.specs.RunLaws.{two-runs}
 use Rattle.reading.specs.Read.{readDone}
+use Rattle.building.specs.BuildWords.{PairsOf}
+use Rattle.promises.specs.MapWords.{Mapped, mapRoom, Long, buildInto, readByMap, mapped, afterWith, acceptedWith, JustLastsWith}
+use Rattle.promises.specs.MapWords.{KeepsBasesWith, OverBasesWith, FreshWith, SameRoom, Alike}
+use Rattle.promises.specs.MapRunLaws.{run-is, accepted-is, built-at-end, built-changes-nothing, length-kept, later-kept, reads-by-map}
+use Rattle.promises.specs.MapRunLaws.{pairs-at-end, short-run, short-accepts, short-nine, lasts-leave-with, lasts-list-with}
+use Rattle.promises.specs.MapRunLaws.{lasts-alike, two-runs-with, keeps-over-with}
 
 module _ (s : Areas) (fresh : FreshAreas pageSize s) (os : List Operation) where
   -- (a) "only each block's last accepted write, in any order of blocks": every list of just those is accepted whole and leaves the same
@@ -93,3 +104,100 @@ module _ (s t : Areas) (s-fresh : FreshAreas pageSize s) (t-fresh : FreshAreas p
 pub same-base-enough : (s : Areas) (os : List Operation) (bases : ℕ → List ℕ) → KeepsBases pageSize bases s os
     → OverBases pageSize bases s os
 same-base-enough s os bases h = keeps-over pageSize s os bases h
+
+-- With the map as a third buffer
+
+module _ (x : Mapped) (fresh : FreshWith pageSize x) (os : List Operation) where
+  module _ (long : Long (x .areas) (x .map)) where
+    -- the map changes nothing of the run: the same operations are accepted, and both areas are the same
+    pub same-with-map : (acceptedWith pageSize x os ≡ accepted pageSize (x .areas) os)
+        × (afterWith pageSize x os .areas ≡ after pageSize (x .areas) os)
+    same-with-map = (accepted-is pageSize x fresh long os, ap (λ (y : Mapped). y .areas) (run-is pageSize x fresh long os))
+
+    -- "it equals the built one": Build accepts both areas, and leaves in the buffer as it was lent at first just the map that was kept
+    pub kept-is-built : buildInto pageSize (afterWith pageSize x os .areas) (x .map) ≡ buildDone (afterWith pageSize x os .map)
+    kept-is-built = built-at-end pageSize x fresh long (lit≤ tt) os
+
+    -- and Build into the kept map changes none of its bytes
+    pub build-changes-nothing : buildInto pageSize (afterWith pageSize x os .areas) (afterWith pageSize x os .map)
+        ≡ buildDone (afterWith pageSize x os .map)
+    build-changes-nothing = built-changes-nothing pageSize x fresh long (lit≤ tt) os
+
+    -- so each pair says what its block's slot is: 0 EMPTY, 2 PATCH, 1 FULL_REF
+    pub pairs-say : PairsOf (afterWith pageSize x os .areas .patch) (afterWith pageSize x os .map)
+    pairs-say = pairs-at-end pageSize x fresh long (lit≤ tt) os
+
+    -- later bytes stay as they were lent
+    pub later-bytes-stay : (i : ℕ) → mapRoom (x .areas) ≤ i → getD (afterWith pageSize x os .map) i 0 ≡ getD (x .map) i 0
+    later-bytes-stay i h = later-kept pageSize x fresh long os i h
+
+    pub map-length-stays : length (afterWith pageSize x os .map) ≡ length (x .map)
+    map-length-stays = length-kept pageSize x fresh long os
+
+    -- (c) a read by the map is Read, whole, for every block, base and page
+    pub map-reads : (b : ℕ) (base page : List ℕ)
+        → readByMap pageSize (afterWith pageSize x os) b base page ≡ readAt pageSize (afterWith pageSize x os .areas) b base page
+    map-reads b base page =
+        reads-by-map pageSize x fresh long (lit≤ tt) os b base page
+        ∙ ap (λ (t : Areas). readAt pageSize t b base page) (sym (same-with-map .1))
+
+    -- so it gives each block's last accepted write's page, over any base page that this write was decided over
+    pub map-reads-as-last : (b : ℕ) → b < blocks (x .areas .patch) → (w : Lent) → lastTo b (acceptedWith pageSize x os) ≡ some (write w)
+        → (base page : List ℕ) → PagesFit pageSize base page → Decided pageSize (pageOf pageSize base) w
+        → readByMap pageSize (afterWith pageSize x os) b base page ≡ readDone (decision pageSize w .kind) (w .page)
+    map-reads-as-last b n w e base page f d =
+        reads-by-map pageSize x fresh long (lit≤ tt) os b base page
+        ∙ reads-as-last (x .areas) (fresh .fresh) os b n w (ap (lastTo b) (sym (same-with-map .0)) ∙ e) base page f d
+
+    -- or the base where no write stands
+    pub map-reads-as-base : (b : ℕ) → b < blocks (x .areas .patch)
+        → ((w : Lent) → lastTo b (acceptedWith pageSize x os) ≡ some (write w) → ⊥)
+        → (base page : List ℕ) → PagesFit pageSize base page
+        → readByMap pageSize (afterWith pageSize x os) b base page ≡ readDone 0 (pageOf pageSize base)
+    map-reads-as-base b n e base page f =
+        reads-by-map pageSize x fresh long (lit≤ tt) os b base page
+        ∙ reads-as-base (x .areas) (fresh .fresh) os b n (λ w q. e w (ap (lastTo b) (same-with-map .0) ∙ q)) base page f
+
+  -- a map too short for its store: no write is accepted, none changes a byte, and one whose pages fit gives 9
+  module _ (short : length (x .map) < mapRoom (x .areas)) where
+    pub short-map-keeps : (acceptedWith pageSize x os ≡ []) × (afterWith pageSize x os ≡ x)
+    short-map-keeps = (short-accepts pageSize x fresh short os, short-run pageSize x fresh short os)
+
+    pub short-map-gives : (w : Lent) → PagesFit pageSize (w .base) (w .page) → mapped pageSize x w .written .number ≡ 9
+    short-map-gives = short-nine pageSize x fresh short
+
+  -- (a) all three buffers are those of each block's last accepted write, in any order
+  pub lasts-leave-the-same-map : (ls : List Lent) → JustLastsWith pageSize x os ls
+      → (acceptedWith pageSize x (map write ls) ≡ map write ls) × (afterWith pageSize x (map write ls) ≡ afterWith pageSize x os)
+  lasts-leave-the-same-map ls l = lasts-leave-with pageSize x fresh os ls l
+
+  pub lasts-exist-with-map : (ls : List Lent) × JustLastsWith pageSize x os ls × NoRepeats (λ (w : Lent). w .block) ls
+  lasts-exist-with-map = lasts-list-with pageSize x fresh os
+
+  -- of the map those bytes that count, for any other fresh areas of the same lengths and any other zero map
+  pub fresh-lasts-leave-the-same-map : (y : Mapped) → FreshWith pageSize y
+      → length (x .areas .patch) ≡ length (y .areas .patch) → length (x .areas .full) ≡ length (y .areas .full)
+      → SameRoom (x .areas) (x .map) (y .map)
+      → (ls : List Lent) → JustLastsWith pageSize x os ls
+      → (acceptedWith pageSize y (map write ls) ≡ map write ls) × Alike (afterWith pageSize x os) (afterWith pageSize y (map write ls))
+  fresh-lasts-leave-the-same-map y y-fresh p f rooms ls l = lasts-alike pageSize (lit≤ tt) x y fresh y-fresh p f rooms os ls l
+
+-- (b) two runs with maps leave the same bytes in both areas, and in their maps those that count, exactly when each block below n reads as
+-- the same page over its base
+module _ (x y : Mapped) (x-fresh : FreshWith pageSize x) (y-fresh : FreshWith pageSize y)
+    (patch-lengths : length (x .areas .patch) ≡ length (y .areas .patch))
+    (full-lengths : length (x .areas .full) ≡ length (y .areas .full)) (rooms : SameRoom (x .areas) (x .map) (y .map))
+    (os os′ : List Operation) where
+  pub same-bytes-with-maps-iff : (bases into : ℕ → List ℕ)
+      → ((b : ℕ) → b < blocks (x .areas .patch) → PagesFit pageSize (bases b) (into b))
+      → OverBasesWith pageSize bases x os → OverBasesWith pageSize bases y os′
+      → Alike (afterWith pageSize x os) (afterWith pageSize y os′)
+      ↔ ((b : ℕ) → b < blocks (x .areas .patch) → readAt pageSize (afterWith pageSize x os .areas) b (bases b) (into b) .page
+      ≡ readAt pageSize (afterWith pageSize y os′ .areas) b (bases b) (into b) .page)
+  same-bytes-with-maps-iff bases into fits over over′ =
+      two-runs-with pageSize (lit≤ tt) x y x-fresh y-fresh patch-lengths full-lengths rooms bases into fits os os′ over over′
+
+-- which is so of every run that has "each block always with the same base page"
+pub same-base-enough-with-map : (x : Mapped) → FreshWith pageSize x → (os : List Operation) (bases : ℕ → List ℕ)
+    → KeepsBasesWith pageSize bases x os → OverBasesWith pageSize bases x os
+same-base-enough-with-map x fresh os bases h = keeps-over-with pageSize x fresh os bases h

@@ -25,14 +25,21 @@ use Rattle.writer.specs.ReadBack.{pokes}
 use Rattle.store.specs.Block.{slotOf, placeOf}
 use Rattle.reading.specs.Read.{ReadOutcome, readOutcome, readDone, readRefused}
 use Rattle.writing.specs.Write.{WriteOutcome, writeOutcome}
+use Rattle.blockmap.specs.Pairs.{pairAt, patchPair, fullPair, reservedPair}
+use Rattle.blockmap.specs.SetPair.{PairSet}
+use Rattle.reading.specs.Mapped.{readMappedOutcome}
+use Rattle.writing.specs.Mapped.{MappedOutcome, writeMappedOutcome}
 use Rattle.store.specs.Show.{Show}
 use Rattle.promises.specs.Words.{blocks, places, FrameFits, PatchOf, SoundSlot, PatchFits, ShowsNothing, Large, streamOf, Stored}
-use Rattle.promises.specs.Words.{WriteGives, ReadGives}
+use Rattle.promises.specs.Words.{WriteGives, ReadGives, MapFits, WriteMappedGives, MapAt, ReadMappedGives, PairFor}
 use Rattle.promises.specs.Tables.{write-table, read-table}
 use Rattle.promises.specs.StoreLaws.{write-stored}
 use Rattle.promises.specs.ReadLaws.{reads-empty, reads-patch, reads-unsound, reads-spelled, reads-unspelled, reads-full}
 use Rattle.promises.specs.ReadLaws.{reads-missing, reads-sound, zero-bases}
 use Rattle.promises.specs.WriteLaws.{write-length, kind-empty, kind-patch, kind-full, no-room, reads-back, others-read}
+use Rattle.promises.specs.MapTables.{write-mapped-table, written-as-write, accepted-is-write, kept-pair, reads-back-by-map}
+use Rattle.promises.specs.MapTables.{others-by-map}
+use Rattle.promises.specs.MapTables.{read-mapped-table, by-map-0, by-map-1, by-map-1-missing, by-map-2, by-map-2-other, by-map-3}
 use Rattle.promises.specs.ShowLaws.{shown-payload, shown-in-place, nothing-shown}
 
 module _ (patch full : List ℕ) (b : ℕ) (base page : List ℕ) where
@@ -135,3 +142,68 @@ module _ (patch : List ℕ) (b : ℕ) (lent handed : ℕ × ℕ) (shown : List �
 -- a base of 0 bytes and one of 8,192 zeros are one base page
 pub zero-base : pageOf pageSize [] ≡ pageOf pageSize (zeros pageSize)
 zero-base = zero-bases pageSize
+
+-- With a lent map. "We want writes that update a lent map, and reads that go by it: pair 0 gives the base without touching the slot, pair
+-- 2 needs a sound PATCH (any other slot is 6), pair 1 takes the full page. ... Refusals: 9 for a short map in 01's place; on reads only, 11
+-- for pair 3, after 5."
+module _ (patch full map : List ℕ) (b : ℕ) (base page : List ℕ) where
+  abbrev pub outcomeWith : MappedOutcome
+  outcomeWith = writeMappedOutcome pageSize patch full map b base page
+
+  abbrev pub readBy : ReadOutcome
+  readBy = readMappedOutcome pageSize patch full map b base page
+
+  -- Every number that they give, and just when
+
+  pub write-mapped-gives : (k : ℕ) → (outcomeWith .written .number ≡ k) ↔ WriteMappedGives pageSize patch full map b base page k
+  write-mapped-gives = write-mapped-table pageSize patch full map b base page
+
+  pub read-mapped-gives : (k : ℕ) → (readBy .number ≡ k) ↔ ReadMappedGives pageSize patch full map b base page k
+  read-mapped-gives = read-mapped-table pageSize patch full map b base page
+
+  -- a write with a map that fits answers and stores as Write does, refused or not
+  pub writes-as-write : MapFits patch map → outcomeWith .written ≡ outcome patch full b base page
+  writes-as-write = written-as-write pageSize patch full map b base page
+
+  module _ (done : outcomeWith .written .number ≡ 0) where
+    pub accepted-as-write : outcomeWith .written ≡ outcome patch full b base page
+    accepted-as-write = accepted-is-write pageSize patch full map b base page done
+
+    -- the block's own pair is that of the kind stored, and nothing else of the map is changed: no other pair, used or not, no other byte
+    pub keeps-map : (v : ℕ) × PairFor (outcomeWith .written .kind) v × PairSet map b v (outcomeWith .map)
+    keeps-map = kept-pair pageSize patch full map b base page done
+
+    -- reading back by the map gives the written page
+    pub read-back-by-map : (base′ page′ : List ℕ) → pageOf pageSize base′ ≡ pageOf pageSize base → length page′ ≡ pageSize
+        → readMappedOutcome pageSize (outcomeWith .written .patch) (outcomeWith .written .full) (outcomeWith .map) b base′ page′
+        ≡ readDone (outcomeWith .written .kind) page
+    read-back-by-map = reads-back-by-map pageSize patch full map b base page done (lit≤ tt)
+
+  -- and every other block reads by the map as before, whatever it holds and whether or not the write was refused
+  pub map-others : (c : ℕ) → (c ≡ b → ⊥) → (base′ page′ : List ℕ)
+      → readMappedOutcome pageSize (outcomeWith .written .patch) (outcomeWith .written .full) (outcomeWith .map) c base′ page′
+      ≡ readMappedOutcome pageSize patch full map c base′ page′
+  map-others = others-by-map pageSize patch full map b base page
+
+  -- The whole outcome of a read, by the block's pair
+
+  module _ (at : MapAt pageSize patch full map b base page) where
+    pub pair-0 : pairAt map b ≡ 0 → readBy ≡ readDone 0 (pageOf pageSize base)
+    pair-0 = by-map-0 pageSize patch full map b base page at
+
+    -- over a sound PATCH slot as Read, which gives the patched base, or 7 with the offset where the payload breaks
+    pub pair-2 : pairAt map b ≡ patchPair → (payload : List ℕ) → PatchOf (slotOf patch b) payload → readBy ≡ read patch full b base page
+    pair-2 = by-map-2 pageSize patch full map b base page at
+
+    pub pair-2-other : pairAt map b ≡ patchPair → ((payload : List ℕ) → PatchOf (slotOf patch b) payload → ⊥)
+        → readBy ≡ readRefused 6 0 page
+    pair-2-other = by-map-2-other pageSize patch full map b base page at
+
+    pub pair-1 : pairAt map b ≡ fullPair → b < places pageSize full → readBy ≡ readDone 2 (placeOf pageSize full b)
+    pair-1 = by-map-1 pageSize patch full map b base page at
+
+    pub pair-1-missing : pairAt map b ≡ fullPair → places pageSize full ≤ b → readBy ≡ readRefused 8 0 page
+    pair-1-missing = by-map-1-missing pageSize patch full map b base page at
+
+    pub pair-3 : pairAt map b ≡ reservedPair → readBy ≡ readRefused 11 0 page
+    pair-3 = by-map-3 pageSize patch full map b base page at

@@ -22,6 +22,8 @@ use Rattle.store.specs.Judge.{Judge}
 use Rattle.store.specs.Show.{Show}
 use Rattle.reading.specs.Read.{Read}
 use Rattle.writing.specs.Write.{Write}
+use Rattle.reading.specs.Mapped.{ReadMapped}
+use Rattle.writing.specs.Mapped.{WriteMapped}
 use Rattle.building.specs.Build.{Build}
 use Rattle.building.specs.BuildMeaning.{build-one}
 use Rattle.building.specs.declared.Built.{Built}
@@ -65,6 +67,20 @@ module _ (P : ℕ) where
       → Write P patch full n base page a p f → Write P patch full n base page b q g → (a ≡ b) × (p ≡ q) × (f ≡ g)
   one-write patch full n base page a b p q f g x y =
       (written-one a b (x .numbers ∙ sym (y .numbers)), x .patch-bytes ∙ sym (y .patch-bytes), x .full-bytes ∙ sym (y .full-bytes))
+
+  pub one-read-mapped : (patch full map : List ℕ) (n : ℕ) (base page : List ℕ) (a b : Reading) (p q : List ℕ)
+      → ReadMapped P patch full map n base page a p → ReadMapped P patch full map n base page b q → (a ≡ b) × (p ≡ q)
+  one-read-mapped patch full map n base page a b p q x y = (reading-one a b (x .numbers ∙ sym (y .numbers)), x .bytes ∙ sym (y .bytes))
+
+  pub one-write-mapped : (patch full map : List ℕ) (n : ℕ) (base page : List ℕ) (a b : Written) (p q f g l m : List ℕ)
+      → WriteMapped P patch full map n base page a p f l → WriteMapped P patch full map n base page b q g m
+      → (a ≡ b) × (p ≡ q) × (f ≡ g) × (l ≡ m)
+  one-write-mapped patch full map n base page a b p q f g l m x y = (
+    written-one a b (x .numbers ∙ sym (y .numbers)),
+    x .patch-bytes ∙ sym (y .patch-bytes),
+    x .full-bytes ∙ sym (y .full-bytes),
+    x .map-bytes ∙ sym (y .map-bytes),
+  )
 
   pub one-build : (patch full map : List ℕ) (a b : Built) (p q : List ℕ) → Build P patch full map a p → Build P patch full map b q
       → (a ≡ b) × (p ≡ q)

@@ -24,7 +24,10 @@ use Rattle.store.specs.Block.{slotOf, placeOf, slotRows, fullRows, payloadRows}
 use Rattle.store.specs.Format.{FormatOutcome, formatRows, formatOutcome}
 use Rattle.store.specs.Show.{showRows, showPlace}
 use Rattle.reading.specs.Read.{ReadOutcome, readRows, readOutcome}
-use Rattle.writing.specs.Write.{WriteOutcome, writeOutcome}
+use Rattle.reading.specs.Mapped.{readMappedRows, readMappedOutcome}
+use Rattle.writing.specs.Write.{WriteOutcome, writeRefused, writeOutcome}
+use Rattle.writing.specs.Mapped.{MappedOutcome, writeMappedRows, writeMappedOutcome}
+use Rattle.writing.specs.Given.{write-mapped-number}
 use Rattle.building.specs.Build.{placeRows, blockFault, buildFault, BuildOutcome, buildRows, builtMap, buildOutcome, buildDone}
 use Rattle.building.specs.Build.{buildRefused}
 use Rattle.store.specs.declared.Place.{Place}
@@ -82,6 +85,29 @@ pub write-kept : (P : ℕ) (patch full : List ℕ) (b : ℕ) (base page : List �
 write-kept P patch full b base page h =
     let e = write-not P patch full b base page h in
     (ap (λ (o : WriteOutcome). o .patch) e, ap (λ (o : WriteOutcome). o .full) e)
+
+-- with a lent map: the map too
+pub write-mapped-kept : (P : ℕ) (patch full map : List ℕ) (b : ℕ) (base page : List ℕ)
+    → (writeMappedOutcome P patch full map b base page .written .number ≡ 0 → ⊥)
+    → (writeMappedOutcome P patch full map b base page .written .patch ≡ patch)
+    × (writeMappedOutcome P patch full map b base page .written .full ≡ full)
+    × (writeMappedOutcome P patch full map b base page .map ≡ map)
+unfolding writeMappedOutcome
+write-mapped-kept P patch full map b base page h =
+    let k : ℕ = firstOf (writeMappedRows P patch full map b base page) in
+    let e : writeMappedOutcome P patch full map b base page ≡ record { written = writeRefused k patch full; map = map } =
+    decided-refused _ _ k k refl (λ q. h (write-mapped-number P patch full map b base page ∙ q)) in (
+      ap (λ (o : MappedOutcome). o .written .patch) e,
+      ap (λ (o : MappedOutcome). o .written .full) e,
+      ap (λ (o : MappedOutcome). o .map) e,
+    )
+
+pub read-mapped-kept : (P : ℕ) (patch full map : List ℕ) (b : ℕ) (base page : List ℕ)
+    → (readMappedOutcome P patch full map b base page .number ≡ 0 → ⊥) → readMappedOutcome P patch full map b base page .page ≡ page
+unfolding readMappedOutcome
+read-mapped-kept P patch full map b base page h =
+    kept (λ (o : ReadOutcome). o .number) (λ (o : ReadOutcome). o .page) _ _ page refl (λ k. refl)
+    (firstOf (readMappedRows P patch full map b base page)) h
 
 -- Build, and the numbers with which it gives a block
 

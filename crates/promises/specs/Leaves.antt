@@ -17,6 +17,7 @@ use Rattle.payload.specs.Steps.{Follows, checkedNumbers, checkNumbers}
 use Rattle.payload.specs.StepLaws.{step-one, checked-one}
 use Rattle.payload.specs.declared.Step.{Step}
 use Rattle.payload.specs.declared.Checked.{Checked}
+use Rattle.blockmap.specs.Pack.{kindOf}
 use Rattle.writer.specs.Steps.{Differs}
 use Rattle.writer.specs.declared.Difference.{Difference}
 use Rattle.stream.specs.Calls.{kindFor}
@@ -44,6 +45,10 @@ one-frame k a b x y = opened-one a b (x ∙ sym y)
 -- `stream::kind_for`
 pub one-kind : (n : ℕ) (a b : Kind) → kindNumber a ≡ kindFor n → kindNumber b ≡ kindFor n → a ≡ b
 one-kind n a b x y = kind-one a b (x ∙ sym y)
+
+-- `blockmap::kind_of`
+pub one-kind-of : (v : ℕ) (a b : Kind) → kindNumber a ≡ kindOf v → kindNumber b ≡ kindOf v → a ≡ b
+one-kind-of v a b x y = kind-one a b (x ∙ sym y)
 
 -- `slots::slot_state`
 pub one-state : (slot : List ℕ) (a b : SlotState) → stateNumbers a ≡ slotNumbers slot → stateNumbers b ≡ slotNumbers slot → a ≡ b

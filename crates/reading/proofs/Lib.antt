@@ -1,1 +1,2 @@
+pub mod ByMap
 pub mod Pages

@@ -33,12 +33,15 @@ readGroups P patch full b base page =
 unfoldable pub readRows : ℕ → List ℕ → List ℕ → ℕ → List ℕ → List ℕ → List Row
 readRows P patch full b base page = ordered (readGroups P patch full b base page)
 
--- what a block holds, by its slot's kind
+-- what a block of this kind holds: base, patched base or full page
+abbrev pub contentsAs : ℕ → ℕ → List ℕ → List ℕ → ℕ → List ℕ → List ℕ
+contentsAs P kind patch full b base =
+    cond (eqb kind emptyKind) (pageOf P base)
+    (cond (eqb kind patchKind) (applied (pageOf P base) (payloadStream P (payloadOf (slotOf patch b)))) (placeOf P full b))
+
+-- the kind is the slot's
 unfoldable pub contents : ℕ → List ℕ → List ℕ → ℕ → List ℕ → List ℕ
-contents P patch full b base =
-    let s = slotOf patch b in
-    cond (eqb (slotNumbers s .kind) emptyKind) (pageOf P base)
-    (cond (eqb (slotNumbers s .kind) patchKind) (applied (pageOf P base) (payloadStream P (payloadOf s))) (placeOf P full b))
+contents P patch full b base = contentsAs P (slotNumbers (slotOf patch b) .kind) patch full b base
 
 pub record ReadOutcome : Type 0 where
   pub number : ℕ

@@ -2,22 +2,21 @@
 use Prim.Native.Nat.{ℕ, _≤_, _<_}
 use native.Mathlib.Omega.{arith}
 use mathlib.Core.Path.{_≡_, refl, sym, ap, _∙_}
-use mathlib.Core.Bool.{Bool, true, false, cond}
+use mathlib.Core.Bool.{Bool, true, false}
 use mathlib.Core.List.{List, [], _++_, append-nil}
-use lib.Dec.{eqb, leb}
+use lib.Dec.{leb}
 use lib.ListN.{length}
 use borrow.Author.Tests.{le-leb, lt-leb}
-use Rattle.span.specs.Bytes.{zeros}
 use Rattle.layout.specs.Refusals.{Row, firstOf, orElse, decided}
 use Rattle.layout.specs.RefusalLaws.{first-hit, first-skip, or-skip, or-some, decided-done, decided-refused}
 use Rattle.layout.specs.RefusalLaws.{no-such, lacks, first-lacks}
 use Rattle.layout.specs.GroupLaws.{in-halves}
-use Rattle.layout.specs.Lengths.{blocksIn, pagesIn}
+use Rattle.layout.specs.Lengths.{blocksIn}
 use Rattle.slots.specs.Slots.{slotNumbers, soundSlot, unsoundSlot, payloadOf}
 use Rattle.payload.specs.Entries.{payloadStream, sound, breaksAt, offsetWith, applied}
 use Rattle.payload.specs.EntryLaws.{offset-other}
 use Rattle.stream.specs.Calls.{pageOf, pageRows}
-use Rattle.store.specs.Block.{slotOf, placeOf, blockRows, slotRows, fullRows, payloadRows}
+use Rattle.store.specs.Block.{slotOf, blockRows, slotRows, fullRows, payloadRows}
 use Rattle.store.specs.Frame.{frameRows}
 use Rattle.store.specs.FrameLaws.{frame-lacks}
 use Rattle.reading.specs.declared.Reading.{Reading}
@@ -90,20 +89,6 @@ module _ (P : ℕ) (patch full : List ℕ) (b : ℕ) (base page : List ℕ) wher
   unfolding slotOutcome slotRows fullRows payloadRows firstOf orElse contents
   slot-empty e = decided-done _ _
       (firstOf (slotRows (slotOf patch b) ++ (fullRows P (slotOf patch b) full b ++ payloadRows P (slotOf patch b)))) (rw e) ∙ rw e
-
-  pub slot-missing : slotNumbers (slotOf patch b) ≡ soundSlot 2 0 → pagesIn P (length full) ≤ b
-      → slotOutcome P patch full b base page ≡ readRefused 8 0 page
-  unfolding slotOutcome slotRows fullRows payloadRows firstOf orElse
-  slot-missing e h =
-      decided-refused _ _ (firstOf (slotRows (slotOf patch b) ++ (fullRows P (slotOf patch b) full b ++ payloadRows P (slotOf patch b))))
-      8 (rw (e, le-leb (pagesIn P (length full)) b h)) (λ q. omega arith)
-
-  pub slot-full : slotNumbers (slotOf patch b) ≡ soundSlot 2 0 → b < pagesIn P (length full)
-      → slotOutcome P patch full b base page ≡ readDone 2 (placeOf P full b)
-  unfolding slotOutcome slotRows fullRows payloadRows firstOf orElse contents
-  slot-full e h = decided-done _ _
-      (firstOf (slotRows (slotOf patch b) ++ (fullRows P (slotOf patch b) full b ++ payloadRows P (slotOf patch b))))
-      (rw (e, lt-leb (pagesIn P (length full)) b h)) ∙ rw e
 
   pub slot-broken : (n : ℕ) → slotNumbers (slotOf patch b) ≡ soundSlot 1 n → sound P (payloadOf (slotOf patch b)) ≡ false
       → slotOutcome P patch full b base page ≡ readRefused 7 (breaksAt P (payloadOf (slotOf patch b))) page

@@ -1,4 +1,6 @@
 // Read: a block's page, as it stands now.
+pub mod mapped;
+
 use layout::Kind;
 use layout::Layout;
 use layout::Refusal;
@@ -12,7 +14,7 @@ ghost use Rattle.layout.specs.Sizes.{pageSize};
 ghost use Rattle.layout.specs.Lengths.{pagesIn};
 ghost use Rattle.payload.specs.Steps.{farthest};
 ghost use Rattle.store.specs.Block.{Places, Sized};
-ghost use Rattle.reading.specs.Parts.{BlockRead, PatchRead};
+ghost use Rattle.reading.specs.Parts.{BlockRead, PatchRead, PlaceRead};
 ghost use Rattle.reading.specs.Read.{Read};
 
 // What Read answers: the kind of the block's slot. With a payload that is not sound comes the offset at which its first unsound entry
@@ -35,6 +37,23 @@ fn read_patch(base: &[u8], payload: &[u8], page: &mut [u8]) -> Reading
             last: _,
         } => Reading::Done { kind: Kind::Patch },
     }
+}
+
+// A block's place in the full area of m pages; a block not below m has none.
+fn read_place(size: u32, m: u32, full: &[u8], block: u32, page: &mut [u8]) -> Reading
+    requires { ⌜ length (now page) ≡ size ⌝ }
+    requires { ⌜ (m ≡ pagesIn size (length (now full))) × Places size (now full) ⌝ }
+    ensures { λ r. ⌜ PlaceRead size (now (full .entry)) block (now (page .entry)) r (now (page .exit)) ⌝ }
+{
+    if m <= block {
+        return Reading::Refused {
+            refusal: Refusal::FullPage,
+            offset: 0,
+        };
+    }
+    let at = Layout::page_at(size, block);
+    span::copy(page, span::part(full, at, size as usize));
+    Reading::Done { kind: Kind::Full }
 }
 
 // A block below n, over a base that is there, beside m pages.
@@ -63,19 +82,7 @@ fn read_block(
             Reading::Done { kind: Kind::Empty }
         }
         SlotState::Patch(n) => read_patch(base, span::part(slot, Layout::PAYLOAD_AT, n), page),
-        SlotState::Full => {
-            if m <= block {
-                return Reading::Refused {
-                    refusal: Refusal::FullPage,
-                    offset: 0,
-                };
-            }
-            span::copy(
-                page,
-                span::part(full, Layout::page_at(size, block), size as usize),
-            );
-            Reading::Done { kind: Kind::Full }
-        }
+        SlotState::Full => read_place(size, m, full, block, page),
     }
 }
 

@@ -14,33 +14,52 @@ use Rattle.span.specs.Bytes.{part, splice}
 use Rattle.layout.specs.Numbers.{refusalNumber}
 use Rattle.layout.specs.NumberLaws.{refusal-some}
 use Rattle.writing.specs.Write.{Write, WriteNumbers, writtenNumbers, writeOutcome}
+use Rattle.writing.specs.Mapped.{WriteMapped, writeMappedOutcome}
 use Rattle.layout.specs.declared.Kind.{Kind}
 use Rattle.layout.specs.declared.Refusal.{Refusal}
 use Rattle.writing.specs.declared.Written.{Written}
 use Rattle.writing.specs.declared.Written.the-variants.{Done, Refused}
 use Rattle.promises.specs.Runs.{run, taking, write}
-use Rattle.promises.specs.RunWords.{Areas, Lent, Operation, outcome, takesBy, doesBy, after, accepted, taken, next}
-use Rattle.replay.specs.Writes.{both, lent, writes, marksOf, Replayed, Turned}
+use Rattle.promises.specs.RunWords.{Areas, Lent, Operation, next}
+use Rattle.promises.specs.MapWords.{Mapped, mapped, doesWithBy}
+use Rattle.promises.specs.MapStore.{with}
+use Rattle.replay.specs.Writes.{both, lent, writes, marksOf, Ran, Made, Replayed, Turned, ReplayedWith, TurnedWith}
 
 -- One write
 
+numbered-done : {k : ℕ} → 0 ≡ k → _≡_ {A = ℕ} 1 (cond (eqb k 0) 1 0)
+numbered-done {k} e = rw (eq-eqb k 0 (sym e))
+
+numbered-refused : {k : ℕ} (r : Refusal) → refusalNumber r ≡ k → _≡_ {A = ℕ} 0 (cond (eqb k 0) 1 0)
+numbered-refused {k} r e = rw (ne-eqb k 0 (λ z. refusal-some r (e ∙ z)))
+
 module _ {P b : ℕ} {patch full base page patch′ full′ : List ℕ} {a : Written} (w : Write P patch full b base page a patch′ full′) where
+  number-is : {x : Written} → a ≡ x → writtenNumbers x .number ≡ writeOutcome P patch full b base page .number
+  number-is q = ap (λ (x : Written). writtenNumbers x .number) (sym q) ∙ ap (λ (x : WriteNumbers). x .number) (w .numbers)
+
   left : both patch′ full′ ≡ next P (both patch full) (lent b base page)
   left = λ i. record { patch = w .patch-bytes i; full = w .full-bytes i }
 
-  number-is : writtenNumbers a .number ≡ writeOutcome P patch full b base page .number
-  number-is = ap (λ (x : WriteNumbers). x .number) (w .numbers)
-
   pub turned-done : (k : Kind) (n : ℕ) → a ≡ Done k n → Turned P patch full b base page 1 patch′ full′
-  turned-done k n q =
-      let z : writeOutcome P patch full b base page .number ≡ 0 = sym number-is ∙ ap (λ (x : Written). writtenNumbers x .number) q in
-      record { areas = left; marked = rw (eq-eqb (writeOutcome P patch full b base page .number) 0 z) }
+  turned-done k n q = record { state = left; marked = numbered-done (number-is q) }
 
   pub turned-refused : (r : Refusal) → a ≡ Refused r → Turned P patch full b base page 0 patch′ full′
-  turned-refused r q =
-      let z : writeOutcome P patch full b base page .number ≡ refusalNumber r = sym number-is
-      ∙ ap (λ (x : Written). writtenNumbers x .number) q in
-      record { areas = left; marked = rw (ne-eqb (writeOutcome P patch full b base page .number) 0 (λ e. refusal-some r (sym z ∙ e))) }
+  turned-refused r q = record { state = left; marked = numbered-refused r (number-is q) }
+
+-- and one with a map
+module _ {P b : ℕ} {patch full map base page patch′ full′ map′ : List ℕ} {a : Written}
+    (w : WriteMapped P patch full map b base page a patch′ full′ map′) where
+  mapped-number : {x : Written} → a ≡ x → writtenNumbers x .number ≡ writeMappedOutcome P patch full map b base page .written .number
+  mapped-number q = ap (λ (x : Written). writtenNumbers x .number) (sym q) ∙ ap (λ (x : WriteNumbers). x .number) (w .numbers)
+
+  left-with : with (both patch′ full′) map′ ≡ doesWithBy (mapped P) (with (both patch full) map) (write (lent b base page))
+  left-with = λ i. with (record { patch = w .patch-bytes i; full = w .full-bytes i }) (w .map-bytes i)
+
+  pub mapped-done : (k : Kind) (n : ℕ) → a ≡ Done k n → TurnedWith P patch full map b base page 1 patch′ full′ map′
+  mapped-done k n q = record { state = left-with; marked = numbered-done (mapped-number q) }
+
+  pub mapped-refused : (r : Refusal) → a ≡ Refused r → TurnedWith P patch full map b base page 0 patch′ full′ map′
+  mapped-refused r q = record { state = left-with; marked = numbered-refused r (mapped-number q) }
 
 -- Marks laid one by one, as far as the buffer goes
 
@@ -73,30 +92,31 @@ counted false o os = omega arith
 
 -- The loop: what the whole run comes to is what the rest of it comes to from here
 
-module _ (P : ℕ) (patch₀ full₀ blocks bases pages marks₀ : List ℕ) where
-  abbrev pub all : List Operation
-  all = writes P blocks bases pages
+-- the writes that are left after i turns
+abbrev pub rest : ℕ → List ℕ → List ℕ → List ℕ → ℕ → List Operation
+rest P blocks bases pages i = writes P (drop i blocks) (drop (P * i) bases) (drop (P * i) pages)
 
-  abbrev pub rest : ℕ → List Operation
-  rest i = writes P (drop i blocks) (drop (P * i) bases) (drop (P * i) pages)
-
-  pub record Going (i count : ℕ) (patch full marks : List ℕ) : Type 0 where
+module _ {S : Type 0} (takes : S → Operation → Bool) (does : S → Operation → S) (P : ℕ) (s₀ : S) (blocks bases pages marks₀ : List ℕ) where
+  pub record Going (i count : ℕ) (s : S) (marks : List ℕ) : Type 0 where
     pub within : i ≤ length blocks
     pub few : count ≤ i
-    pub areas : after P (both patch₀ full₀) all ≡ after P (both patch full) (rest i)
-    pub number : length (accepted P (both patch₀ full₀) all) ≡ count + length (accepted P (both patch full) (rest i))
-    pub marked : sets marks₀ 0 (marksOf P (both patch₀ full₀) all) ≡ sets marks i (marksOf P (both patch full) (rest i))
+    pub state : run does s₀ (writes P blocks bases pages) ≡ run does s (rest P blocks bases pages i)
+    pub number : length (taking takes does s₀ (writes P blocks bases pages))
+        ≡ count + length (taking takes does s (rest P blocks bases pages i))
+    pub marked : sets marks₀ 0 (marksOf takes does s₀ (writes P blocks bases pages))
+        ≡ sets marks i (marksOf takes does s (rest P blocks bases pages i))
 
-  pub begin : Going 0 0 patch₀ full₀ marks₀
+  pub begin : Going 0 0 s₀ marks₀
   begin =
       let z : P * 0 ≡ 0 = mul-zero P in
-      let e : rest 0 ≡ all = rw z in
-      let n : length (accepted P (both patch₀ full₀) (rest 0)) ≡ length (accepted P (both patch₀ full₀) all) =
-      ap (λ (l : List Operation). length (accepted P (both patch₀ full₀) l)) e in
-      record { within = omega arith; few = omega arith; areas = rw e; number = omega arith; marked = rw e }
+      let e : rest P blocks bases pages 0 ≡ writes P blocks bases pages = rw z in
+      let n : length (taking takes does s₀ (rest P blocks bases pages 0)) ≡ length (taking takes does s₀ (writes P blocks bases pages)) =
+      ap (λ (l : List Operation). length (taking takes does s₀ l)) e in
+      record { within = omega arith; few = omega arith; state = rw e; number = omega arith; marked = rw e }
 
-  peel : (i : ℕ) → i < length blocks → rest i ≡ write (lent (getD blocks i 0) (part (P * i) P bases) (part (P * i) P pages))
-      ∷ rest (i + 1)
+  peel : (i : ℕ) → i < length blocks
+      → rest P blocks bases pages i ≡ write (lent (getD blocks i 0) (part (P * i) P bases) (part (P * i) P pages))
+      ∷ rest P blocks bases pages (i + 1)
   unfolding writes part
   peel i h =
       let d : drop i blocks ≡ getD blocks i 0 ∷ drop (i + 1) blocks = drop-cons blocks i 0 h
@@ -104,60 +124,58 @@ module _ (P : ℕ) (patch₀ full₀ blocks bases pages marks₀ : List ℕ) whe
       let q : P * i + P ≡ P * (i + 1) = sym (ap (λ (k : ℕ). P * k) (add-one i) ∙ mul-suc P i) in
       rw (d, drop-drop P (P * i) bases, drop-drop P (P * i) pages, q)
 
-  pub go-on : (i count : ℕ) (patch full marks : List ℕ) → Going i count patch full marks → i < length blocks
-      → (base page : List ℕ) (m : ℕ) (patch′ full′ marks′ : List ℕ)
-      → base ≡ part (P * i) P bases → page ≡ part (P * i) P pages → Turned P patch full (getD blocks i 0) base page m patch′ full′
+  pub go-on : (i count : ℕ) (s : S) (marks : List ℕ) → Going i count s marks → i < length blocks
+      → (base page : List ℕ) (m : ℕ) (s′ : S) (marks′ : List ℕ)
+      → base ≡ part (P * i) P bases → page ≡ part (P * i) P pages → Made takes does s (write (lent (getD blocks i 0) base page)) m s′
       → marks′ ≡ set marks i m
-      → Going (i + 1) (count + m) patch′ full′ marks′
+      → Going (i + 1) (count + m) s′ marks′
   unfolding run taking marksOf
-  go-on i count patch full marks g h base page m patch′ full′ marks′ eb ep t e =
-      let w : Lent = lent (getD blocks i 0) base page in
-      let s : Areas = both patch full in
-      let p : rest i ≡ write w ∷ rest (i + 1) = peel i h ∙ (λ j. write (lent (getD blocks i 0) (sym eb j) (sym ep j)) ∷ rest (i + 1)) in
-      let a : both patch′ full′ ≡ next P s w = t .areas in
-      let k : m ≡ cond (taken P s w) 1 0 = t .marked in
-      let n : length (accepted P s (rest i)) ≡ m + length (accepted P (both patch′ full′) (rest (i + 1))) =
-      ap (λ (l : List Operation). length (accepted P s l)) p
-      ∙ counted (taken P s w) (write w) (accepted P (next P s w) (rest (i + 1)))
-      ∙ (λ j. sym k j + length (accepted P (sym a j) (rest (i + 1)))) in
+  go-on i count s marks g h base page m s′ marks′ eb ep t e =
+      let w : Operation = write (lent (getD blocks i 0) base page) in
+      let more : List Operation = rest P blocks bases pages (i + 1) in
+      let p : rest P blocks bases pages i ≡ w ∷ more = peel i h ∙ (λ j. write (lent (getD blocks i 0) (sym eb j) (sym ep j)) ∷ more) in
+      let a : s′ ≡ does s w = t .state in
+      let k : m ≡ cond (takes s w) 1 0 = t .marked in
+      let n : length (taking takes does s (rest P blocks bases pages i)) ≡ m + length (taking takes does s′ more) =
+      ap (λ (l : List Operation). length (taking takes does s l)) p
+      ∙ counted (takes s w) w (taking takes does (does s w) more)
+      ∙ (λ j. sym k j + length (taking takes does (sym a j) more)) in
       record {
         within = omega arith;
-        few = omega (arith, k, one-most (taken P s w), g .few);
-        areas = g .areas ∙ ap (after P s) p ∙ ap (λ (x : Areas). after P x (rest (i + 1))) (sym a);
+        few = omega (arith, k, one-most (takes s w), g .few);
+        state = g .state ∙ ap (run does s) p ∙ ap (λ (x : S). run does x more) (sym a);
         number = omega (arith, g .number, n);
         marked =
             g .marked
-            ∙ ap (λ (l : List Operation). sets marks i (marksOf P s l)) p
-            ∙ (λ j. sets (sym (e ∙ ap (set marks i) k) j) (sym (add-one i) j) (marksOf P (sym a j) (rest (i + 1))));
+            ∙ ap (λ (l : List Operation). sets marks i (marksOf takes does s l)) p
+            ∙ (λ j. sets (sym (e ∙ ap (set marks i) k) j) (sym (add-one i) j) (marksOf takes does (sym a j) more));
       }
 
-  over : (i : ℕ) → i ≡ length blocks → rest i ≡ []
+  over : (i : ℕ) → i ≡ length blocks → rest P blocks bases pages i ≡ []
   unfolding writes
   over i e =
       let d : drop i blocks ≡ [] = ap (λ (k : ℕ). drop k blocks) e ∙ drop-length blocks in
       rw d
 
   -- so many were accepted that the next one can be counted
-  pub countable : (i count : ℕ) (patch full marks : List ℕ) → Going i count patch full marks → i < length blocks
-      → {b : ℕ} {base page : List ℕ} (m : ℕ) (patch′ full′ : List ℕ)
-      → Turned P patch full b base page m patch′ full′ → count + m ≤ length blocks
-  countable i count patch full marks g h {b} {base} {page} m patch′ full′ t =
-      omega (arith, g .few, one-most (taken P (both patch full) (lent b base page)), t .marked)
+  pub countable : (i count : ℕ) (s : S) (marks : List ℕ) → Going i count s marks → i < length blocks
+      → {o : Operation} (m : ℕ) (s′ : S) → Made takes does s o m s′ → count + m ≤ length blocks
+  countable i count s marks g h {o} m s′ t = omega (arith, g .few, one-most (takes s o), t .marked)
 
-  pub ended : (i count : ℕ) (patch full marks : List ℕ) → Going i count patch full marks → length blocks ≤ i
-      → Replayed P patch₀ full₀ blocks bases pages marks₀ count patch full marks
+  pub ended : (i count : ℕ) (s : S) (marks : List ℕ) → Going i count s marks → length blocks ≤ i
+      → Ran takes does s₀ (writes P blocks bases pages) marks₀ count s marks
   unfolding run taking marksOf
-  ended i count patch full marks g h =
-      let p : rest i ≡ [] = over i (omega (arith, g .within)) in
+  ended i count s marks g h =
+      let p : rest P blocks bases pages i ≡ [] = over i (omega (arith, g .within)) in
       record {
-        areas = sym (g .areas ∙ ap (after P (both patch full)) p);
+        state = sym (g .state ∙ ap (run does s) p);
         number =
-            let z : length (accepted P (both patch full) (rest i))
-            ≡ 0 = ap (λ (l : List Operation). length (accepted P (both patch full) l))
-            p in
+            let z : length (taking takes does s (rest P blocks bases pages i)) ≡ 0 =
+            ap (λ (l : List Operation). length (taking takes does s l)) p in
             omega (arith, g .number, z);
-        marked = sym (ap (λ (l : List Operation). sets marks i (marksOf P (both patch full) l)) p) ∙ sym (g .marked)
-            ∙ sets-laid marks₀ (marksOf P (both patch₀ full₀) all);
+        marked =
+            sym (ap (λ (l : List Operation). sets marks i (marksOf takes does s l)) p) ∙ sym (g .marked)
+            ∙ sets-laid marks₀ (marksOf takes does s₀ (writes P blocks bases pages));
       }
 
 -- The marks say which operations were accepted
@@ -168,17 +186,18 @@ picked [] os = []
 picked (m ∷ ms) [] = []
 picked (m ∷ ms) (o ∷ os) = cond (eqb m 1) (o ∷ picked ms os) (picked ms os)
 
-pub marks-pick : (P : ℕ) (s : Areas) (os : List Operation) → picked (marksOf P s os) os ≡ accepted P s os
+pub marks-pick : {S : Type 0} (takes : S → Operation → Bool) (does : S → Operation → S) (s : S) (os : List Operation)
+    → picked (marksOf takes does s os) os ≡ taking takes does s os
 unfolding picked marksOf taking
-marks-pick P s [] = refl
-marks-pick P s (o ∷ os) = go (takesBy (outcome P) s o) (marks-pick P (doesBy (outcome P) s o) os)
+marks-pick takes does s [] = refl
+marks-pick {S} takes does s (o ∷ os) = go (takes s o) (marks-pick takes does (does s o) os)
   where
-    left-over : Areas
-    left-over = doesBy (outcome P) s o
+    left-over : S
+    left-over = does s o
 
-    go : (t : Bool) → picked (marksOf P left-over os) os ≡ accepted P left-over os
-        → cond (eqb (cond t 1 0) 1) (o ∷ picked (marksOf P left-over os) os) (picked (marksOf P left-over os) os)
-        ≡ cond t (o ∷ accepted P left-over os) (accepted P left-over os)
+    go : (t : Bool) → picked (marksOf takes does left-over os) os ≡ taking takes does left-over os
+        → cond (eqb (cond t 1 0) 1) (o ∷ picked (marksOf takes does left-over os) os) (picked (marksOf takes does left-over os) os)
+        ≡ cond t (o ∷ taking takes does left-over os) (taking takes does left-over os)
     go true e = ap (λ (l : List Operation). o ∷ l) e
     go false e = e
 
@@ -223,18 +242,33 @@ written-bare P (w ∷ ws) h =
     ∙ ap (λ (l : List Operation). write w ∷ l) (written-bare P ws (h .2))
 
 -- A replay of a run leaves what the run leaves, so every theorem over runs speaks of the loop
-pub replay-run : {P : ℕ} {patch full blocks bases pages marks patch′ full′ marks′ : List ℕ} {n : ℕ} (os : List Operation)
-    → writes P blocks bases pages ≡ os
-    → Replayed P patch full blocks bases pages marks n patch′ full′ marks′
-    → (both patch′ full′ ≡ after P (both patch full) os) × (n ≡ length (accepted P (both patch full) os))
-replay-run {P} {patch} {full} os e r =
-    (r .areas ∙ ap (after P (both patch full)) e, r .number ∙ ap (λ (l : List Operation). length (accepted P (both patch full) l)) e)
+pub replay-run : {S : Type 0} {takes : S → Operation → Bool} {does : S → Operation → S} {s s′ : S} {marks marks′ : List ℕ} {n : ℕ}
+    {made : List Operation} (os : List Operation) → made ≡ os → Ran takes does s made marks n s′ marks′
+    → (s′ ≡ run does s os) × (n ≡ length (taking takes does s os))
+replay-run {S} {takes} {does} {s} os e r =
+    (r .state ∙ ap (run does s) e, r .number ∙ ap (λ (l : List Operation). length (taking takes does s l)) e)
 
 -- No second outcome meets the promise
 
-pub replay-only : {P : ℕ} {patch full blocks bases pages marks p q f g m n : List ℕ} {j k : ℕ}
+ran-only : {S : Type 0} {takes : S → Operation → Bool} {does : S → Operation → S} {s x y : S} {os : List Operation}
+    {marks m n : List ℕ} {j k : ℕ} → Ran takes does s os marks j x m → Ran takes does s os marks k y n → (j ≡ k) × (x ≡ y) × (m ≡ n)
+ran-only x y = (x .number ∙ sym (y .number), x .state ∙ sym (y .state), x .marked ∙ sym (y .marked))
+
+pub replay-only : (P : ℕ) (patch full blocks bases pages marks p q f g m n : List ℕ) (j k : ℕ)
     → Replayed P patch full blocks bases pages marks j p f m → Replayed P patch full blocks bases pages marks k q g n
     → (j ≡ k) × (p ≡ q) × (f ≡ g) × (m ≡ n)
-replay-only {P} {patch} {full} {blocks} {bases} {pages} {marks} {p} {q} {f} {g} {m} {n} {j} {k} x y =
-    let e : both p f ≡ both q g = x .areas ∙ sym (y .areas) in
-    (x .number ∙ sym (y .number), ap (λ (s : Areas). s .patch) e, ap (λ (s : Areas). s .full) e, x .marked ∙ sym (y .marked))
+replay-only P patch full blocks bases pages marks p q f g m n j k x y =
+    let e = ran-only x y in
+    (e .0, ap (λ (s : Areas). s .patch) (e .1), ap (λ (s : Areas). s .full) (e .1), e .2)
+
+pub replay-mapped-only : (P : ℕ) (patch full map blocks bases pages marks p q f g l r m n : List ℕ) (j k : ℕ)
+    → ReplayedWith P patch full map blocks bases pages marks j p f l m → ReplayedWith P patch full map blocks bases pages marks k q g r n
+    → (j ≡ k) × (p ≡ q) × (f ≡ g) × (l ≡ r) × (m ≡ n)
+replay-mapped-only P patch full map blocks bases pages marks p q f g l r m n j k x y =
+    let e = ran-only x y in (
+      e .0,
+      ap (λ (s : Mapped). s .areas .patch) (e .1),
+      ap (λ (s : Mapped). s .areas .full) (e .1),
+      ap (λ (s : Mapped). s .map) (e .1),
+      e .2,
+    )

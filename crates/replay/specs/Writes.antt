@@ -1,12 +1,14 @@
--- A run of writes from lent buffers, in the words of demand 3: `after` and `accepted` are those of `promises`.
+-- A run of writes from lent buffers, in the words of demand 3: the runs are those of `promises`, without a map and with one.
 use Prim.Native.Nat.{ℕ}
 use mathlib.Core.Path.{_≡_}
-use mathlib.Core.Bool.{cond}
+use mathlib.Core.Bool.{Bool, cond}
 use mathlib.Core.List.{List, [], _∷_}
 use lib.ListN.{length, take, drop}
 use Rattle.span.specs.Bytes.{splice}
-use Rattle.promises.specs.Runs.{write}
-use Rattle.promises.specs.RunWords.{Areas, Lent, Operation, outcome, takesBy, doesBy, after, accepted, taken, next}
+use Rattle.promises.specs.Runs.{run, taking, write}
+use Rattle.promises.specs.RunWords.{Areas, Lent, Operation, outcome, takesBy, doesBy}
+use Rattle.promises.specs.MapWords.{mapped, takesWithBy, doesWithBy}
+use Rattle.promises.specs.MapStore.{with}
 
 abbrev pub both : List ℕ → List ℕ → Areas
 both patch full = record { patch = patch; full = full }
@@ -19,18 +21,43 @@ unfoldable pub writes : ℕ → List ℕ → List ℕ → List ℕ → List Oper
 writes P [] bases pages = []
 writes P (b ∷ bs) bases pages = write (lent b (take P bases) (take P pages)) ∷ writes P bs (drop P bases) (drop P pages)
 
--- for each operation of a run, 1 if it was accepted when its turn came, else 0
-unfoldable pub marksOf : ℕ → Areas → List Operation → List ℕ
-marksOf P s [] = []
-marksOf P s (o ∷ os) = cond (takesBy (outcome P) s o) 1 0 ∷ marksOf P (doesBy (outcome P) s o) os
+-- Runs of any program, which says what it accepts and what it leaves
 
--- the areas are those after the run; the marks stand in their buffer as far as it goes, and its later bytes stay
-pub record Replayed (P : ℕ) (patch full blocks bases pages marks : List ℕ) (count : ℕ) (patch′ full′ marks′ : List ℕ) : Type 0 where
-  pub areas : both patch′ full′ ≡ after P (both patch full) (writes P blocks bases pages)
-  pub number : count ≡ length (accepted P (both patch full) (writes P blocks bases pages))
-  pub marked : marks′ ≡ splice marks 0 (take (length marks) (marksOf P (both patch full) (writes P blocks bases pages)))
+-- for each operation of a run, 1 if it was accepted when its turn came, else 0
+unfoldable pub marksOf : {S : Type 0} → (S → Operation → Bool) → (S → Operation → S) → S → List Operation → List ℕ
+marksOf takes does s [] = []
+marksOf takes does s (o ∷ os) = cond (takes s o) 1 0 ∷ marksOf takes does (does s o) os
+
+-- the state is that after the run; the marks stand in their buffer as far as it goes, and its later bytes stay
+pub record Ran {S : Type 0} (takes : S → Operation → Bool) (does : S → Operation → S) (s : S) (os : List Operation) (marks : List ℕ)
+    (count : ℕ) (s′ : S) (marks′ : List ℕ) : Type 0 where
+  pub state : s′ ≡ run does s os
+  pub number : count ≡ length (taking takes does s os)
+  pub marked : marks′ ≡ splice marks 0 (take (length marks) (marksOf takes does s os))
 
 -- the same of one write
-pub record Turned (P : ℕ) (patch full : List ℕ) (b : ℕ) (base page : List ℕ) (mark : ℕ) (patch′ full′ : List ℕ) : Type 0 where
-  pub areas : both patch′ full′ ≡ next P (both patch full) (lent b base page)
-  pub marked : mark ≡ cond (taken P (both patch full) (lent b base page)) 1 0
+pub record Made {S : Type 0} (takes : S → Operation → Bool) (does : S → Operation → S) (s : S) (o : Operation) (mark : ℕ) (s′ : S)
+    : Type 0 where
+  pub state : s′ ≡ does s o
+  pub marked : mark ≡ cond (takes s o) 1 0
+
+-- Without a map, and with one
+
+abbrev pub Replayed : ℕ → List ℕ → List ℕ → List ℕ → List ℕ → List ℕ → List ℕ → ℕ → List ℕ → List ℕ → List ℕ → Type 0
+Replayed P patch full blocks bases pages marks count patch′ full′ marks′ =
+    Ran (takesBy (outcome P)) (doesBy (outcome P)) (both patch full) (writes P blocks bases pages) marks count (both patch′ full′) marks′
+
+abbrev pub Turned : ℕ → List ℕ → List ℕ → ℕ → List ℕ → List ℕ → ℕ → List ℕ → List ℕ → Type 0
+Turned P patch full b base page mark patch′ full′ =
+    Made (takesBy (outcome P)) (doesBy (outcome P)) (both patch full) (write (lent b base page)) mark (both patch′ full′)
+
+abbrev pub ReplayedWith : ℕ → List ℕ → List ℕ → List ℕ → List ℕ → List ℕ → List ℕ → List ℕ
+    → ℕ → List ℕ → List ℕ → List ℕ → List ℕ → Type 0
+ReplayedWith P patch full map blocks bases pages marks count patch′ full′ map′ marks′ =
+    Ran (takesWithBy (mapped P)) (doesWithBy (mapped P)) (with (both patch full) map) (writes P blocks bases pages) marks count
+    (with (both patch′ full′) map′) marks′
+
+abbrev pub TurnedWith : ℕ → List ℕ → List ℕ → List ℕ → ℕ → List ℕ → List ℕ → ℕ → List ℕ → List ℕ → List ℕ → Type 0
+TurnedWith P patch full map b base page mark patch′ full′ map′ =
+    Made (takesWithBy (mapped P)) (doesWithBy (mapped P)) (with (both patch full) map) (write (lent b base page)) mark
+    (with (both patch′ full′) map′)

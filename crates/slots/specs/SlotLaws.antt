@@ -281,6 +281,15 @@ empty-patch s e =
     let z : getD s 0 0 ≡ 0 = ap (λ (x : List ℕ). getD x 0 0) q ∙ zeros-at slotSize 0 in
     other-patch s (ap (λ (x : List ℕ). length x) q ∙ zeros-length slotSize) (λ k. omega arith)
 
+-- and a PATCH has its numbers
+pub patch-told : (s : List ℕ) → isPatch s ≡ true → slotNumbers s ≡ soundSlot 1 (payloadLength s)
+unfolding slotNumbers
+patch-told s e = go (same s emptySlot) refl
+  where
+    go : (t : Bool) → same s emptySlot ≡ t → slotNumbers s ≡ soundSlot 1 (payloadLength s)
+    go true q = absurd (true≢false (sym e ∙ empty-patch s q))
+    go false q = rw (q, e)
+
 pub told-other : (s : List ℕ) (x : SlotNumbers) → x ≡ slotNumbers s → (x .kind ≡ 1 → ⊥) → isPatch s ≡ false
 unfolding slotNumbers
 told-other s x e h = go (isPatch s) (same s emptySlot) (same s fullSlot) refl refl e

@@ -3,13 +3,10 @@ use Prim.Native.Nat.{ℕ, _+_, _-_, _*_, _/_, _≤_, _<_}
 use native.Mathlib.Nat.{mul-le-mul-left, mul-suc, zero-div}
 use native.Mathlib.Numerals.{add-one}
 use native.Mathlib.Omega.{arith}
-use mathlib.Core.Path.{_≡_, refl, sym, ap, _∙_}
+use mathlib.Core.Path.{_≡_, refl, ap, _∙_}
 use mathlib.Core.Bool.{Bool, true, false, not, _&&_, cond}
 use mathlib.Core.Logic.{⊎-elim}
 use mathlib.Core.List.{List, [], _∷_}
-use Rattle.span.specs.Laws.{and-left, and-right}
-use Rattle.stream.specs.Calls.{pagesFit, pageRows}
-use Rattle.stream.specs.Laws.{page-length, base-length}
 use lib.ListN.{length}
 use Rattle.layout.specs.Sizes.{fullHead, pageAt}
 use Rattle.layout.specs.Refusals.{Row, _⇐_, firstOf, orElse}
@@ -82,29 +79,3 @@ places P n full h e b k = ⊎-elim absent present (full-fits-is P n (length full
         let m : P * (b + 1) ≤ P * pagesIn P (length full) = mul-le-mul-left P (omega arith) in
         let d : P * (b + 1) ≡ P * b + P = ap (λ (k : ℕ). P * k) (add-one b) ∙ mul-suc P b in
         omega arith
-
--- what the shared check of the frame says of a call with pages and no buffer
-pub frame-told : (P : ℕ) (patch full base page : List ℕ) (a : Bool) (k : ℕ) → a ≡ pagesFit P base page
-    → k ≡ firstOf (frameRows P ((1 ⇐ not a) ∷ []) ((9 ⇐ not true) ∷ []) patch full)
-    → firstOf (frameRows P (pageRows P base page) [] patch full) ≡ k
-frame-told P patch full base page a k e f = frame-pages P patch full (pagesFit P base page)
-    ∙ sym (f ∙ ap (λ (t : Bool). firstOf (frameRows P ((1 ⇐ not t) ∷ []) ((9 ⇐ not true) ∷ []) patch full)) e)
-
--- and what a sound one gives: pages of their sizes, n not above the most, places that lie in the full area
-pub record Sound (P : ℕ) (patch full base page : List ℕ) : Type 0 where
-  pub page-size : length page ≡ P
-  pub base-size : (length base ≡ 0 → ⊥) → length base ≡ P
-  pub patch-fit : patchFits P (length patch) ≡ true
-  pub full-fit : fullFits P (blocksIn (length patch)) (length full) ≡ true
-
-pub sound-frame : (P : ℕ) (patch full base page : List ℕ) → firstOf (frameRows P (pageRows P base page) [] patch full) ≡ 0
-    → Sound P patch full base page
-sound-frame P patch full base page e =
-    let f = frame-sound P patch full (pagesFit P base page) true (sym (frame-is P patch full (pagesFit P base page) true)
-    ∙ sym (frame-pages P patch full (pagesFit P base page)) ∙ e) in
-    record {
-      page-size = page-length P base page (f .0);
-      base-size = base-length P base page (f .0);
-      patch-fit = and-left (patchFits P (length patch)) (fullFits P (blocksIn (length patch)) (length full)) (f .1);
-      full-fit = and-right (patchFits P (length patch)) (fullFits P (blocksIn (length patch)) (length full)) (f .1);
-    }

@@ -2,25 +2,26 @@
 use Prim.Native.Nat.{ℕ, zero, suc, _≤_}
 use native.Mathlib.Omega.{arith}
 use mathlib.Core.Path.{_≡_, refl, sym, ap, _∙_, subst}
-use mathlib.Core.Bool.{Bool, true}
+use mathlib.Core.Bool.{Bool, true, not}
 use mathlib.Core.Logic.{⊎-elim}
-use mathlib.Core.List.{List, []}
+use mathlib.Core.List.{List, [], _∷_}
 use lib.ListN.{length}
 use Rattle.span.specs.Laws.{and-left, and-right}
 use Rattle.layout.specs.Sizes.{segment}
 use Rattle.layout.specs.Numbers.{refusalNumber}
 use Rattle.layout.specs.NumberLaws.{refusal-one, refusal-some}
 use Rattle.layout.specs.declared.Refusal.{Refusal}
-use Rattle.layout.specs.Refusals.{firstOf, decided}
+use Rattle.layout.specs.Refusals.{Row, _⇐_, firstOf}
 use Rattle.layout.specs.RefusalLaws.{decided-done, decided-refused}
 use Rattle.layout.specs.Lengths.{blocksIn, pagesIn, patchFits, fullFits}
 use Rattle.layout.specs.LengthLaws.{patch-fits-is, full-fits-is, most-blocks}
 use Rattle.store.specs.declared.Opened.{Opened}
 use Rattle.store.specs.declared.Opened.the-variants.{Refused, Frame}
 use Rattle.stream.specs.Calls.{pagesFit, pageRows}
+use Rattle.stream.specs.Laws.{page-length, base-length}
 use Rattle.store.specs.Frame.{frameRows}
 use Rattle.store.specs.Open.{openRows, FrameNumbers, openNumbers, openedNumbers}
-use Rattle.store.specs.FrameLaws.{frame-is, frame-sound, none-in, frame-told, sound-frame}
+use Rattle.store.specs.FrameLaws.{frame-is, frame-sound, frame-pages, none-in}
 
 -- what a frame that has nothing wrong gives: its rows, tests that hold, and lengths that fit
 pub record Framed (P : ℕ) (pages buffers : Bool) (patch full : List ℕ) : Type 0 where
@@ -95,9 +96,9 @@ module _ (P : ℕ) (pages buffers : Bool) (patch full : List ℕ) where
         places = ap (λ (x : FrameNumbers). x .m) d;
       }
 
--- what a call with pages and no buffer is told: its own rows, and what it works with, by the opened size
-pub record Lent (P : ℕ) (patch full base page : List ℕ) (size n m : ℕ) : Type 0 where
-  pub none : firstOf (frameRows P (pageRows P base page) [] patch full) ≡ 0
+-- what a call with pages and these rows of its buffer is told: no row holds, and what it works with, by the opened size
+pub record Lent (P : ℕ) (buffers : List Row) (patch full base page : List ℕ) (size n m : ℕ) : Type 0 where
+  pub none : firstOf (frameRows P (pageRows P base page) buffers patch full) ≡ 0
   pub own : size ≡ P
   pub blocks : n ≡ blocksIn (length patch)
   pub places : m ≡ pagesIn size (length full)
@@ -106,27 +107,60 @@ pub record Lent (P : ℕ) (patch full base page : List ℕ) (size n m : ℕ) : T
   pub patch-fit : patchFits size (length patch) ≡ true
   pub full-fit : fullFits size (blocksIn (length patch)) (length full) ≡ true
 
+-- where the frame's rows with another buffer give the same number
+lent-as : (P : ℕ) (rows rows′ : List Row) (patch full base page : List ℕ) (size n m : ℕ)
+    → firstOf (frameRows P (pageRows P base page) rows′ patch full) ≡ firstOf (frameRows P (pageRows P base page) rows patch full)
+    → Lent P rows patch full base page size n m → Lent P rows′ patch full base page size n m
+lent-as P rows rows′ patch full base page size n m e l =
+    record {
+      none = e ∙ l .none;
+      own = l .own;
+      blocks = l .blocks;
+      places = l .places;
+      page-size = l .page-size;
+      base-size = l .base-size;
+      patch-fit = l .patch-fit;
+      full-fit = l .full-fit;
+    }
+
+-- a call with a buffer, told whether it is long enough
+module _ (P : ℕ) (patch full base page : List ℕ) (fit long : Bool) (x : Opened) (e : fit ≡ pagesFit P base page)
+    (told : openedNumbers x ≡ openNumbers P fit long patch full) where
+  own-pages : firstOf (frameRows P (pageRows P base page) ((9 ⇐ not long) ∷ []) patch full) ≡ firstOf (openRows P fit long patch full)
+  own-pages = ap (λ (t : Bool). firstOf (openRows P t long patch full)) (sym e)
+
+  pub buffered-refused : (r : Refusal) → x ≡ Refused r
+      → firstOf (frameRows P (pageRows P base page) ((9 ⇐ not long) ∷ []) patch full) ≡ refusalNumber r
+  buffered-refused r is = own-pages ∙ opened-refused P fit long patch full r (sym (ap openedNumbers is) ∙ told)
+
+  pub buffered-frame : (size n m : ℕ) → x ≡ Frame size n m
+      → (long ≡ true) × Lent P ((9 ⇐ not long) ∷ []) patch full base page size n m
+  buffered-frame size n m is =
+      let o = opened-frame P fit long patch full size n m (sym (ap openedNumbers is) ∙ told) in
+      let pages : pagesFit P base page ≡ true = sym e ∙ o .framed .pages-fit in (
+        o .framed .buffers-fit,
+        subst (λ (s : ℕ). Lent P ((9 ⇐ not long) ∷ []) patch full base page s n m) (sym (o .own)) (record {
+          none = own-pages ∙ o .framed .none;
+          own = refl;
+          blocks = o .blocks;
+          places = o .places;
+          page-size = page-length P base page pages;
+          base-size = base-length P base page pages;
+          patch-fit = o .framed .patch-fit;
+          full-fit = o .framed .full-fit;
+        }),
+      )
+
+-- and one without
 module _ (P : ℕ) (patch full base page : List ℕ) (fit : Bool) (x : Opened) (e : fit ≡ pagesFit P base page)
     (told : openedNumbers x ≡ openNumbers P fit true patch full) where
   pub lent-refused : (r : Refusal) → x ≡ Refused r → firstOf (frameRows P (pageRows P base page) [] patch full) ≡ refusalNumber r
-  lent-refused r is = frame-told P patch full base page fit (refusalNumber r) e
-      (sym (opened-refused P fit true patch full r (sym (ap openedNumbers is) ∙ told)))
+  lent-refused r is = frame-pages P patch full (pagesFit P base page) ∙ buffered-refused P patch full base page fit true x e told r is
 
-  pub lent-frame : (size n m : ℕ) → x ≡ Frame size n m → Lent P patch full base page size n m
+  pub lent-frame : (size n m : ℕ) → x ≡ Frame size n m → Lent P [] patch full base page size n m
   lent-frame size n m is =
-      let o = opened-frame P fit true patch full size n m (sym (ap openedNumbers is) ∙ told) in
-      let none = frame-told P patch full base page fit 0 e (sym (o .framed .none)) in
-      let sound = sound-frame P patch full base page none in
-      subst (λ (s : ℕ). Lent P patch full base page s n m) (sym (o .own)) (record {
-        none = none;
-        own = refl;
-        blocks = o .blocks;
-        places = o .places;
-        page-size = sound .page-size;
-        base-size = sound .base-size;
-        patch-fit = sound .patch-fit;
-        full-fit = sound .full-fit;
-      })
+      lent-as P ((9 ⇐ not true) ∷ []) [] patch full base page size n m (frame-pages P patch full (pagesFit P base page))
+      (buffered-frame P patch full base page fit true x e told size n m is .1)
 
 -- one answer
 pub opened-one : (a b : Opened) → openedNumbers a ≡ openedNumbers b → a ≡ b

@@ -1,6 +1,8 @@
 pub mod AreaLaws
 pub mod Areas
 pub mod MapLaws
+pub mod Mapped
+pub mod MappedLaws
 pub mod Maps
 pub mod PageLaws
 pub mod Pages

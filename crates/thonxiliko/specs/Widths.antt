@@ -24,9 +24,11 @@ use Rattle.stream.specs.Kinds.{compare-gives, accepted-fits}
 use Rattle.stream.specs.Given.{apply-told}
 use Rattle.store.specs.Judge.{Judge, JudgedNumbers, judgedNumbers, judgeRows, judgeNumbers}
 use Rattle.writing.specs.Write.{Write, WriteNumbers, writtenNumbers, writeNumbers, decidedStream, writeRows, writeOutcome}
+use Rattle.writing.specs.Mapped.{WriteMapped, writeMappedRows, writeMappedOutcome}
 use Rattle.store.specs.Block.{slotOf}
 use Rattle.reading.specs.Read.{ReadNumbers, readingNumbers, readOutcome, Read}
-use Rattle.reading.specs.Given.{read-told}
+use Rattle.reading.specs.Mapped.{readMappedOutcome, ReadMapped}
+use Rattle.reading.specs.Given.{read-told, read-mapped-told}
 use Rattle.building.specs.Build.{BuildNumbers, builtNumbers, buildOutcome, Build}
 use Rattle.building.specs.Given.{build-told}
 use Rattle.layout.specs.declared.Kind.{Kind}
@@ -194,6 +196,23 @@ module _ (patch full : List ℕ) (b : ℕ) (base page : List ℕ) where
       (firstOf (writeRows pageSize patch full b base page)) refl in
       omega arith
 
+  -- and with a lent map
+  write-mapped-few : (map : List ℕ) (k : ℕ) → firstOf (writeMappedRows pageSize patch full map b base page) ≡ k
+      → writeMappedOutcome pageSize patch full map b base page .written .length ≤ 4 * pageSize
+  unfolding writeMappedOutcome decided
+  write-mapped-few map zero e = rw e (write-few (firstOf (writeRows pageSize patch full b base page)) refl)
+  write-mapped-few map (suc k) e = rw e (omega arith)
+
+  pub write-mapped-fits : {map patch′ full′ map′ : List ℕ} {a : Written} {k : Kind} {n : ℕ}
+      → WriteMapped pageSize patch full map b base page a patch′ full′ map′ → a ≡ WrittenDone k n → n < 2 ^ 32
+  write-mapped-fits {map} {patch′} {full′} {map′} {a} {k} {n} c q =
+      let f : writtenNumbers (WrittenDone k n) ≡ writeNumbers (writeMappedOutcome pageSize patch full map b base page .written) =
+      ap writtenNumbers (sym q) ∙ c .numbers in
+      let g : n ≡ writeMappedOutcome pageSize patch full map b base page .written .length = ap (λ (x : WriteNumbers). x .length) f in
+      let m : writeMappedOutcome pageSize patch full map b base page .written .length ≤ 4 * pageSize =
+      write-mapped-few map (firstOf (writeMappedRows pageSize patch full map b base page)) refl in
+      omega arith
+
 -- The offset
 
 offset-few : (number : ℕ) (payload : List ℕ) → offsetWith number pageSize payload ≤ room
@@ -219,6 +238,17 @@ read-offset-fits {patch} {full} {base} {page} {after} {b} {a} {r} {o} c q =
       arith,
       e ∙ read-told pageSize patch full b base page,
       offset-few (readOutcome pageSize patch full b base page .number) (payloadOf (slotOf patch b)),
+    )
+
+pub read-mapped-offset-fits : {patch full map base page after : List ℕ} {b : ℕ} {a : Reading} {r : Refusal} {o : ℕ}
+    → ReadMapped pageSize patch full map b base page a after → a ≡ ReadingRefused r o → o < 2 ^ 32
+read-mapped-offset-fits {patch} {full} {map} {base} {page} {after} {b} {a} {r} {o} c q =
+    let e : o ≡ readMappedOutcome pageSize patch full map b base page .offset =
+    ap (λ (x : ReadNumbers). x .offset) (ap readingNumbers (sym q) ∙ c .numbers) in
+    omega (
+      arith,
+      e ∙ read-mapped-told pageSize patch full map b base page,
+      offset-few (readMappedOutcome pageSize patch full map b base page .number) (payloadOf (slotOf patch b)),
     )
 
 pub build-offset-fits : {patch full map after : List ℕ} {a : Built} {r : Refusal} {b o : ℕ} → Build pageSize patch full map a after

@@ -1,6 +1,7 @@
 // The C interface. Each exported function calls the proved call beneath it and gives its answer as the paper's numbers.
 pub mod areas;
 pub mod map;
+pub mod mapped;
 pub mod pages;
 
 // What Format answers.

@@ -46,6 +46,10 @@ pub record WriteOutcome : Type 0 where
   pub patch : List ℕ
   pub full : List ℕ
 
+-- refused: both areas keep every byte, and the other numbers are 0
+abbrev pub writeRefused : ℕ → List ℕ → List ℕ → WriteOutcome
+writeRefused number patch full = record { number = number; kind = 0; length = 0; patch = patch; full = full }
+
 unfoldable pub writeOutcome : ℕ → List ℕ → List ℕ → ℕ → List ℕ → List ℕ → WriteOutcome
 writeOutcome P patch full b base page =
     let stream = decidedStream P base page in
@@ -59,7 +63,7 @@ writeOutcome P patch full b base page =
       full = carriedFull P full b kind
           page;
     })
-    (λ n. record { number = n; kind = 0; length = 0; patch = patch; full = full })
+    (λ n. writeRefused n patch full)
 
 -- the paper's numbers for each case of the answer
 pub record WriteNumbers : Type 0 where

@@ -1,5 +1,6 @@
 // Write: Compare's decision, and carrying it out.
 mod carry;
+pub mod mapped;
 
 use layout::Kind;
 use layout::Layout;

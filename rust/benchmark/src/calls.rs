@@ -268,6 +268,50 @@ fn write_cases(cases: &mut Cases) {
     }
 }
 
+/// The same with a map of 16 blocks, which is all that is looked at or changed besides.
+fn mapped_cases(cases: &mut Cases) {
+    for (name, pages) in kinds() {
+        let lent = (Lent::with(&pages), vec![0; map_len(BLOCKS)]);
+        let limit = headers().compare(PAGE_SIZE).copy(SLOT_SIZE);
+        let limit = match pages.compared.difference {
+            Difference::Large => limit.copy(PAGE_SIZE),
+            _ => limit.set(PAGE_SIZE),
+        };
+        let both = both!(
+            lent,
+            write_mapped(
+                &mut lent.0.patch,
+                &mut lent.0.full,
+                &mut lent.1,
+                BLOCK,
+                &lent.0.base,
+                &lent.0.page
+            )
+        );
+        cases.add("Write with a map", &name, limit, both);
+    }
+    for (name, pages) in kinds() {
+        let mut lent = (Lent::with(&pages), vec![0; map_len(BLOCKS)]);
+        thonxiliko::build(&lent.0.patch, &lent.0.full, &mut lent.1).expect("a sound store");
+        let limit = match pages.compared.difference {
+            Difference::Patch => headers().compare(SLOT_SIZE).copy(PAGE_SIZE),
+            _ => headers().copy(PAGE_SIZE),
+        };
+        let both = both!(
+            lent,
+            read_mapped(
+                &lent.0.patch,
+                &lent.0.full,
+                &lent.1,
+                BLOCK,
+                &lent.0.base,
+                &mut lent.0.filled
+            )
+        );
+        cases.add("Read by the map", &name, limit, both);
+    }
+}
+
 fn format_cases(cases: &mut Cases) {
     for (name, places) in [("n = 64, no full area", None), ("n = m = 64", Some(BUILT))] {
         let lent = Lent::fresh(BUILT, places, &Pages::equal());
@@ -338,6 +382,7 @@ pub fn rows(effort: Effort) -> Vec<Row> {
     judge_and_show_cases(&mut cases);
     read_cases(&mut cases);
     write_cases(&mut cases);
+    mapped_cases(&mut cases);
     format_cases(&mut cases);
     build_cases(&mut cases);
     map_cases(&mut cases);

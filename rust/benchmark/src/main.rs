@@ -1,9 +1,11 @@
 //! Prints how long each call takes, as tables in Markdown. With `--once` every contender gets one turn,
-//! to see that all of it works; with `--format` only Format of large areas is measured.
+//! to see that all of it works; with `--format` only Format of large areas is measured, with `--maps`
+//! only what a map that is kept brings.
 
 mod calls;
 mod formats;
 mod limits;
+mod maps;
 mod pages;
 mod segments;
 mod timing;
@@ -57,6 +59,21 @@ fn print_segments(rows: &[segments::Row]) {
     }
 }
 
+fn print_maps(unit: &str, rows: &[maps::Row]) {
+    println!("| Blocks | Work, per {unit} | {HEAD}");
+    println!("|--:|---|--:|--:|--:|---|--:|--:|");
+    for row in rows {
+        println!("| {} | {} | {}", row.blocks, row.work, cells(&row.times));
+    }
+}
+
+/// Reads by a map that is kept, and writes that keep it.
+fn print_kept_maps(once: bool) {
+    print_maps("block", &maps::read_rows(once));
+    println!();
+    print_maps("batch", &maps::write_rows(once));
+}
+
 /// The targets that were set, and how they came out.
 fn print_targets(calls: &[calls::Row], segments: &[segments::Row]) {
     let within = calls.iter().filter(|row| within_target(&row.times)).count();
@@ -98,6 +115,8 @@ fn print_all(once: bool) {
     println!("\n### Format of large areas\n");
     let (effort, blocks) = if once { (ONCE, 1_024) } else { (formats::EFFORT, formats::BLOCKS) };
     print_segments(&formats::rows(effort, blocks));
+    println!("\n### A map that is kept\n");
+    print_kept_maps(once);
     println!("\n### Targets\n");
     print_targets(&calls, &segments);
 }
@@ -109,8 +128,12 @@ fn main() -> ExitCode {
         [] => print_all(false),
         ["--once"] => print_all(true),
         ["--format"] => print_formats(),
+        ["--maps"] => {
+            println!("{METHOD}");
+            print_kept_maps(false);
+        }
         _ => {
-            eprintln!("usage: benchmark [--once | --format]");
+            eprintln!("usage: benchmark [--once | --format | --maps]");
             return ExitCode::from(2);
         }
     }

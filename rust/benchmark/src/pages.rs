@@ -89,6 +89,24 @@ impl Pages {
         (0..count).map(page).collect()
     }
 
+    /// A page over a base of its own, drawn by a number: with none, with 1 to `most`, or with every byte
+    /// changed.
+    pub fn drawn_with(number: u64, most: usize) -> Pages {
+        let mut rng = Rng::for_case(13, "drawn with", number);
+        let base = rng.bytes(PAGE_SIZE);
+        let mut page = base.clone();
+        match most {
+            0 => {}
+            PAGE_SIZE => page.iter_mut().for_each(|byte| *byte ^= rng.nonzero_byte()),
+            _ => {
+                for _ in 0..rng.between(1, most) {
+                    page[rng.below(PAGE_SIZE)] ^= rng.nonzero_byte();
+                }
+            }
+        }
+        Pages::new("drawn", base, page)
+    }
+
     /// Those that do not, from few differences to a page that is new throughout.
     pub fn larges() -> Vec<Pages> {
         let second = (0..PAGE_SIZE).step_by(2);

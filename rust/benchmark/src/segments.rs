@@ -20,7 +20,7 @@ pub struct Row {
 
 pub const EFFORT: Effort = Effort { least: 5, quiet: 3, most: 15 };
 
-fn fresh(blocks: u64) -> Vec<u8> {
+pub fn fresh(blocks: u64) -> Vec<u8> {
     let mut patch = vec![0; patch_area_len(blocks)];
     thonxiliko::format(&mut patch, &mut []).expect("a sound length");
     patch

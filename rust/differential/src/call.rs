@@ -23,10 +23,14 @@ pub enum Call {
     Tally,
     /// One step of the entry reader.
     Next,
+    /// A write that keeps a lent map.
+    WriteMapped,
+    /// A read that goes by a map.
+    ReadMapped,
 }
 
 impl Call {
-    pub const ALL: [Call; 11] = [
+    pub const ALL: [Call; 13] = [
         Call::Format,
         Call::Compare,
         Call::Apply,
@@ -38,6 +42,8 @@ impl Call {
         Call::LookUp,
         Call::Tally,
         Call::Next,
+        Call::WriteMapped,
+        Call::ReadMapped,
     ];
 
     pub fn name(self) -> &'static str {
@@ -53,6 +59,8 @@ impl Call {
             Call::LookUp => "look_up",
             Call::Tally => "tally",
             Call::Next => "next",
+            Call::WriteMapped => "write_mapped",
+            Call::ReadMapped => "read_mapped",
         }
     }
 
@@ -70,6 +78,8 @@ impl Call {
             Call::LookUp => &["map"],
             Call::Tally => &["map"],
             Call::Next => &["payload"],
+            Call::WriteMapped => &["patch", "full", "map", "base", "page"],
+            Call::ReadMapped => &["patch", "full", "map", "base", "page"],
         }
     }
 
@@ -87,6 +97,8 @@ impl Call {
             Call::LookUp => &[0, 2, 5, 9, 11],
             Call::Tally => &[0, 2, 9, 11],
             Call::Next => &[0, 7],
+            Call::WriteMapped => &[0, 1, 2, 3, 4, 5, 8, 9],
+            Call::ReadMapped => &[0, 1, 2, 3, 4, 5, 6, 7, 8, 9, 11],
         }
     }
 
@@ -94,7 +106,7 @@ impl Call {
     pub fn offset_member(self) -> Option<usize> {
         match self {
             Call::Apply => Some(3),
-            Call::Read | Call::Build => Some(2),
+            Call::Read | Call::ReadMapped | Call::Build => Some(2),
             _ => None,
         }
     }

@@ -1,6 +1,6 @@
 //! Inputs with their outcomes written by hand from the rules: P1 to P12, both sides of each edge, the
-//! order of refusals, where payloads break, the steps of a reader, and the shortcuts that give a wrong
-//! page.
+//! order of refusals, where payloads break, the steps of a reader, what a lent map becomes and what it
+//! makes of a read, and the shortcuts that give a wrong page.
 
 use crate::call::{
     Answer, Call, Input, Outcome, BEGINNING, FULL_HEADER, PAGE, PATCH_HEADER, PAYLOAD, SLOT,
@@ -13,6 +13,7 @@ pub struct Case {
 }
 
 /// Bytes that a call puts into one of its buffers; all other bytes stay.
+#[derive(Clone)]
 struct Put {
     buffer: usize,
     at: usize,
@@ -119,6 +120,21 @@ fn read(patch: Vec<u8>, full: Vec<u8>, block: u64, base: Vec<u8>) -> Input {
 
 fn write(patch: Vec<u8>, full: Vec<u8>, block: u64, base: Vec<u8>, page: Vec<u8>) -> Input {
     Input::new(Call::Write, vec![patch, full, base, page]).at_block(block)
+}
+
+fn write_mapped(
+    [patch, full]: [Vec<u8>; 2],
+    map: &[u8],
+    block: u64,
+    base: Vec<u8>,
+    page: Vec<u8>,
+) -> Input {
+    Input::new(Call::WriteMapped, vec![patch, full, map.to_vec(), base, page]).at_block(block)
+}
+
+fn read_mapped([patch, full]: [Vec<u8>; 2], map: &[u8], block: u64, base: Vec<u8>) -> Input {
+    let buffers = vec![patch, full, map.to_vec(), base, filler(PAGE)];
+    Input::new(Call::ReadMapped, buffers).at_block(block)
 }
 
 fn build(patch: Vec<u8>, full: Vec<u8>, map: Vec<u8>) -> Input {
@@ -498,6 +514,11 @@ fn headers(cases: &mut Vec<Case>) {
         cases.push(case(&format!("{name}: read"), input, &[number], &[]));
         let input = write(patch.clone(), full.clone(), 0, Vec::new(), page(&[(1, 1)]));
         cases.push(case(&format!("{name}: written"), input, &[number], &[]));
+        let areas = || [patch.clone(), full.clone()];
+        let input = read_mapped(areas(), &[0], 0, Vec::new());
+        cases.push(case(&format!("{name}: read by a map"), input, &[number], &[]));
+        let input = write_mapped(areas(), &[0xFF], 0, Vec::new(), page(&[(1, 1)]));
+        cases.push(case(&format!("{name}: written with a map"), input, &[number], &[]));
         let input = build(patch, full, filler(1));
         cases.push(case(&format!("{name}: built"), input, &[number], &[]));
     };
@@ -562,8 +583,12 @@ fn page_lengths(cases: &mut Vec<Case>) {
         cases.push(case(&name("read base"), input, &[1], &[]));
         let input = write(vec![], vec![1], 9, odd.clone(), zeros());
         cases.push(case(&name("written base"), input, &[1], &[]));
-        let input = write(patch_area(1), vec![], 0, vec![], odd);
+        let input = write(patch_area(1), vec![], 0, vec![], odd.clone());
         cases.push(case(&name("written page"), input, &[1], &[]));
+        let input = read_mapped([vec![], vec![1]], &[], 9, odd.clone());
+        cases.push(case(&name("base read by a map"), input, &[1], &[]));
+        let input = write_mapped([patch_area(1), vec![]], &[0xFF], 0, vec![], odd);
+        cases.push(case(&name("page written with a map"), input, &[1], &[]));
     }
     cases.push(case("compared page of 0 bytes", compare(zeros(), vec![], filler(504)), &[1], &[]));
     let input = Input::new(Call::Read, vec![patch_area(1), vec![], vec![], vec![]]);
@@ -598,6 +623,9 @@ fn area_lengths(cases: &mut Vec<Case>) {
             cases.push(case(&name, format(area.clone(), full.clone()), &[2], &[]));
             cases.push(case(&name, build(area.clone(), full.clone(), vec![]), &[2], &[]));
             cases.push(case(&name, read(area.clone(), full.clone(), 0, vec![]), &[2], &[]));
+            let areas = [area.clone(), full.clone()];
+            cases.push(case(&name, read_mapped(areas.clone(), &[], 0, vec![]), &[2], &[]));
+            cases.push(case(&name, write_mapped(areas, &[], 0, vec![], zeros()), &[2], &[]));
             cases.push(case(&name, write(area, full, 0, vec![], zeros()), &[2], &[]));
         }
     }
@@ -609,6 +637,9 @@ fn area_lengths(cases: &mut Vec<Case>) {
         cases.push(case(&name, format(patch.clone(), area.clone()), &[2], &[]));
         cases.push(case(&name, build(patch.clone(), area.clone(), vec![]), &[2], &[]));
         cases.push(case(&name, read(patch.clone(), area.clone(), 0, vec![]), &[2], &[]));
+        let areas = [patch.clone(), area.clone()];
+        cases.push(case(&name, read_mapped(areas.clone(), &[], 0, vec![]), &[2], &[]));
+        cases.push(case(&name, write_mapped(areas, &[], 0, vec![], zeros()), &[2], &[]));
         cases.push(case(&name, write(patch, area, 0, vec![], zeros()), &[2], &[]));
     }
 }
@@ -751,6 +782,175 @@ fn writing(cases: &mut Vec<Case>) {
     ));
 }
 
+/// For blocks 0 to 5: the byte of the map that a write changes, and what it becomes for EMPTY, PATCH
+/// and FULL_REF where it was 00, and where it was FF.
+const KEPT: [(usize, [u8; 3], [u8; 3]); 6] = [
+    (0, [0x00, 0x02, 0x01], [0xFC, 0xFE, 0xFD]),
+    (0, [0x00, 0x08, 0x04], [0xF3, 0xFB, 0xF7]),
+    (0, [0x00, 0x20, 0x10], [0xCF, 0xEF, 0xDF]),
+    (0, [0x00, 0x80, 0x40], [0x3F, 0xBF, 0x7F]),
+    (1, [0x00, 0x02, 0x01], [0xFC, 0xFE, 0xFD]),
+    (1, [0x00, 0x08, 0x04], [0xF3, 0xFB, 0xF7]),
+];
+
+/// What a write makes of a lent map: its own pair, and nothing else of it.
+fn kept_maps(cases: &mut Vec<Case>) {
+    let areas = || [patch_area(6), full_area(6)];
+    let small = page(&[(0, 7)]);
+    for (block, (byte, over_00, over_ff)) in KEPT.into_iter().enumerate() {
+        let (slot_at, place_at) = (512 + 512 * block, 4096 + 8192 * block);
+        // A third byte, which is no block's, stays.
+        for (old, new) in [(0x00, over_00), (0xFF, over_ff)] {
+            let mut with_pair =
+                |name: &str, page: &[u8], answer: &[i128], new: u8, puts: Vec<Put>| {
+                    let name = format!("{name} kept in block {block} over a map of {old:02X}");
+                    let block = block as u64;
+                    let input = write_mapped(areas(), &[old; 3], block, vec![], page.to_vec());
+                    let puts = [puts, vec![put(2, byte, &[new])]].concat();
+                    cases.push(case(&name, input, answer, &puts));
+                };
+            with_pair("EMPTY", &zeros(), &[0, 0, 0], new[0], vec![]);
+            let slot_put = put(0, slot_at, &patch_slot(&[0, 7]));
+            with_pair("PATCH", &small, &[0, 1, 2], new[1], vec![slot_put]);
+            let puts = vec![put(0, slot_at, &[2]), put(1, place_at, &[6; PAGE])];
+            with_pair("FULL_REF", &[6; PAGE], &[0, 2, 16_384], new[2], puts);
+        }
+    }
+    // What was there does not matter, in the areas either.
+    cases.push(case(
+        "a patch over a stray page and a pair of 3",
+        write_mapped([patch_area(2), full()], &[0x0C], 1, vec![], small.clone()),
+        &[0, 1, 2],
+        &[put(0, 1024, &patch_slot(&[0, 7])), put(1, 12_288, &zeros()), put(2, 0, &[0x08])],
+    ));
+    cases.push(case(
+        "back to the base, with a map",
+        write_mapped([full_ref(), full()], &[0x04], 1, a_base(), a_base()),
+        &[0, 0, 0],
+        &[put(0, 1024, &slot(&[])), put(1, 12_288, &zeros()), put(2, 0, &[0x00])],
+    ));
+    cases.push(case(
+        "a patch on a block without a place, with a map",
+        write_mapped([patch_area(2), vec![]], &[0xF3], 1, vec![], small),
+        &[0, 1, 2],
+        &[put(0, 1024, &patch_slot(&[0, 7])), put(2, 0, &[0xFB])],
+    ));
+}
+
+/// Refused writes, which leave the map.
+fn refused_maps(cases: &mut Vec<Case>) {
+    let areas = |n: usize| [patch_area(n), vec![]];
+    let large = vec![1; PAGE];
+    for map in [0x00, 0xFF, 0x2D] {
+        let mut leaves = |name: &str, input: Input, number: i128| {
+            cases.push(case(&format!("{name} leaves a map of {map:02X}"), input, &[number], &[]));
+        };
+        leaves("8", write_mapped(areas(4), &[map], 3, vec![], large.clone()), 8);
+        leaves("5", write_mapped(areas(3), &[map], 3, vec![], zeros()), 5);
+        leaves("5 before 8", write_mapped(areas(4), &[map], 4, vec![], large.clone()), 5);
+        leaves("9", write_mapped(areas(5), &[map], 0, vec![], zeros()), 9);
+        let bad = || with(patch_area(5), 0, &[0]);
+        leaves("9 before 3", write_mapped([bad(), vec![]], &[map], 9, vec![], zeros()), 9);
+        leaves("2 before 9", write_mapped([bad(), vec![1]], &[map], 9, vec![], zeros()), 2);
+        let two = [bad(), vec![]];
+        leaves("3 before 5", write_mapped(two, &[map; 2], 9, vec![], large.clone()), 3);
+        leaves("1 before 9", write_mapped(areas(5), &[map], 0, vec![1], zeros()), 1);
+    }
+    for n in [1, 4] {
+        let input = write_mapped(areas(n), &[], 0, vec![], zeros());
+        cases.push(case(&format!("no map for {n} blocks"), input, &[9], &[]));
+    }
+    let input = write_mapped(areas(0), &[], 0, vec![], zeros());
+    cases.push(case("n = 0 wants no map", input, &[5], &[]));
+}
+
+/// Four blocks, EMPTY, PATCH, FULL_REF and an unsound slot, and a full area with these places.
+fn four(places: usize) -> [Vec<u8>; 2] {
+    let patch = with(patch_area(4), 1024, &patch_slot(&[0, 7]));
+    let patch = with(patch, 1536, &slot(&[2]));
+    let patch = with(patch, 2048, &slot(&[3]));
+    let mut full = full_area(places);
+    for (block, byte) in [0x77, 0x00, 0x99, 0x33].into_iter().enumerate().take(places) {
+        full[4096 + 8192 * block..][..PAGE].fill(byte);
+    }
+    [patch, full]
+}
+
+/// What the map says is done, whatever the slot is, but for pair 2.
+fn reads_by_map(cases: &mut Vec<Case>) {
+    let patched = with(a_base(), 0, &[7]);
+    let by = |map: u8, block: u64| read_mapped(four(3), &[map], block, a_base());
+    let pages: [(&str, u8, u64, i128, Vec<u8>); 11] = [
+        ("0 over EMPTY", 0x18, 0, 0, a_base()),
+        ("2 over PATCH", 0x18, 1, 1, patched.clone()),
+        ("1 over FULL_REF", 0x18, 2, 2, vec![0x99; PAGE]),
+        ("0 over an unsound slot", 0x18, 3, 0, a_base()),
+        ("0 over PATCH", 0x00, 1, 0, a_base()),
+        ("0 over FULL_REF", 0x00, 2, 0, a_base()),
+        ("1 over EMPTY", 0x01, 0, 2, vec![0x77; PAGE]),
+        ("1 over PATCH", 0x04, 1, 2, zeros()),
+        ("2 among 3s", 0xFB, 1, 1, patched),
+        ("0 among 3s", 0xFC, 0, 0, a_base()),
+        ("1 among 3s", 0xDF, 2, 2, vec![0x99; PAGE]),
+    ];
+    for (name, map, block, kind, page) in pages {
+        cases.push(case(&format!("pair {name}"), by(map, block), &[0, kind], &[put(4, 0, &page)]));
+    }
+    let refusals: [(&str, u8, u64, i128); 8] = [
+        ("2 over EMPTY", 0x02, 0, 6),
+        ("2 over FULL_REF", 0x20, 2, 6),
+        ("2 over an unsound slot", 0x80, 3, 6),
+        ("1 not below m, over an unsound slot", 0x40, 3, 8),
+        ("3 over EMPTY", 0x03, 0, 11),
+        ("3 over PATCH", 0x0C, 1, 11),
+        ("3 over FULL_REF", 0x30, 2, 11),
+        ("3 over an unsound slot", 0xC0, 3, 11),
+    ];
+    for (name, map, block, number) in refusals {
+        cases.push(case(&format!("pair {name}"), by(map, block), &[number], &[]));
+    }
+    let input = read_mapped(four(4), &[0x40], 3, vec![]);
+    let place = [put(4, 0, &[0x33; PAGE])];
+    cases.push(case("pair 1 over an unsound slot with a place", input, &[0, 2], &place));
+    let input = read_mapped(four(3), &[0x00], 1, vec![]);
+    cases.push(case("pair 0 over no base", input, &[0, 0], &[put(4, 0, &zeros())]));
+    for full in [vec![], full_area(0)] {
+        let name = format!("pair 1 with a full area of {}", full.len());
+        let [patch, _] = four(0);
+        let input = read_mapped([patch, full], &[0x10], 2, vec![]);
+        cases.push(case(&name, input, &[8], &[]));
+    }
+    // A payload that breaks counts for pair 2 alone.
+    let broken = with(patch_area(2), 1024, &patch_slot(&[0, 7, 0]));
+    let by = |pair: u8| read_mapped([broken.clone(), full()], &[pair << 2], 1, a_base());
+    cases.push(case("pair 2 over a broken payload", by(2), &[7, 0, 2], &[]));
+    cases.push(case("pair 0 over it", by(0), &[0, 0], &[put(4, 0, &a_base())]));
+    cases.push(case("pair 1 over it", by(1), &[0, 2], &[put(4, 0, &stored())]));
+    cases.push(case("pair 3 over it", by(3), &[11], &[]));
+}
+
+/// What comes before a pair, and what of a map is not looked at.
+fn refused_reads_by_map(cases: &mut Vec<Case>) {
+    let areas = |n: usize| [patch_area(n), vec![]];
+    let bad = || [with(patch_area(5), 8, &[1]), vec![]];
+    let input = read_mapped(areas(5), &[0xFF], 0, vec![]);
+    cases.push(case("a map too short by one, 9 before 11", input, &[9], &[]));
+    cases.push(case("9 before 4", read_mapped(bad(), &[0xFF], 9, vec![]), &[9], &[]));
+    cases.push(case("4 before 5", read_mapped(bad(), &[0xFF; 2], 9, vec![]), &[4], &[]));
+    let input = read_mapped(areas(3), &[0xFF], 3, vec![]);
+    cases.push(case("5 before 11, block n", input, &[5], &[]));
+    for block in [4, 1 << 55, u64::MAX] {
+        let input = read_mapped(areas(4), &[0xFF; 9], block, vec![]);
+        cases.push(case(&format!("5 before 11, block {block}"), input, &[5], &[]));
+        let input = write_mapped(areas(4), &[0xFF; 9], block, vec![], zeros());
+        cases.push(case(&format!("block {block} written with a map"), input, &[5], &[]));
+    }
+    cases.push(case("n = 0 read by no map", read_mapped(areas(0), &[], 0, vec![]), &[5], &[]));
+    let input = read_mapped(areas(3), &[0xC0, 0xFF], 2, vec![]);
+    let name = "unused pairs and later bytes are not looked at";
+    cases.push(case(name, input, &[0, 0], &[put(4, 0, &zeros())]));
+}
+
 /// What Build makes and refuses.
 fn built_maps(cases: &mut Vec<Case>) {
     let patch = with(patch_area(5), 1024, &patch_slot(&[0, 7]));
@@ -878,6 +1078,10 @@ pub fn all() -> Vec<Case> {
     other_blocks(&mut cases);
     shortcuts(&mut cases);
     writing(&mut cases);
+    kept_maps(&mut cases);
+    refused_maps(&mut cases);
+    reads_by_map(&mut cases);
+    refused_reads_by_map(&mut cases);
     built_maps(&mut cases);
     first_faults(&mut cases);
     look_ups(&mut cases);

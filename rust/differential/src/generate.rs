@@ -260,7 +260,7 @@ impl Areas {
         areas
     }
 
-    fn blocks(&self) -> usize {
+    pub fn blocks(&self) -> usize {
         self.patch.len().saturating_sub(PATCH_HEADER) / SLOT
     }
 
@@ -295,7 +295,7 @@ pub fn pages(rng: &mut Rng, n: usize) -> Option<usize> {
 }
 
 /// A store as other programs may have left it, without damage yet.
-fn areas(rng: &mut Rng) -> Areas {
+pub fn areas(rng: &mut Rng) -> Areas {
     let (n, m) = sizes(rng);
     let mut areas = Areas::fresh(n, m);
     for block in 0..n {
@@ -513,6 +513,88 @@ fn write_input(rng: &mut Rng) -> Input {
     Input::new(Call::Write, vec![areas.patch, areas.full, base, page]).at_block(block)
 }
 
+/// The pair that a slot's kind byte stands for, sound or not: what a map says that was kept.
+fn pair_of_slot(slot: &[u8]) -> u8 {
+    match slot[0] {
+        1 => 2,
+        2 => 1,
+        _ => 0,
+    }
+}
+
+/// Puts a pair over the one that is there.
+pub fn set_pair(map: &mut [u8], block: usize, pair: u8) {
+    map[block / 4] &= !(3 << (2 * (block % 4)));
+    map[block / 4] |= pair << (2 * (block % 4));
+}
+
+/// The map that the slots' kinds make.
+fn map_of_slots(areas: &mut Areas) -> Vec<u8> {
+    let n = areas.blocks();
+    let mut map = vec![0; (n + 3) / 4];
+    for block in 0..n {
+        set_pair(&mut map, block, pair_of_slot(areas.slot(block)));
+    }
+    map
+}
+
+/// A map to be lent with areas: true, true but for a pair or two, zero, or of no meaning; with pairs
+/// of 3, with unused pairs; one byte too short, empty, or longer with noise behind.
+fn map_beside(rng: &mut Rng, areas: &mut Areas) -> Vec<u8> {
+    let n = areas.blocks();
+    let mut map = map_of_slots(areas);
+    match rng.below(10) {
+        0 => map.fill(0),
+        1 | 2 => rng.fill(&mut map),
+        3 => map.fill(rng.pick(&[0x55, 0xAA, 0xFF])),
+        4 | 5 if n > 0 => {
+            for _ in 0..rng.between(1, 2) {
+                set_pair(&mut map, rng.below(n), rng.below(3) as u8);
+            }
+        }
+        6 if n > 0 => set_pair(&mut map, rng.below(n), 3),
+        _ => {}
+    }
+    if n % 4 != 0 && rng.chance(20) {
+        set_pair(&mut map, rng.between(n, n | 3), rng.between(1, 3) as u8);
+    }
+    match rng.below(16) {
+        0 => map.truncate(map.len().saturating_sub(1)),
+        1 => map.clear(),
+        2..=4 => {
+            let more = rng.between(1, 9);
+            map.extend(rng.bytes(more));
+        }
+        5 => map.resize(map.len() + 1000, 0xFF),
+        _ => {}
+    }
+    map
+}
+
+fn write_mapped_input(rng: &mut Rng) -> Input {
+    let mut areas = damaged_areas(rng);
+    let map = map_beside(rng, &mut areas);
+    let block = block(rng, areas.blocks());
+    let mut base = base(rng);
+    let mut page = modified(rng, &base);
+    maybe_wrong_page(rng, &mut base);
+    maybe_wrong_page(rng, &mut page);
+    let buffers = vec![areas.patch, areas.full, map, base, page];
+    Input::new(Call::WriteMapped, buffers).at_block(block)
+}
+
+fn read_mapped_input(rng: &mut Rng) -> Input {
+    let mut areas = damaged_areas(rng);
+    let map = map_beside(rng, &mut areas);
+    let block = block(rng, areas.blocks());
+    let mut base = base(rng);
+    let mut page = rng.bytes(PAGE);
+    maybe_wrong_page(rng, &mut base);
+    maybe_wrong_page(rng, &mut page);
+    let buffers = vec![areas.patch, areas.full, map, base, page];
+    Input::new(Call::ReadMapped, buffers).at_block(block)
+}
+
 fn build_input(rng: &mut Rng) -> Input {
     let areas = damaged_areas(rng);
     let needed = (areas.blocks() + 3) / 4;
@@ -617,6 +699,8 @@ fn input(rng: &mut Rng, call: Call) -> Input {
         Call::LookUp => look_up_input(rng),
         Call::Tally => tally_input(rng),
         Call::Next => next_input(rng),
+        Call::WriteMapped => write_mapped_input(rng),
+        Call::ReadMapped => read_mapped_input(rng),
     }
 }
 
@@ -649,6 +733,13 @@ pub fn any_input(rng: &mut Rng) -> Input {
         Call::Tally,
         Call::Next,
         Call::Next,
+        Call::WriteMapped,
+        Call::WriteMapped,
+        Call::WriteMapped,
+        Call::ReadMapped,
+        Call::ReadMapped,
+        Call::ReadMapped,
+        Call::ReadMapped,
     ]);
     input(rng, call)
 }

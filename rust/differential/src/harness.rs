@@ -8,7 +8,7 @@ use crate::sides::{self, Lent, SafeSide};
 
 /// More than any buffer of a generated input.
 const ROOM_SIZE: usize = 1 << 20;
-const MOST_BUFFERS: usize = 4;
+const MOST_BUFFERS: usize = 5;
 
 /// One side as a function from inputs to outcomes.
 pub type Side = fn(&Input) -> Outcome;
@@ -82,14 +82,14 @@ impl Counts {
 
 impl fmt::Display for Counts {
     fn fmt(&self, f: &mut fmt::Formatter<'_>) -> fmt::Result {
-        write!(f, "{:<8} {:>9} |", "call", "compared")?;
+        write!(f, "{:<12} {:>9} |", "call", "compared")?;
         for number in 0..12 {
             write!(f, " {number:>7}")?;
         }
         writeln!(f, "   (times each number was given; . = the call has no such number)")?;
         for call in Call::ALL {
             let row = self.by_number[call as usize];
-            write!(f, "{:<8} {:>9} |", call.name(), row.iter().sum::<u64>())?;
+            write!(f, "{:<12} {:>9} |", call.name(), row.iter().sum::<u64>())?;
             if call == Call::Show {
                 writeln!(f, " {} parts handed out, {} empty", row[0], row[1])?;
                 continue;

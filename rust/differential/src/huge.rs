@@ -124,14 +124,15 @@ impl<'h> Stores<'h> {
         }
     }
 
-    /// Makes the call on all sides and compares answers and every byte.
-    fn check(
+    /// Makes the call on all sides and compares answers and every byte. Gives the pages and the map
+    /// afterwards.
+    fn check_giving(
         &mut self,
         call: Call,
         block: u64,
         small: &[Vec<u8>],
         expected: &[i128],
-    ) -> Result<(), Mismatch> {
+    ) -> Result<Vec<Vec<u8>>, Mismatch> {
         let [patch, full] = [self.library.patch.length, self.library.full.length];
         let name = call.name();
         let input = format!("{name} of block {block}, areas of {patch} and {full} bytes");
@@ -152,9 +153,19 @@ impl<'h> Stores<'h> {
             Some((side, found)) => Err(Mismatch { side, input, found }),
             None => {
                 self.harness.count(call, &came.0);
-                Ok(())
+                Ok(came.1)
             }
         }
+    }
+
+    fn check(
+        &mut self,
+        call: Call,
+        block: u64,
+        small: &[Vec<u8>],
+        expected: &[i128],
+    ) -> Result<(), Mismatch> {
+        self.check_giving(call, block, small, expected).map(|_| ())
     }
 
     fn write(&mut self, block: u64, page: &[u8], expected: &[i128]) -> Result<(), Mismatch> {
@@ -167,6 +178,36 @@ impl<'h> Stores<'h> {
 
     fn build(&mut self, expected: &[i128]) -> Result<(), Mismatch> {
         self.check(Call::Build, 0, &[vec![0xAB; MAP + 3]], expected)
+    }
+
+    /// A write that is lent the map, which stays with the caller.
+    fn write_mapped(
+        &mut self,
+        map: &mut Vec<u8>,
+        block: u64,
+        page: &[u8],
+        expected: &[i128],
+    ) -> Result<(), Mismatch> {
+        let small = [map.clone(), Vec::new(), page.to_vec()];
+        *map = self.check_giving(Call::WriteMapped, block, &small, expected)?.swap_remove(0);
+        Ok(())
+    }
+
+    fn read_mapped(&mut self, map: &[u8], block: u64, expected: &[i128]) -> Result<(), Mismatch> {
+        let small = [map.to_vec(), Vec::new(), vec![0xAB; PAGE]];
+        self.check(Call::ReadMapped, block, &small, expected)
+    }
+
+    /// Build makes this map.
+    fn build_makes(&mut self, map: &[u8]) -> Result<(), Mismatch> {
+        let built = self.check_giving(Call::Build, 0, &[vec![0xAB; MAP]], &[0])?.swap_remove(0);
+        match first_difference(map, &built) {
+            None => Ok(()),
+            Some(found) => {
+                let input = "a map lent to every write".to_string();
+                Err(Mismatch { side: "demand on maps", input, found })
+            }
+        }
     }
 }
 
@@ -244,6 +285,9 @@ fn one_block_too_many(harness: &mut Harness) -> Result<(), Mismatch> {
     stores.write(0, &small_change(), &[2])?;
     stores.read(0, &[2])?;
     stores.check(Call::Show, 0, &[], &[0, 0])?;
+    // A map that is long enough, and none.
+    stores.read_mapped(&[0; MAP + 1], 0, &[2])?;
+    stores.write_mapped(&mut Vec::new(), 0, &small_change(), &[2])?;
     stores.build(&[2])
 }
 
@@ -261,6 +305,35 @@ fn with_full_area(harness: &mut Harness) -> Result<(), Mismatch> {
     stores.build(&[10, i128::from(LAST - 1)])?;
     stores.write(LAST - 1, &[0; PAGE], &[0, 0, 0])?;
     stores.build(&[0])
+}
+
+/// A map of 131,072 blocks, lent to every write and gone by.
+fn with_map(harness: &mut Harness) -> Result<(), Mismatch> {
+    let mut stores = Stores::new(harness, MAX_BLOCKS, Some(1));
+    let mut map = vec![0; MAP];
+    stores.write_mapped(&mut map, LAST, &small_change(), &[0, 1, 4])?;
+    stores.write_mapped(&mut map, 0, &[9; PAGE], &[0, 2, 16_384])?;
+    stores.write_mapped(&mut map, 65_536, &small_change(), &[0, 1, 4])?;
+    stores.write_mapped(&mut map, LAST, &[9; PAGE], &[8])?;
+    for beyond in [LAST + 1, 1 << 55, u64::MAX] {
+        stores.write_mapped(&mut map, beyond, &small_change(), &[5])?;
+        stores.read_mapped(&map, beyond, &[5])?;
+    }
+    stores.build_makes(&map)?;
+    stores.read_mapped(&map, LAST, &[0, 1])?;
+    stores.read_mapped(&map, 0, &[0, 2])?;
+    stores.read_mapped(&map, LAST - 1, &[0, 0])?;
+    stores.read_mapped(&map[..MAP - 1], LAST, &[9])?;
+    let mut short = map[..MAP - 1].to_vec();
+    stores.write_mapped(&mut short, 0, &small_change(), &[9])?;
+
+    // The last block by pair 1, for which it has no place, and by pair 3.
+    map[MAP - 1] = 0x5F;
+    stores.read_mapped(&map, LAST, &[8])?;
+    map[MAP - 1] = 0xDF;
+    stores.read_mapped(&map, LAST, &[11])?;
+    stores.write_mapped(&mut map, LAST, &[0; PAGE], &[0, 0, 0])?;
+    stores.read_mapped(&map, LAST, &[0, 0])
 }
 
 /// The last block refers to a page that the full area does not have.
@@ -282,6 +355,7 @@ pub fn check(harness: &mut Harness) -> Result<(), Mismatch> {
     without_full_area(harness)?;
     one_block_too_many(harness)?;
     with_full_area(harness)?;
+    with_map(harness)?;
     one_page_fewer(harness)?;
     more_pages_than_blocks(harness)?;
     largest_maps(harness)

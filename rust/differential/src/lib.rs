@@ -11,6 +11,7 @@ pub mod crash;
 pub mod generate;
 pub mod harness;
 pub mod huge;
+pub mod maps;
 pub mod orders;
 pub mod payloads;
 pub mod rng;

@@ -38,7 +38,7 @@ impl Fault {
         let Numbers { at, position, .. } = input.numbers;
         match input.call {
             Call::Apply => Answer::of(&[self.number, 0, 0, self.offset]),
-            Call::Read => Answer::of(&[self.number, 0, self.offset]),
+            Call::Read | Call::ReadMapped => Answer::of(&[self.number, 0, self.offset]),
             Call::Build => Answer::of(&[self.number, self.block, self.offset]),
             Call::Next => Answer::of(&[self.number, 0, at.into(), position.into(), 0]),
             _ => Answer::of(&[self.number]),
@@ -52,6 +52,9 @@ const FULL: usize = 1;
 const BASE: usize = 2;
 const LENT_PAGE: usize = 3;
 const MAP: usize = 2;
+// Where the pages stand behind the map.
+const MAPPED_BASE: usize = 3;
+const MAPPED_PAGE: usize = 4;
 
 const SLOT_0: usize = PATCH_HEADER;
 const SLOT_1: usize = PATCH_HEADER + SLOT;
@@ -133,6 +136,69 @@ fn write(harness: &mut Harness) -> Result<(), Mismatch> {
     let mut faults = common_faults();
     faults.push(fault(8, |input| input.buffers[LENT_PAGE].iter_mut().for_each(|b| *b = 5)));
     all_sets(harness, &input.at_block(1), &faults)
+}
+
+/// What a write with a map and a read by it check alike: pages, lengths, map, headers, block. Of pages
+/// and areas, of which Read and Write have all, one each.
+fn mapped_faults() -> Vec<Fault> {
+    let mut faults = vec![
+        fault(1, |input| input.buffers[MAPPED_BASE].push(0)),
+        fault(2, |input| input.buffers[PATCH].push(0)),
+        fault(9, |input| input.buffers[MAP].truncate(1)),
+    ];
+    faults.extend(header_faults());
+    faults.push(fault(5, |input| input.numbers.block = 5));
+    faults
+}
+
+/// Sets bits of block 1's pair.
+fn pair_1(input: &mut Input, bits: u8) {
+    input.buffers[MAP][0] |= bits << 2;
+}
+
+/// Five blocks, so that a map has two bytes, and the map of `patched`'s two.
+fn five_patched(m: Option<usize>) -> [Vec<u8>; 3] {
+    let Areas { patch, full } = patched(m);
+    let mut longer = Areas::fresh(5, None).patch;
+    longer[..patch.len()].copy_from_slice(&patch);
+    [longer, full, vec![0b1010, 0]]
+}
+
+fn read_mapped_patch(harness: &mut Harness) -> Result<(), Mismatch> {
+    let [patch, full, map] = five_patched(Some(2));
+    let buffers = vec![patch, full, map, vec![0; PAGE], vec![0xEE; PAGE]];
+    let mut faults = mapped_faults();
+    faults.push(fault(11, |input| pair_1(input, 3)));
+    faults.push(fault(6, unsound_slot_1));
+    faults.push(unsound_payload_1());
+    all_sets(harness, &Input::new(Call::ReadMapped, buffers).at_block(1), &faults)
+}
+
+/// By pair 1, and with the pages and areas that the others leave out. The slot is not sound, which is
+/// no fault here.
+fn read_mapped_full(harness: &mut Harness) -> Result<(), Mismatch> {
+    let [mut patch, full, _] = five_patched(Some(1));
+    patch[SLOT_1 + 4] = 1;
+    let buffers = vec![patch, full, vec![0, 0], vec![0; PAGE], vec![0xEE; PAGE]];
+    let mut faults = mapped_faults();
+    faults[0] = fault(1, |input| input.buffers[MAPPED_PAGE].truncate(PAGE - 1));
+    faults[1] = fault(2, |input| input.buffers[FULL].push(0));
+    faults.push(fault(11, |input| pair_1(input, 3)));
+    faults.push(fault(8, |input| pair_1(input, 1)));
+    all_sets(harness, &Input::new(Call::ReadMapped, buffers).at_block(1), &faults)
+}
+
+fn write_mapped(harness: &mut Harness) -> Result<(), Mismatch> {
+    let [patch, full, _] = five_patched(Some(1));
+    // Pairs of 3 are none of a write's business.
+    let buffers = vec![patch, full, vec![0xFF, 0xFF], vec![0; PAGE], vec![0; PAGE]];
+    let mut faults = mapped_faults();
+    faults.push(fault(8, |input| input.buffers[MAPPED_PAGE].iter_mut().for_each(|b| *b = 5)));
+    let input = Input::new(Call::WriteMapped, buffers).at_block(1);
+    all_sets(harness, &input, &faults)?;
+    faults[0] = fault(1, |input| input.buffers[MAPPED_PAGE].truncate(PAGE - 1));
+    faults[1] = fault(2, |input| input.buffers[FULL].push(0));
+    all_sets(harness, &input, &faults)
 }
 
 fn build_patches(harness: &mut Harness) -> Result<(), Mismatch> {
@@ -295,6 +361,9 @@ pub fn check(harness: &mut Harness) -> Result<(), Mismatch> {
     read_patch(harness)?;
     read_full(harness)?;
     write(harness)?;
+    read_mapped_patch(harness)?;
+    read_mapped_full(harness)?;
+    write_mapped(harness)?;
     build_patches(harness)?;
     build_full(harness)?;
     without_areas(harness)?;

@@ -4,6 +4,10 @@
 //! * each block reads as its last accepted page, or as its base if there is none, and Build accepts;
 //! * two runs over the same bases leave equal bytes exactly when each block reads the same.
 //!
+//! Half of the runs begin with a map of zeros that is lent to every write. It is a third buffer of the
+//! run: the demands hold for its bytes too, and at the end it is the map that Build makes. Whether it
+//! was kept or built, each block reads by it as Read reads it.
+//!
 //! Every call of it is also compared with the independent implementation.
 
 use crate::call::{first_difference, Call, Input, Outcome, PAGE};
@@ -16,12 +20,16 @@ struct Ground {
     n: usize,
     m: Option<usize>,
     bases: Vec<Vec<u8>>,
+    /// Whether every write is lent a map.
+    mapped: bool,
 }
 
 /// What a run has led to.
 struct State {
     patch: Vec<u8>,
     full: Vec<u8>,
+    /// The map, if every write is lent it.
+    map: Option<Vec<u8>>,
     /// Each block's last accepted page.
     last: Vec<Option<Vec<u8>>>,
 }
@@ -43,7 +51,12 @@ impl Ground {
         let n = rng.between(1, 12);
         let m = generate::pages(rng, n);
         let bases = (0..n).map(|_| generate::page_of_base(&generate::base(rng))).collect();
-        Ground { n, m, bases }
+        Ground { n, m, bases, mapped: rng.chance(50) }
+    }
+
+    /// The bytes of a map.
+    fn map_len(&self) -> usize {
+        (self.n + 3) / 4
     }
 
     /// The block's base, a base of zeros in either form.
@@ -62,7 +75,8 @@ impl Ground {
         let input = Input::new(Call::Format, vec![rng.bytes(patch.len()), rng.bytes(full.len())]);
         let outcome = harness.check(&input)?;
         let [patch, full] = two(outcome.buffers);
-        Ok(State { patch, full, last: vec![None; self.n] })
+        let map = self.mapped.then(|| vec![0; self.map_len()]);
+        Ok(State { patch, full, map, last: vec![None; self.n] })
     }
 }
 
@@ -82,17 +96,40 @@ impl State {
     ) -> Result<bool, Mismatch> {
         let areas = [std::mem::take(&mut self.patch), std::mem::take(&mut self.full)];
         let [patch, full] = areas;
-        let input = Input::new(Call::Write, vec![patch, full, base, page]).at_block(block);
-        let Outcome { answer, buffers } = harness.check(&input)?;
+        let input = match self.map.take() {
+            None => Input::new(Call::Write, vec![patch, full, base, page]),
+            Some(map) => Input::new(Call::WriteMapped, vec![patch, full, map, base, page]),
+        };
+        let input = input.at_block(block);
+        let Outcome { answer, mut buffers } = harness.check(&input)?;
+        if input.call == Call::WriteMapped {
+            self.map = Some(buffers.remove(2));
+        }
         let [patch, full] = two(buffers);
         self.patch = patch;
         self.full = full;
         let accepted = answer.number() == 0;
         if accepted {
-            let page = input.buffers.into_iter().nth(3).unwrap_or_default();
+            let page = input.buffers.into_iter().last().unwrap_or_default();
             self.last[block as usize] = Some(page);
         }
         Ok(accepted)
+    }
+
+    /// A write that is lent a map one byte too short, and so refused.
+    fn write_with_short_map(
+        &mut self,
+        harness: &mut Harness,
+        block: u64,
+        base: Vec<u8>,
+        page: Vec<u8>,
+    ) -> Result<(), Mismatch> {
+        let kept = self.map.clone();
+        self.map.iter_mut().for_each(|map| map.truncate(map.len() - 1));
+        let accepted = self.write(harness, block, base, page)?;
+        demand(!accepted, || "a write with a short map is accepted".to_string())?;
+        self.map = kept;
+        Ok(())
     }
 
     fn read(
@@ -109,14 +146,32 @@ impl State {
         Ok(outcome.buffers.into_iter().nth(3).unwrap_or_default())
     }
 
+    /// Reads a block by a map and by its slot; both must give the same.
+    fn read_by_map(
+        &self,
+        harness: &mut Harness,
+        map: &[u8],
+        block: usize,
+        base: Vec<u8>,
+    ) -> Result<(), Mismatch> {
+        let slot = self.read(harness, block, base.clone())?;
+        let areas = vec![self.patch.clone(), self.full.clone()];
+        let buffers = [areas, vec![map.to_vec(), base, vec![0xD2; PAGE]]].concat();
+        let by_map =
+            harness.check(&Input::new(Call::ReadMapped, buffers).at_block(block as u64))?;
+        demand(by_map.answer.number() == 0 && by_map.buffers[4] == slot, || {
+            format!("block {block} reads otherwise by the map, {:?}", by_map.answer)
+        })
+    }
+
     fn same_bytes(&self, other: &State) -> bool {
-        self.patch == other.patch && self.full == other.full
+        self.patch == other.patch && self.full == other.full && self.map == other.map
     }
 
     fn difference(&self, other: &State) -> String {
         let patch = first_difference(&self.patch, &other.patch);
         let full = first_difference(&self.full, &other.full);
-        format!("patch {patch:?}, full {full:?}")
+        format!("patch {patch:?}, full {full:?}, maps {:02X?} {:02X?}", self.map, other.map)
     }
 }
 
@@ -148,6 +203,7 @@ fn random_write(
             let odd = rng.pick(&[1, 8191, 8193]);
             state.write(harness, block as u64, rng.bytes(odd), page)?;
         }
+        3 if ground.mapped => state.write_with_short_map(harness, block as u64, base, page)?,
         _ => {
             state.write(harness, block as u64, base, page)?;
         }
@@ -205,13 +261,26 @@ fn check_reading_back(
     Ok(())
 }
 
-/// Build accepts the areas, and the tally of its map agrees with single look-ups.
-fn check_map(harness: &mut Harness, ground: &Ground, state: &State) -> Result<(), Mismatch> {
-    let map = vec![0x77; (ground.n + 3) / 4];
+/// Build accepts the areas and makes the map that was kept, if one was; each block reads the same by it;
+/// its tally agrees with single look-ups.
+fn check_map(
+    harness: &mut Harness,
+    rng: &mut Rng,
+    ground: &Ground,
+    state: &State,
+) -> Result<(), Mismatch> {
+    let map = vec![0x77; ground.map_len()];
     let buffers = vec![state.patch.clone(), state.full.clone(), map];
     let built = harness.check(&Input::new(Call::Build, buffers))?;
     demand(built.answer.number() == 0, || format!("Build refuses with {}", built.answer.number()))?;
     let map = built.buffers.into_iter().nth(2).unwrap_or_default();
+    if let Some(kept) = &state.map {
+        demand(*kept == map, || format!("kept {kept:02X?}, built {map:02X?}"))?;
+    }
+    for block in 0..ground.n {
+        let base = ground.base(rng, block);
+        state.read_by_map(harness, &map, block, base)?;
+    }
     let n = ground.n as u64;
     let mut counted = [0i128; 3];
     for block in 0..n {
@@ -267,11 +336,15 @@ fn check_two_runs(
     Ok(read_alike)
 }
 
-/// How many second runs ended alike and how many did not; both must happen for the test to mean much.
+/// How many second runs ended alike and how many did not, and how many had a map; all must happen for
+/// the test to mean much.
 #[derive(Clone, Copy, Debug, Default, PartialEq, Eq)]
 pub struct Pairs {
     pub alike: u64,
     pub different: u64,
+    /// Runs with a map lent to every write, and without.
+    pub mapped: u64,
+    pub unmapped: u64,
 }
 
 /// One run with all that is demanded of it.
@@ -284,7 +357,7 @@ pub fn run(
     let ground = Ground::random(rng);
     let state = random_run(harness, rng, &ground, writes)?;
     check_reading_back(harness, rng, &ground, &state)?;
-    check_map(harness, &ground, &state)?;
+    check_map(harness, rng, &ground, &state)?;
     let alone = last_writes_alone(harness, rng, &ground, &state.last)?;
     demand(state.same_bytes(&alone), || {
         format!("last accepted writes alone leave other bytes: {}", state.difference(&alone))
@@ -293,6 +366,11 @@ pub fn run(
         pairs.alike += 1;
     } else {
         pairs.different += 1;
+    }
+    if ground.mapped {
+        pairs.mapped += 1;
+    } else {
+        pairs.unmapped += 1;
     }
     Ok(())
 }

@@ -2,7 +2,7 @@
 //! implementation. Each makes the same call and gives its answer as plain numbers.
 
 use crate::call::{Answer, Call, Numbers, BEGINNING};
-use thonxiliko::{BuildRefusal, Ending, PayloadRefusal, Refusal};
+use thonxiliko::{BuildRefusal, Ending, Kind, PayloadRefusal, Refusal, Written};
 use thonxiliko_sys as sys;
 
 /// A buffer as C lends it.
@@ -69,6 +69,14 @@ pub unsafe fn library(call: Call, lent: &[Lent], told: &Numbers) -> Answer {
         (Call::Next, &[payload]) => {
             members!(c!(thx_next: payload; at position;), number, found, at, position, value)
         }
+        (Call::WriteMapped, &[patch, full, map, base, page]) => {
+            let a = c!(thx_write_mapped: patch full map; block; base page);
+            members!(a, number, kind, length)
+        }
+        (Call::ReadMapped, &[patch, full, map, base, page]) => {
+            let a = c!(thx_read_mapped: patch full map; block; base page);
+            members!(a, number, kind, offset)
+        }
         _ => unreachable!("buffers of {}", call.name()),
     }
 }
@@ -102,6 +110,14 @@ pub fn independent(call: Call, buffers: &mut [&mut [u8]], told: &Numbers) -> Opt
             let a = independent::next(payload, at, position);
             members!(a, number, found, at, position, value)
         }
+        (Call::WriteMapped, [patch, full, map, base, page]) => {
+            let a = independent::write_mapped(patch, full, map, block, base, page);
+            members!(a, number, kind, length)
+        }
+        (Call::ReadMapped, [patch, full, map, base, page]) => {
+            let a = independent::read_mapped(patch, full, map, block, base, page);
+            members!(a, number, kind, offset)
+        }
         _ => unreachable!("buffers of {}", call.name()),
     })
 }
@@ -122,6 +138,21 @@ fn offset(refusal: Refusal, offset: Option<usize>) -> i128 {
         (Refusal::Payload, None) | (_, Some(_)) => -1,
         (_, None) => 0,
     }
+}
+
+/// What the wrapper's reads say of a block.
+fn reading(read: Result<Kind, PayloadRefusal>) -> Answer {
+    match read {
+        Ok(kind) => answer([0, kind.number().into()]),
+        Err(PayloadRefusal { refusal, offset: at, .. }) => {
+            answer([refusal.number().into(), 0, offset(refusal, at)])
+        }
+    }
+}
+
+/// What the wrapper's writes say of a block.
+fn written(a: Written) -> Answer {
+    answer([0, a.kind.number().into(), a.length as i128])
 }
 
 /// The wrapper says "no last position" by `None`, C says it by -1.
@@ -178,16 +209,10 @@ pub fn wrapper(call: Call, buffers: &mut [&mut [u8]], told: &Numbers) -> Option<
             None => answer([0, 0]),
         }),
         (Call::Read, [patch, full, base, page]) => {
-            Ok(match thonxiliko::read(patch, full, block, base, page) {
-                Ok(kind) => answer([0, kind.number().into()]),
-                Err(PayloadRefusal { refusal, offset: at, .. }) => {
-                    answer([refusal.number().into(), 0, offset(refusal, at)])
-                }
-            })
+            Ok(reading(thonxiliko::read(patch, full, block, base, page)))
         }
         (Call::Write, [patch, full, base, page]) => {
-            thonxiliko::write(patch, full, block, base, page)
-                .map(|a| answer([0, a.kind.number().into(), a.length as i128]))
+            thonxiliko::write(patch, full, block, base, page).map(written)
         }
         (Call::Build, [patch, full, map]) => Ok(match thonxiliko::build(patch, full, map) {
             Ok(()) => answer([0]),
@@ -203,6 +228,12 @@ pub fn wrapper(call: Call, buffers: &mut [&mut [u8]], told: &Numbers) -> Option<
             thonxiliko::tally(map, n).map(|a| answer([0, a.patch.into(), a.full.into()]))
         }
         (Call::Next, [payload]) => return step(payload, (at, position)),
+        (Call::WriteMapped, [patch, full, map, base, page]) => {
+            thonxiliko::write_mapped(patch, full, map, block, base, page).map(written)
+        }
+        (Call::ReadMapped, [patch, full, map, base, page]) => {
+            Ok(reading(thonxiliko::read_mapped(patch, full, map, block, base, page)))
+        }
         _ => unreachable!("buffers of {}", call.name()),
     };
     Some(result.unwrap_or_else(refused))

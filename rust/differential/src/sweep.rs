@@ -35,6 +35,10 @@ fn accepted(call: Call) -> Input {
         Call::LookUp => Input::new(call, vec![vec![0b0110]]).told(2).at_block(1),
         Call::Tally => Input::new(call, vec![vec![0b0110]]).told(2),
         Call::Next => Input::step(&[100, 4], BEGINNING),
+        Call::WriteMapped => Input::new(call, vec![patch, full, vec![0b0110], base, page]),
+        Call::ReadMapped => {
+            Input::new(call, vec![patch, full, vec![0b0110], base, vec![0xEE; PAGE]])
+        }
     }
 }
 
@@ -145,7 +149,7 @@ pub fn places(harness: &mut Harness) -> Result<(), Mismatch> {
 /// Blocks and n near 2^64 and wherever a product could wrap, alone and together.
 pub fn numbers(harness: &mut Harness) -> Result<(), Mismatch> {
     let interesting: Vec<u64> = STRANGE_NUMBERS.iter().copied().chain(0..6).collect();
-    for call in [Call::Show, Call::Read, Call::Write] {
+    for call in [Call::Show, Call::Read, Call::Write, Call::WriteMapped, Call::ReadMapped] {
         for block in &interesting {
             harness.check(&accepted(call).at_block(*block))?;
         }

@@ -6,6 +6,7 @@ use differential::call::{
 };
 use differential::generate;
 use differential::harness::{independent_outcome, Counts, Harness, Mismatch, Side};
+use differential::maps::{self, Elsewhere};
 use differential::rng::Rng;
 use differential::runs::{self, Pairs};
 use differential::{orders, payloads};
@@ -422,6 +423,202 @@ fn place_cut_to_32_bits(input: &Input) -> Outcome {
     })
 }
 
+// Maps that are kept wrongly, and reads that go by something else.
+
+/// Alters what comes of a write with a map that is accepted; gives the byte and the bits of its pair.
+fn altered_map(input: &Input, alter: impl FnOnce(&mut Outcome, usize, u32)) -> Outcome {
+    altered(input, Call::WriteMapped, |outcome| {
+        if outcome.answer.number() == 0 {
+            let block = input.numbers.block;
+            alter(outcome, (block / 4) as usize, 2 * (block % 4) as u32);
+        }
+    })
+}
+
+fn leaves_the_map(input: &Input) -> Outcome {
+    altered_map(input, |outcome, _, _| outcome.buffers[2] = input.buffers[2].clone())
+}
+
+/// A write of a page that equals its base, the kind that is easily forgotten.
+fn leaves_the_map_for_empty(input: &Input) -> Outcome {
+    altered_map(input, |outcome, _, _| {
+        if outcome.answer.0[1] == 0 {
+            outcome.buffers[2] = input.buffers[2].clone();
+        }
+    })
+}
+
+fn sets_the_kind_for_the_pair(input: &Input) -> Outcome {
+    altered_map(input, |outcome, byte, bits| {
+        outcome.buffers[2][byte] &= !(3 << bits);
+        outcome.buffers[2][byte] |= (outcome.answer.0[1] as u8) << bits;
+    })
+}
+
+/// The old pair is not cleared first.
+fn adds_to_the_old_pair(input: &Input) -> Outcome {
+    altered_map(input, |outcome, byte, _| outcome.buffers[2][byte] |= input.buffers[2][byte])
+}
+
+fn sets_the_neighbours_pair_too(input: &Input) -> Outcome {
+    altered_map(input, |outcome, byte, bits| {
+        let own = outcome.buffers[2][byte] >> bits & 3;
+        let neighbour = bits ^ 2;
+        outcome.buffers[2][byte] &= !(3 << neighbour);
+        outcome.buffers[2][byte] |= own << neighbour;
+    })
+}
+
+fn clears_the_rest_of_the_byte(input: &Input) -> Outcome {
+    altered_map(input, |outcome, byte, bits| outcome.buffers[2][byte] &= 3 << bits)
+}
+
+fn clears_unused_pairs(input: &Input) -> Outcome {
+    altered_map(input, |outcome, _, _| {
+        let n = (input.buffers[0].len() - PATCH_HEADER) / SLOT;
+        if n % 4 != 0 {
+            outcome.buffers[2][n / 4] &= (1 << (2 * (n % 4))) - 1;
+        }
+    })
+}
+
+fn clears_later_bytes(input: &Input) -> Outcome {
+    altered_map(input, |outcome, _, _| {
+        let n = (input.buffers[0].len() - PATCH_HEADER) / SLOT;
+        outcome.buffers[2][(n + 3) / 4..].fill(0);
+    })
+}
+
+fn first_pair_in_the_high_bits(input: &Input) -> Outcome {
+    altered_map(input, |outcome, byte, bits| {
+        let own = outcome.buffers[2][byte] >> bits & 3;
+        outcome.buffers[2][byte] = input.buffers[2][byte] & !(0xC0 >> bits) | own << (6 - bits);
+    })
+}
+
+fn sets_the_pair_of_a_refused_page(input: &Input) -> Outcome {
+    altered(input, Call::WriteMapped, |outcome| {
+        if outcome.answer.number() == 8 {
+            generate::set_pair(&mut outcome.buffers[2], input.numbers.block as usize, 1);
+        }
+    })
+}
+
+fn a_map_one_byte_too_short_is_taken(input: &Input) -> Outcome {
+    altered(input, Call::WriteMapped, |outcome| {
+        let mut longer = input.clone();
+        longer.buffers[2].push(0);
+        if outcome.answer.number() == 9 {
+            *outcome = independent_outcome(&longer);
+            outcome.buffers[2].pop();
+        }
+    })
+}
+
+/// n / 4 rounded down.
+fn reads_by_a_map_one_byte_too_short(input: &Input) -> Outcome {
+    altered(input, Call::ReadMapped, |outcome| {
+        let mut longer = input.clone();
+        longer.buffers[2].push(0);
+        if outcome.answer.number() == 9 {
+            *outcome = independent_outcome(&longer);
+            outcome.buffers[2].pop();
+        }
+    })
+}
+
+/// The same read without the map.
+fn by_the_slot(input: &Input) -> Outcome {
+    let mut buffers = input.buffers.clone();
+    buffers.remove(2);
+    let read = Input::new(Call::Read, buffers).at_block(input.numbers.block);
+    let mut outcome = independent_outcome(&read);
+    outcome.buffers.insert(2, input.buffers[2].clone());
+    outcome
+}
+
+/// The block's pair, once the read has come to it.
+fn pair_of(input: &Input, outcome: &Outcome) -> Option<u8> {
+    let came = matches!(outcome.answer.number(), 0 | 6 | 7 | 8 | 11);
+    let block = input.numbers.block as usize;
+    came.then(|| input.buffers[2][block / 4] >> (2 * (block % 4)) & 3)
+}
+
+/// Alters a read by a map that has come to the block's pair.
+fn altered_read(input: &Input, alter: impl FnOnce(&mut Outcome, u8)) -> Outcome {
+    altered(input, Call::ReadMapped, |outcome| {
+        if let Some(pair) = pair_of(input, outcome) {
+            alter(outcome, pair);
+        }
+    })
+}
+
+fn reads_by_the_slot(input: &Input) -> Outcome {
+    altered_read(input, |outcome, _| *outcome = by_the_slot(input))
+}
+
+fn pair_0_looks_at_the_slot(input: &Input) -> Outcome {
+    altered_read(input, |outcome, pair| {
+        let slot = by_the_slot(input);
+        if pair == 0 && slot.answer.number() == 6 {
+            *outcome = slot;
+        }
+    })
+}
+
+fn pair_1_needs_full_ref(input: &Input) -> Outcome {
+    altered_read(input, |outcome, pair| {
+        let kind = by_the_slot(input).answer;
+        let full_ref = kind.number() == 8 || kind.0[..2] == [0, 2];
+        if pair == 1 && !full_ref {
+            *outcome = Outcome { answer: Answer::of(&[6]), buffers: input.buffers.clone() };
+        }
+    })
+}
+
+fn pair_2_takes_any_sound_slot(input: &Input) -> Outcome {
+    altered_read(input, |outcome, pair| {
+        if pair == 2 {
+            *outcome = by_the_slot(input);
+        }
+    })
+}
+
+fn pair_3_reads_by_the_slot(input: &Input) -> Outcome {
+    altered_read(input, |outcome, pair| {
+        if pair == 3 {
+            *outcome = by_the_slot(input);
+        }
+    })
+}
+
+fn another_pair_of_3_counts(input: &Input) -> Outcome {
+    altered_read(input, |outcome, _| {
+        let byte = input.buffers[2][(input.numbers.block / 4) as usize];
+        if (0..4).any(|pair| byte >> (2 * pair) & 3 == 3) {
+            *outcome = Outcome { answer: Answer::of(&[11]), buffers: input.buffers.clone() };
+        }
+    })
+}
+
+fn answers_the_pair_for_the_kind(input: &Input) -> Outcome {
+    altered_read(input, |outcome, pair| {
+        if outcome.answer.number() == 0 {
+            outcome.answer.0[1] = pair.into();
+        }
+    })
+}
+
+/// The slot is looked at before the pair.
+fn looks_at_the_slot_before_the_pair(input: &Input) -> Outcome {
+    altered_read(input, |outcome, pair| {
+        let slot = by_the_slot(input);
+        if pair == 3 && slot.answer.number() == 6 {
+            *outcome = slot;
+        }
+    })
+}
+
 /// Random inputs alone meet every number of every call; without those of one answer it is missed.
 #[test]
 fn a_number_that_is_never_given_is_noticed() {
@@ -482,6 +679,32 @@ const WRONG_OFFSETS: [(&str, Side); 8] = [
     ("an offset of a sound payload", offset_of_the_end),
 ];
 
+const WRONG_MAPS: [(&str, Side); 11] = [
+    ("a map that is left", leaves_the_map),
+    ("a map that is left for EMPTY", leaves_the_map_for_empty),
+    ("the kind for the pair", sets_the_kind_for_the_pair),
+    ("an old pair that is added to", adds_to_the_old_pair),
+    ("the neighbour's pair set too", sets_the_neighbours_pair_too),
+    ("the rest of the byte cleared", clears_the_rest_of_the_byte),
+    ("unused pairs cleared", clears_unused_pairs),
+    ("later bytes cleared", clears_later_bytes),
+    ("the first pair in the high bits", first_pair_in_the_high_bits),
+    ("the pair set by a refused write", sets_the_pair_of_a_refused_page),
+    ("a short map taken by a write", a_map_one_byte_too_short_is_taken),
+];
+
+const WRONG_READS_BY_MAP: [(&str, Side); 9] = [
+    ("a read by the slot", reads_by_the_slot),
+    ("pair 0 that looks at the slot", pair_0_looks_at_the_slot),
+    ("pair 1 that needs FULL_REF", pair_1_needs_full_ref),
+    ("pair 2 that takes any sound slot", pair_2_takes_any_sound_slot),
+    ("pair 3 that reads by the slot", pair_3_reads_by_the_slot),
+    ("another block's pair of 3", another_pair_of_3_counts),
+    ("the pair for the kind", answers_the_pair_for_the_kind),
+    ("the slot before the pair", looks_at_the_slot_before_the_pair),
+    ("a short map taken by a read", reads_by_a_map_one_byte_too_short),
+];
+
 const WRONG_READERS: [(&str, Side); 8] = [
     ("a reader that skips its first entry", reader_skips_its_first_entry),
     ("a reader that goes on after a stop", reader_goes_on_after_a_stop),
@@ -496,6 +719,69 @@ const WRONG_READERS: [(&str, Side); 8] = [
 #[test]
 fn wrong_offsets_are_found() {
     WRONG_OFFSETS.iter().for_each(|(name, wrong)| must_find(name, *wrong));
+}
+
+#[test]
+fn wrong_maps_are_found() {
+    WRONG_MAPS.iter().for_each(|(name, wrong)| must_find(name, *wrong));
+}
+
+#[test]
+fn wrong_reads_by_a_map_are_found() {
+    WRONG_READS_BY_MAP.iter().for_each(|(name, wrong)| must_find(name, *wrong));
+}
+
+/// The same wrong program on both sides, through every byte of a map and every length: only what is
+/// written by hand there, or a rule for all answers, can notice.
+#[test]
+fn the_demand_on_maps_notices_wrong_programs() {
+    type Part = fn(&mut Harness) -> Result<(), Mismatch>;
+    let notices = |part: Part, wrong: Side| {
+        let mut harness = Harness::new();
+        harness.expected = wrong;
+        harness.in_place_of_library = Some(wrong);
+        let found = part(&mut harness).and_then(|()| maps::every_length(&mut harness));
+        found.err().map(|mismatch| mismatch.side)
+    };
+    for (part, programs) in
+        [(maps::every_write as Part, &WRONG_MAPS[..]), (maps::every_read, &WRONG_READS_BY_MAP)]
+    {
+        assert_eq!(notices(part, independent_outcome), None);
+        for (name, wrong) in programs {
+            let side = match *name {
+                "the pair set by a refused write" => "rule of answers",
+                _ => "demand on maps",
+            };
+            assert_eq!(notices(part, *wrong), Some(side), "{name}");
+        }
+    }
+}
+
+/// Stores from elsewhere whose both sides are the same wrong program.
+fn elsewhere_notices(wrong: Side) -> bool {
+    let mut harness = Harness::new();
+    harness.expected = wrong;
+    harness.in_place_of_library = Some(wrong);
+    (0..60).any(|case| {
+        let mut rng = Rng::for_case(SEED, "maps", case);
+        maps::from_elsewhere(&mut harness, &mut rng, &mut Elsewhere::default()).is_err()
+    })
+}
+
+#[test]
+fn stores_from_elsewhere_notice_wrong_maps() {
+    assert!(!elsewhere_notices(independent_outcome));
+    for (name, wrong) in [
+        ("a map that is left", leaves_the_map as Side),
+        ("a map that is left for EMPTY", leaves_the_map_for_empty),
+        ("the kind for the pair", sets_the_kind_for_the_pair),
+        ("an old pair that is added to", adds_to_the_old_pair),
+        ("the neighbour's pair set too", sets_the_neighbours_pair_too),
+        ("later bytes cleared", clears_later_bytes),
+        ("the pair for the kind", answers_the_pair_for_the_kind),
+    ] {
+        assert!(elsewhere_notices(wrong), "{name} was not noticed");
+    }
 }
 
 #[test]
@@ -617,9 +903,28 @@ fn another_order_of_refusals_is_noticed() {
             }
         })
     }
+    /// Headers before the map's length.
+    fn headers_before_the_map(input: &Input) -> Outcome {
+        let mut outcome = independent_outcome(input);
+        let mapped = matches!(input.call, Call::WriteMapped | Call::ReadMapped);
+        if mapped && outcome.answer.number() == 9 {
+            let mut longer = input.clone();
+            longer.buffers[2].resize(1_000, 0);
+            let answer = independent_outcome(&longer).answer;
+            if matches!(answer.number(), 3 | 4) {
+                outcome.answer = answer;
+            }
+        }
+        outcome
+    }
     let mut harness = Harness::new();
     assert!(orders::check(&mut harness).is_ok());
-    for wrong in [version_first as Side, end_first] {
+    for wrong in [
+        version_first as Side,
+        end_first,
+        headers_before_the_map,
+        looks_at_the_slot_before_the_pair,
+    ] {
         harness.expected = wrong;
         harness.in_place_of_library = Some(wrong);
         let mismatch = orders::check(&mut harness).expect_err("noticed");
@@ -635,4 +940,15 @@ fn the_demand_on_runs_notices_wrong_programs() {
     assert!(run_notices(stores_block_0_only));
     assert!(run_notices(stores_nothing));
     assert!(run_notices(always_reads_the_base));
+    for wrong in [
+        leaves_the_map as Side,
+        leaves_the_map_for_empty,
+        sets_the_kind_for_the_pair,
+        adds_to_the_old_pair,
+        sets_the_neighbours_pair_too,
+        clears_the_rest_of_the_byte,
+        first_pair_in_the_high_bits,
+    ] {
+        assert!(run_notices(wrong));
+    }
 }

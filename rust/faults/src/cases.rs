@@ -1,6 +1,8 @@
 //! Slots, pages and areas that are lost, swapped, cut, doubled, or lent with another base.
 
-use thonxiliko::{compare, Kind, PAGE_SIZE, PATCH_HEADER_SIZE, PAYLOAD_SIZE, SLOT_SIZE};
+use thonxiliko::{
+    compare, Kind, PayloadRefusal, PAGE_SIZE, PATCH_HEADER_SIZE, PAYLOAD_SIZE, SLOT_SIZE,
+};
 
 use crate::checksum;
 use crate::shipped::Block;
@@ -51,19 +53,19 @@ pub enum Others {
 }
 
 /// A sound store, and blocks of every kind in it.
-struct Ground<'b> {
+pub(crate) struct Ground<'b> {
     blocks: &'b [Block],
     store: Store,
-    patch: [usize; 2],
-    full: [usize; 2],
+    pub(crate) patch: [usize; 2],
+    pub(crate) full: [usize; 2],
     /// EMPTY blocks with a place in the full area and without one.
-    empty: usize,
-    empty_past: usize,
+    pub(crate) empty: usize,
+    pub(crate) empty_past: usize,
     last: usize,
 }
 
 impl<'b> Ground<'b> {
-    fn new(store: &Store, blocks: &'b [Block]) -> Ground<'b> {
+    pub(crate) fn new(store: &Store, blocks: &'b [Block]) -> Ground<'b> {
         let kinds = store.kinds().expect("a sound store");
         let of = |wanted: Kind| -> Vec<usize> {
             (0..kinds.len()).filter(|block| kinds[*block] == wanted).collect()
@@ -96,12 +98,24 @@ impl<'b> Ground<'b> {
 
     fn given(&self, damaged: &Store, block: usize) -> Given {
         let mut page = [0; PAGE_SIZE];
-        match damaged.read(block, &mut page) {
+        let read = damaged.read(block, &mut page);
+        self.came(damaged, block, read, &page)
+    }
+
+    /// What came of a read, and what the page is.
+    pub(crate) fn came(
+        &self,
+        damaged: &Store,
+        block: usize,
+        read: Result<Kind, PayloadRefusal>,
+        page: &[u8],
+    ) -> Given {
+        match read {
             Err(fault) => Given::Refused(fault.refusal.number()),
             Ok(kind) => Given::Page {
                 kind,
-                page: self.what_is(&page, block, &damaged.bases[block]),
-                taken: checksum::taken(&page, self.blocks[block].number),
+                page: self.what_is(page, block, &damaged.bases[block]),
+                taken: checksum::taken(page, self.blocks[block].number),
             },
         }
     }

@@ -135,7 +135,7 @@ pub fn count(store: &Store, blocks: &[Block]) -> Table {
 
 /// The part that a byte belongs to, and the block that is read. A header belongs to every block; block 0
 /// is read for it.
-fn in_patch_area(store: &Store, at: usize) -> (Part, usize) {
+pub(crate) fn in_patch_area(store: &Store, at: usize) -> (Part, usize) {
     if at < PATCH_HEADER_SIZE {
         return (Part::PatchHeader, 0);
     }

@@ -4,7 +4,7 @@ use std::error::Error;
 use std::process::ExitCode;
 
 use faults::store::Store;
-use faults::{cases, flips, shipped, tables};
+use faults::{cases, flips, maps, shipped, tables};
 
 fn print() -> Result<(), Box<dyn Error>> {
     let blocks = shipped::blocks(&shipped::folder())?;
@@ -13,6 +13,8 @@ fn print() -> Result<(), Box<dyn Error>> {
     let table = flips::count(&store, &blocks);
     println!("### One bit flipped\n\n{}\n{}", tables::flips(&table), tables::in_words(&table));
     println!("### Lost, swapped, doubled, cut\n\n{}", tables::cases(&cases::all(&store, &blocks)));
+    println!("### Read by a map\n\n{}", tables::mapped_flips(&maps::count(&store, &blocks)));
+    println!("{}", tables::mapped_cases(&maps::cases(&store, &blocks)));
     Ok(())
 }
 

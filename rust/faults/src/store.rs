@@ -3,8 +3,8 @@
 use std::ops::Range;
 
 use thonxiliko::{
-    build, compare, format, full_area_len, judge, map_len, patch_area_len, read, write,
-    BuildRefusal, Difference, Kind, PayloadRefusal, Refusal, FULL_HEADER_SIZE, PAGE_SIZE,
+    build, compare, format, full_area_len, judge, map_len, patch_area_len, read, read_mapped,
+    write, BuildRefusal, Difference, Kind, PayloadRefusal, Refusal, FULL_HEADER_SIZE, PAGE_SIZE,
     PATCH_HEADER_SIZE, PAYLOAD_SIZE, SLOT_SIZE,
 };
 
@@ -65,6 +65,22 @@ impl Store {
 
     pub fn read(&self, block: usize, page: &mut [u8]) -> Result<Kind, PayloadRefusal> {
         read(&self.patch, &self.full, block as u64, &self.bases[block], page)
+    }
+
+    pub fn read_mapped(
+        &self,
+        map: &[u8],
+        block: usize,
+        page: &mut [u8],
+    ) -> Result<Kind, PayloadRefusal> {
+        read_mapped(&self.patch, &self.full, map, block as u64, &self.bases[block], page)
+    }
+
+    /// The map of a sound store.
+    pub fn map(&self) -> Result<Vec<u8>, BuildRefusal> {
+        let mut map = vec![0; map_len(self.bases.len() as u64)];
+        build(&self.patch, &self.full, &mut map)?;
+        Ok(map)
     }
 
     pub fn build(&self) -> Result<(), BuildRefusal> {

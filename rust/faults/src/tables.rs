@@ -6,6 +6,7 @@ use thonxiliko::Kind;
 
 use crate::cases::{Case, Given, Others, Page};
 use crate::flips::{Counts, Part, Table, PARTS};
+use crate::maps::{self, Bit};
 
 fn name(part: Part) -> &'static str {
     match part {
@@ -161,6 +162,42 @@ pub fn cases(cases: &[Case]) -> String {
             };
             let _ = writeln!(text, "| {what} | {built} | {blocks} | {read} | {fits} | {rest} |");
         }
+    }
+    text
+}
+
+/// What came of each flipped bit where the block was read by the map, a part a row.
+pub fn mapped_flips(table: &[maps::Counts]) -> String {
+    let mut text = String::from(
+        "| Bit in | bits | 3 | 4 | 6 | 7 | 8 | 11 | another page | same page | fits |\n\
+         |---|--:|--:|--:|--:|--:|--:|--:|--:|--:|--:|\n",
+    );
+    for counts in table {
+        let what = match counts.bit {
+            Bit::Area(part) => name(part),
+            Bit::Pair(Kind::Empty) => "the map: pairs of EMPTY blocks",
+            Bit::Pair(Kind::Patch) => "the map: pairs of PATCH blocks",
+            Bit::Pair(Kind::Full) => "the map: pairs of full blocks",
+        };
+        let refused = [3, 4, 6, 7, 8, 11].map(|number: usize| counts.refused[number]);
+        let rest = [counts.other_page, counts.same_page, counts.taken];
+        let cells = [&[counts.bits][..], &refused, &rest].concat();
+        let cells: Vec<String> = cells.into_iter().map(thousands).collect();
+        let _ = writeln!(text, "| {what} | {} |", cells.join(" | "));
+    }
+    text
+}
+
+/// A row for each case of a map that is not its store's any more.
+pub fn mapped_cases(cases: &[maps::Case]) -> String {
+    let mut text = String::from(
+        "| What happened | Block | Read | Read by the map | PostgreSQL's checksum |\n\
+         |---|--:|---|---|---|\n",
+    );
+    for case in cases {
+        let ((by_slot, _), (by_map, fits)) = (given(&case.by_slot), given(&case.by_map));
+        let _ =
+            writeln!(text, "| {} | {} | {by_slot} | {by_map} | {fits} |", case.what, case.block);
     }
     text
 }

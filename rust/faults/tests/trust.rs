@@ -5,6 +5,7 @@ use std::sync::Mutex;
 
 use faults::cases::{self, Case, Given, Others, Page};
 use faults::flips::{self, Counts, Part, PARTS};
+use faults::maps::{self, Bit};
 use faults::shipped::{self, Block};
 use faults::store::{place, slot, Store};
 use faults::{checksum, tables};
@@ -195,6 +196,96 @@ fn swapped_and_doubled_slots_are_not_noticed() {
     assert_eq!(older.reads[0].1, taken);
 }
 
+fn read_by(map: &[u8], store: &Store, block: usize) -> (Result<Kind, Refusal>, Vec<u8>) {
+    let mut page = vec![0xAB; PAGE_SIZE];
+    (store.read_mapped(map, block, &mut page).map_err(Refusal::from), page)
+}
+
+#[test]
+fn by_its_own_map_every_block_reads_as_it_was_written() {
+    let (store, blocks) = ground();
+    let map = store.map().expect("a sound store");
+    for (at, block) in blocks.iter().enumerate() {
+        assert_eq!(read_by(&map, &store, at), read(&store, at));
+        assert_eq!(read_by(&map, &store, at).1, block.page, "block {at}");
+    }
+}
+
+/// The case to fear: the page of last night, by a read that is not refused, and its checksum fits.
+#[test]
+fn a_map_that_missed_a_write_gives_the_page_of_before() {
+    let (store, blocks) = ground();
+    let nothing_written = vec![0; store.map().expect("a sound store").len()];
+    for kind in [Kind::Patch, Kind::Full] {
+        let block = first(&store, kind);
+        let Block { base, page, number } = &blocks[block];
+        assert_eq!(read_by(&nothing_written, &store, block), (Ok(Kind::Empty), base.clone()));
+        assert!(base != page && checksum::taken(base, *number));
+    }
+}
+
+/// What a kept map notices and Read does not: a PATCH slot that was lost.
+#[test]
+fn a_lost_patch_slot_is_noticed_by_a_kept_map() {
+    let (mut store, blocks) = ground();
+    let map = store.map().expect("a sound store");
+    let block = first(&store, Kind::Patch);
+    store.patch[slot(block)].fill(0);
+    assert_eq!(read(&store, block), (Ok(Kind::Empty), blocks[block].base.clone()));
+    assert_eq!(read_by(&map, &store, block), (Err(Refusal::Slot), vec![0xAB; PAGE_SIZE]));
+}
+
+/// Slots that the map makes needless are not looked at; PATCH slots are noticed as Read notices them; a
+/// bit of a map is noticed by chance.
+#[test]
+fn every_bit_comes_to_one_thing_when_read_by_a_map() {
+    let (store, blocks) = ground();
+    let (table, by_map) = (table(), maps::count(&store, &blocks));
+    let mut bits = 0;
+    for counts in &by_map {
+        assert!(counts.bits > 0 && counts.add_up(), "{counts:?}");
+        bits += counts.bits;
+        match counts.bit {
+            Bit::Area(Part::EmptySlot | Part::FullSlot) => {
+                assert_eq!(counts.same_page, counts.bits)
+            }
+            Bit::Area(part) => {
+                let by_slot = table[part as usize];
+                assert_eq!(counts.refused[6..8], [by_slot.slot, by_slot.payload], "{part:?}");
+                assert_eq!(counts.refused[3..5], [by_slot.header, by_slot.version], "{part:?}");
+                let pages = (counts.other_page, counts.same_page);
+                assert_eq!(pages, (by_slot.other_page, by_slot.same_page), "{part:?}");
+            }
+            // One bit makes 3 of 1 or 2, and 0 by the other.
+            Bit::Pair(Kind::Patch | Kind::Full) => {
+                let half = counts.bits / 2;
+                assert_eq!((counts.refused[11], counts.other_page), (half, half));
+            }
+            Bit::Pair(Kind::Empty) => assert_eq!(counts.refused[11], 0),
+        }
+    }
+    assert_eq!(bits, 8 * store.patch.len() as u64 + 2 * blocks.len() as u64);
+}
+
+/// Cases of the table that nothing above has by hand.
+#[test]
+fn what_a_wrong_map_says_is_done() {
+    let (store, blocks) = ground();
+    let all = maps::cases(&store, &blocks);
+    let by_map = |what: &str| {
+        let case = all.iter().find(|case| case.what == what);
+        case.unwrap_or_else(|| panic!("no case '{what}'")).by_map
+    };
+    let page = |kind, page| Given::Page { kind, page, taken: true };
+    let missed = "a PATCH write that the map missed, full before";
+    assert_eq!(by_map(missed), page(Kind::Full, Page::Zeros));
+    let missed = "a FULL_REF write that the map missed, PATCH before";
+    assert_eq!(by_map(missed), Given::Refused(6));
+    assert_eq!(by_map("the map says full of a block not below m"), Given::Refused(8));
+    let lost = "a FULL_REF slot set to zeros, the map kept";
+    assert_eq!(by_map(lost), page(Kind::Full, Page::Written));
+}
+
 /// The document's figures are those of this tree.
 #[test]
 fn the_document_has_the_tables_that_are_printed() {
@@ -207,6 +298,8 @@ fn the_document_has_the_tables_that_are_printed() {
         tables::flips(&table),
         tables::in_words(&table),
         tables::cases(&cases::all(&store, &blocks)),
+        tables::mapped_flips(&maps::count(&store, &blocks)),
+        tables::mapped_cases(&maps::cases(&store, &blocks)),
     ];
     for text in printed {
         let missing = text.lines().find(|line| !document.lines().any(|other| other == *line));

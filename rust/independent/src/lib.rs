@@ -540,6 +540,123 @@ pub fn write(patch: &mut [u8], full: &mut [u8], block: u64, base: &[u8], page: &
     Written { number: DONE, kind: stream.kind(), length: stream.length() }
 }
 
+// ---------------------------------------------------------------------------------------------
+// Writes that keep a lent map, reads that go by it
+// ---------------------------------------------------------------------------------------------
+
+/// What both check, in order: pages, areas, map, headers, block. Gives m. Not by the code above, so
+/// that both can be held against each other.
+fn judge_lent_mapped(
+    [patch, full, map]: [&[u8]; 3],
+    block: u64,
+    [base, page]: [&[u8]; 2],
+) -> Result<u64, u32> {
+    if page.len() != PAGE || !is_base_length(base.len()) {
+        return Err(BAD_PAGE_LENGTH);
+    }
+    match sizes_of(patch, full) {
+        None => Err(BAD_AREA_LENGTH),
+        Some((n, _)) if (map.len() as u64) < map_length(n) => Err(SHORT_BUFFER),
+        Some((n, m)) => {
+            judge_headers(patch, full)?;
+            if block >= n {
+                return Err(BAD_BLOCK);
+            }
+            Ok(m)
+        }
+    }
+}
+
+/// The pair that stands in a map for a block of this kind.
+fn pair_of_kind(kind: u32) -> u8 {
+    match kind {
+        EMPTY => 0,
+        PATCH => 2,
+        _ => 1,
+    }
+}
+
+/// Sets a block's pair, whatever it was. Not by shifting: the byte is taken apart into its four pairs
+/// and put together again.
+fn put_pair(map: &mut [u8], block: u64, pair: u8) {
+    let byte = &mut map[(block / 4) as usize];
+    let mut pairs = [*byte % 4, *byte / 4 % 4, *byte / 16 % 4, *byte / 64];
+    pairs[(block % 4) as usize] = pair;
+    *byte = pairs[0] + 4 * pairs[1] + 16 * pairs[2] + 64 * pairs[3];
+}
+
+pub fn write_mapped(
+    patch: &mut [u8],
+    full: &mut [u8],
+    map: &mut [u8],
+    block: u64,
+    base: &[u8],
+    page: &[u8],
+) -> Written {
+    let refused = |number| Written { number, kind: 0, length: 0 };
+    if let Err(number) = judge_lent_mapped([patch, full, map], block, [base, page]) {
+        return refused(number);
+    }
+    // Of Write's refusals only 8 is left.
+    let written = write(patch, full, block, base, page);
+    if written.number == DONE {
+        put_pair(map, block, pair_of_kind(written.kind));
+    }
+    written
+}
+
+/// Fills the page as the block's pair says, if nothing is refused, and gives the kind.
+fn fill_by_map(
+    [patch, full, map]: [&[u8]; 3],
+    block: u64,
+    base: &[u8],
+    page: &mut [u8],
+) -> Result<u32, Refused> {
+    let m = judge_lent_mapped([patch, full, map], block, [base, page])?;
+    match pair_at(map, block) {
+        0 => {
+            page.copy_from_slice(&base_page(base));
+            Ok(EMPTY)
+        }
+        1 if block < m => {
+            let start = place_start(block);
+            page.copy_from_slice(&full[start..start + PAGE]);
+            Ok(FULL_REF)
+        }
+        1 => Err(NO_FULL_PAGE.into()),
+        2 => {
+            let slot = slot_of(patch, block);
+            let length = match sound_slot(slot) {
+                Some((PATCH, length)) => length,
+                _ => return Err(BAD_SLOT.into()),
+            };
+            let entries = entries_of(&slot[8..8 + length])?;
+            page.copy_from_slice(&base_page(base));
+            put_entries(page, &entries);
+            Ok(PATCH)
+        }
+        _ => Err(BAD_PAIR.into()),
+    }
+}
+
+pub fn read_mapped(
+    patch: &[u8],
+    full: &[u8],
+    map: &[u8],
+    block: u64,
+    base: &[u8],
+    page: &mut [u8],
+) -> Reading {
+    match fill_by_map([patch, full, map], block, base, page) {
+        Ok(kind) => Reading { number: DONE, kind, offset: 0 },
+        Err(Refused { number, offset }) => Reading { number, kind: 0, offset },
+    }
+}
+
+// ---------------------------------------------------------------------------------------------
+// Maps
+// ---------------------------------------------------------------------------------------------
+
 /// The pair of one block in the map, or its first fault.
 fn pair_of_block(patch: &[u8], full: &[u8], m: u64, block: u64) -> Result<u8, Refused> {
     let slot = slot_of(patch, block);

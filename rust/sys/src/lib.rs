@@ -79,6 +79,34 @@ extern "C" {
         page_len: usize,
     ) -> thx_written;
 
+    pub fn thx_write_mapped(
+        patch: *mut u8,
+        patch_len: usize,
+        full: *mut u8,
+        full_len: usize,
+        map: *mut u8,
+        map_len: usize,
+        block: u64,
+        base: *const u8,
+        base_len: usize,
+        page: *const u8,
+        page_len: usize,
+    ) -> thx_written;
+
+    pub fn thx_read_mapped(
+        patch: *const u8,
+        patch_len: usize,
+        full: *const u8,
+        full_len: usize,
+        map: *const u8,
+        map_len: usize,
+        block: u64,
+        base: *const u8,
+        base_len: usize,
+        page: *mut u8,
+        page_len: usize,
+    ) -> thx_reading;
+
     pub fn thx_build(
         patch: *const u8,
         patch_len: usize,

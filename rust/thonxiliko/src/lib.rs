@@ -12,9 +12,13 @@
 //!
 //! Every call takes any slices and any numbers. Bad input is answered by a [`Refusal`], and a refused
 //! call changes no byte that it was lent. Where several refusals apply, the first in this order is
-//! given: 1, 2, 9, headers (patch before full; magic, version, then the rest), 5, 6, 8, 7, 10, 11.
-//! Where a payload is not sound, [`apply`], [`read`] and [`build`] also say at which of its bytes, and
-//! [`entries`] steps through it up to there.
+//! given: 1, 2, 9, headers (patch before full; magic, version, then the rest), 5, 6, 8, 7, 10, 11. Only
+//! [`read_mapped`] gives 11 elsewhere, right after 5: it looks at the map before it looks at a slot.
+//! Where a payload is not sound, [`apply`], [`read`], [`read_mapped`] and [`build`] also say at which of
+//! its bytes, and [`entries`] steps through it up to there.
+//!
+//! [`build`] makes the *map*, which says of each block where its page is. A program that keeps it lends
+//! it to every write ([`write_mapped`]) and may then read by it ([`read_mapped`]).
 //!
 //! No call panics, unless the archive that was linked answers with a number that its interface does
 //! not have.
@@ -258,8 +262,8 @@ impl fmt::Display for Refusal {
 
 impl Error for Refusal {}
 
-/// Why [`apply`] or [`read`] was refused, and where the payload breaks. Later versions of the library
-/// may say more.
+/// Why [`apply`], [`read`] or [`read_mapped`] was refused, and where the payload breaks. Later versions
+/// of the library may say more.
 ///
 /// Where the offset is of no interest, `?` makes a [`Refusal`] of it.
 #[derive(Clone, Copy, Debug, PartialEq, Eq, Hash)]
@@ -377,7 +381,7 @@ pub struct Judged {
     pub length: usize,
 }
 
-/// What [`write()`] stored.
+/// What [`write()`] or [`write_mapped`] stored.
 #[derive(Clone, Copy, Debug, PartialEq, Eq)]
 pub struct Written {
     /// The kind stored.
@@ -767,6 +771,136 @@ pub fn write(
     };
     accepted(written.number)?;
     Ok(Written { kind: kind(written.kind), length: written.length as usize })
+}
+
+/// Keeps `page` as the block's page, and the block's pair in `map`.
+///
+/// It does to both areas what [`write()`] does. If it is done, the block's own pair is set to what was
+/// stored, whatever it was before. Other pairs and later bytes of the map are not looked at and stay.
+///
+/// A map tells the truth only if it is the store's own: all zeros beside fresh areas, else made by
+/// [`build`], and lent to every write since. After one write without it, or with another store's map,
+/// [`read_mapped`] can give the page of before. Build it anew then.
+///
+/// Refuses, in this order: [`Refusal::PageLength`], [`Refusal::AreaLength`], [`Refusal::ShortBuffer`]
+/// if the map has less than [`map_len`] bytes, [`Refusal::Header`] and [`Refusal::Version`],
+/// [`Refusal::Block`], and [`Refusal::NoFullPage`] as in [`write()`]. A refused write leaves the map.
+///
+/// ```
+/// use thonxiliko::{build, format, full_area_len, map_len, patch_area_len, write_mapped};
+/// use thonxiliko::{Refusal, PAGE_SIZE};
+///
+/// let mut patch = vec![0; patch_area_len(3)];
+/// let mut full = vec![0; full_area_len(1)];
+/// format(&mut patch, &mut full)?;
+/// let mut map = vec![0; map_len(3)];
+///
+/// let large = vec![9; PAGE_SIZE];
+/// let mut small = vec![0; PAGE_SIZE];
+/// small[100] = 8;
+/// write_mapped(&mut patch, &mut full, &mut map, 0, &[], &large)?;
+/// write_mapped(&mut patch, &mut full, &mut map, 2, &[], &small)?;
+/// assert_eq!(map, [0b00_10_00_01]);
+/// let refused = write_mapped(&mut patch, &mut full, &mut map, 1, &[], &large);
+/// assert_eq!(refused, Err(Refusal::NoFullPage));
+///
+/// let mut built = vec![0; map_len(3)];
+/// build(&patch, &full, &mut built)?;
+/// assert_eq!(map, built);
+/// # Ok::<(), Refusal>(())
+/// ```
+pub fn write_mapped(
+    patch: &mut [u8],
+    full: &mut [u8],
+    map: &mut [u8],
+    block: u64,
+    base: &[u8],
+    page: &[u8],
+) -> Result<Written, Refusal> {
+    // SAFETY: as in `format`.
+    let written = unsafe {
+        sys::thx_write_mapped(
+            patch.as_mut_ptr(),
+            patch.len(),
+            full.as_mut_ptr(),
+            full.len(),
+            map.as_mut_ptr(),
+            map.len(),
+            block,
+            base.as_ptr(),
+            base.len(),
+            page.as_ptr(),
+            page.len(),
+        )
+    };
+    accepted(written.number)?;
+    Ok(Written { kind: kind(written.kind), length: written.length as usize })
+}
+
+/// Fills `page` with a block by what the map says of it.
+///
+/// [`Pair::Empty`] gives the base, and neither slot nor full area is looked at. [`Pair::Patch`] needs a
+/// sound PATCH slot. [`Pair::Full`] gives the block's page in the full area, whatever its slot is.
+///
+/// It trusts the map. With the map that [`build`] makes, or one kept by [`write_mapped`], it answers as
+/// [`read`] does. A map that does not belong to the areas is mostly not noticed: where it says EMPTY of
+/// a block that was written since, the base comes back, yesterday's page.
+///
+/// Refuses, in this order: [`Refusal::PageLength`], [`Refusal::AreaLength`], [`Refusal::ShortBuffer`]
+/// if the map has less than [`map_len`] bytes, [`Refusal::Header`] and [`Refusal::Version`],
+/// [`Refusal::Block`], [`Refusal::Pair`] if the block's own pair is 3, [`Refusal::Slot`],
+/// [`Refusal::NoFullPage`], [`Refusal::Payload`]. Other blocks and their pairs are not looked at.
+///
+/// ```
+/// use thonxiliko::{format, patch_area_len, read_mapped, write_mapped, Kind, Refusal, PAGE_SIZE};
+///
+/// let mut patch = vec![0; patch_area_len(2)];
+/// format(&mut patch, &mut [])?;
+/// let mut map = [0];
+/// let base = vec![5; PAGE_SIZE];
+/// let mut changed = base.clone();
+/// changed[0] = 6;
+/// write_mapped(&mut patch, &mut [], &mut map, 1, &base, &changed)?;
+///
+/// let mut page = vec![0; PAGE_SIZE];
+/// assert_eq!(read_mapped(&patch, &[], &map, 1, &base, &mut page)?, Kind::Patch);
+/// assert_eq!(page, changed);
+/// // A map that knows nothing of the write gives the base, and nobody notices.
+/// assert_eq!(read_mapped(&patch, &[], &[0], 1, &base, &mut page)?, Kind::Empty);
+/// assert_eq!(page, base);
+/// // One that says PATCH of an EMPTY slot is noticed, and so is a pair of 3.
+/// let fault = read_mapped(&patch, &[], &[0b10_10], 0, &base, &mut page).unwrap_err();
+/// assert_eq!(fault.refusal, Refusal::Slot);
+/// let fault = read_mapped(&patch, &[], &[0b11_00], 1, &base, &mut page).unwrap_err();
+/// assert_eq!(fault.refusal, Refusal::Pair);
+/// # Ok::<(), Refusal>(())
+/// ```
+pub fn read_mapped(
+    patch: &[u8],
+    full: &[u8],
+    map: &[u8],
+    block: u64,
+    base: &[u8],
+    page: &mut [u8],
+) -> Result<Kind, PayloadRefusal> {
+    // SAFETY: as in `format`.
+    let reading = unsafe {
+        sys::thx_read_mapped(
+            patch.as_ptr(),
+            patch.len(),
+            full.as_ptr(),
+            full.len(),
+            map.as_ptr(),
+            map.len(),
+            block,
+            base.as_ptr(),
+            base.len(),
+            page.as_mut_ptr(),
+            page.len(),
+        )
+    };
+    payload_accepted(reading.number, reading.offset)?;
+    Ok(kind(reading.kind))
 }
 
 /// Checks every slot, every payload and every place in the full area, and makes the block map.

@@ -43,8 +43,15 @@ fn is_changed(base: &Path, changed: &Path) -> Outcome<bool> {
     Ok(!base.exists() || !same_bytes(base, changed)?)
 }
 
-/// Keeps what the changed folder has beyond the base, and reads all of it back.
-pub fn store(base: &Path, changed: &Path, kept: &Path, progress: &mut Progress) -> Outcome<Stored> {
+/// Keeps what the changed folder has beyond the base, and reads all of it back. Where there is a folder
+/// of noon, its pages are written first, as they were in the course of the day.
+pub fn store(
+    base: &Path,
+    noon: Option<&Path>,
+    changed: &Path,
+    kept: &Path,
+    progress: &mut Progress,
+) -> Outcome<Stored> {
     let (old, new) = (Listing::of(base)?, Listing::of(changed)?);
     let mut stored = Stored::default();
     let mut segments = Vec::new();
@@ -67,7 +74,9 @@ pub fn store(base: &Path, changed: &Path, kept: &Path, progress: &mut Progress) 
     progress.start("storing", blocks);
     for (path, relation) in segments {
         let (base, changed) = (base.join(path), changed.join(path));
-        let counts = store_segment(&base, &changed, &area_paths(kept, path), progress)
+        let noon = noon.map(|noon| noon.join(path));
+        let from = [&base, &changed];
+        let counts = store_segment(from, noon.as_deref(), &area_paths(kept, path), progress)
             .map_err(|problem| format!("{}: {problem}", path.display()))?;
         stored.segments.push(StoredSegment { relation, counts });
     }
@@ -79,19 +88,19 @@ pub fn store(base: &Path, changed: &Path, kept: &Path, progress: &mut Progress) 
 
 /// Keeps one segment in a patch file and a full file.
 fn store_segment(
-    base: &Path,
-    changed: &Path,
+    [base, changed]: [&PathBuf; 2],
+    noon: Option<&Path>,
     (patch, full): &(PathBuf, PathBuf),
     progress: &mut Progress,
 ) -> Outcome<Counts> {
-    let areas = Areas::store(base, changed, progress)?;
+    let (areas, writes) = Areas::store(base, noon, changed, progress)?;
     if let Some(parent) = patch.parent() {
         fs::create_dir_all(parent)?;
     }
     let kept = areas.save(patch, full)?;
     // Read back from the files, not from what is still in memory.
     let counts = Areas::load(patch, full)?.check(base, changed)?;
-    Ok(Counts { kept, ..counts })
+    Ok(Counts { kept, writes, ..counts })
 }
 
 /// Writes one path a line, and says how many there were.
@@ -156,7 +165,7 @@ fn rebuild_segments(
 ) -> Outcome<()> {
     let load = |path: &PathBuf| {
         let (patch, full) = area_paths(kept, path);
-        Areas::load(&patch, &full)
+        Areas::load(&patch, &full).map_err(|problem| format!("{}: {problem}", path.display()))
     };
     let mut blocks = 0;
     for path in segments {
@@ -253,7 +262,8 @@ mod tests {
         folders(&place);
         let at = |name: &str| place.0.join(name);
         let mut progress = Progress::new(false);
-        let stored = store(&at("base"), &at("new"), &at("kept"), &mut progress).expect("stored");
+        let stored =
+            store(&at("base"), None, &at("new"), &at("kept"), &mut progress).expect("stored");
         assert_eq!((stored.segments.len(), stored.unchanged, stored.gone), (5, 2, 1));
         assert_eq!((stored.whole_files, stored.whole_bytes), (1, 100));
         let counts = |first: &str| {
@@ -272,13 +282,39 @@ mod tests {
         assert_eq!((found.files, found.found), (8, Vec::<String>::new()));
     }
 
+    /// Blocks of every kind at noon become blocks of every other in the evening, and segments grow, shrink
+    /// and come in between.
+    #[test]
+    fn a_folder_comes_back_after_a_noon() {
+        let place = Place::new("noon");
+        folders(&place);
+        place.put("noon/base/1/11", &pages(6, &[(0, 20), (1, 300), (2, 300), (3, 20), (5, 300)]));
+        place.put("noon/base/1/12", &pages(2, &[(0, 300), (1, 20)]));
+        place.put("noon/base/1/14.1", &[]);
+        let at = |name: &str| place.0.join(name);
+        let mut progress = Progress::new(false);
+        let (base, noon, new, kept) = (at("base"), at("noon"), at("new"), at("kept"));
+        let stored = store(&base, Some(&noon), &new, &kept, &mut progress).expect("stored");
+        let counts = |first: &str| {
+            let segment = stored.segments.iter().find(|segment| segment.relation.first == first);
+            let counts = segment.expect("a stored segment").counts;
+            (counts.writes, counts.empty, counts.patch, counts.full)
+        };
+        assert_eq!(counts("base/1/11"), (4 + 4, 2, 1, 1));
+        assert_eq!(counts("base/1/12"), (2 + 6, 2, 1, 3));
+        assert_eq!(counts("base/1/14"), (2, 0, 0, 2));
+        rebuild(&base, &kept, &at("again"), &mut progress).expect("rebuilt");
+        let found = differences(&new, &at("again")).expect("compared");
+        assert_eq!((found.files, found.found), (8, Vec::<String>::new()));
+    }
+
     #[test]
     fn damage_is_noticed() {
         let place = Place::new("damage");
         folders(&place);
         let at = |name: &str| place.0.join(name);
         let mut progress = Progress::new(false);
-        store(&at("base"), &at("new"), &at("kept"), &mut progress).expect("stored");
+        store(&at("base"), None, &at("new"), &at("kept"), &mut progress).expect("stored");
         let patch = at("kept/pages/base/1/11.patch");
         let sound = fs::read(&patch).expect("a patch area");
 
@@ -296,7 +332,7 @@ mod tests {
         let problem = rebuild(&at("base"), &at("kept"), &at("three"), &mut progress).err();
         assert_eq!(
             problem.expect("refused").to_string(),
-            "base/1/11: block 1: refused 7: the payload is not sound (offset 40)"
+            "base/1/11: refused 7: the payload is not sound (block 1, offset 40)"
         );
 
         // Another value in a sound slot gives another page, which the comparison sees.

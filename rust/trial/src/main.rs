@@ -21,7 +21,7 @@ use progress::Progress;
 pub type Outcome<T> = Result<T, Box<dyn Error>>;
 
 const HELP: &str = "\
-usage: trial store BASE CHANGED KEPT [--names FILE] [--live]
+usage: trial store BASE CHANGED KEPT [--noon FOLDER] [--names FILE] [--live]
        trial rebuild BASE KEPT FOLDER [--live]
        trial compare FOLDER FOLDER
 
@@ -29,6 +29,7 @@ usage: trial store BASE CHANGED KEPT [--names FILE] [--live]
   rebuild  makes FOLDER from BASE and KEPT
   compare  says whether both folders hold the same files with the same bytes
 
+  --noon FOLDER what CHANGED was like at noon: its pages are stored first, then those of CHANGED
   --names FILE  lines of: path of a relation's first file, its name, 'system' or 'user' (by tabs)
   --live        a progress line that is written over, for terminals
 ";
@@ -36,15 +37,17 @@ usage: trial store BASE CHANGED KEPT [--names FILE] [--live]
 struct Words {
     plain: Vec<String>,
     names: Option<String>,
+    noon: Option<String>,
     live: bool,
 }
 
 fn words() -> Outcome<Words> {
-    let mut words = Words { plain: Vec::new(), names: None, live: false };
+    let mut words = Words { plain: Vec::new(), names: None, noon: None, live: false };
     let mut given = std::env::args().skip(1);
     while let Some(word) = given.next() {
         match word.as_str() {
             "--names" => words.names = Some(given.next().ok_or("--names wants a file")?),
+            "--noon" => words.noon = Some(given.next().ok_or("--noon wants a folder")?),
             "--live" => words.live = true,
             _ => words.plain.push(word),
         }
@@ -62,8 +65,9 @@ fn run() -> Outcome<bool> {
                 None => Names::default(),
             };
             let mut progress = Progress::new(words.live);
-            let stored =
-                kept::store(base.as_ref(), changed.as_ref(), kept.as_ref(), &mut progress)?;
+            let noon = words.noon.as_deref().map(Path::new);
+            let (base, changed, kept) = (base.as_ref(), changed.as_ref(), kept.as_ref());
+            let stored = kept::store(base, noon, changed, kept, &mut progress)?;
             table::print(&stored, &names);
             Ok(true)
         }

@@ -6,18 +6,24 @@ use std::os::unix::fs::MetadataExt;
 use std::path::Path;
 
 use thonxiliko::{
-    build, compare, format, full_area_len, look_up, map_len, patch_area_len, read, tally, write,
-    Difference, Kind, Pair, MAX_BLOCKS, PAGE_SIZE, PATCH_HEADER_SIZE, PAYLOAD_SIZE, SLOT_SIZE,
+    build, compare, format, full_area_len, look_up, map_len, patch_area_len, read, read_mapped,
+    tally, write_mapped, Difference, Kind, Pair, MAX_BLOCKS, PAGE_SIZE, PATCH_HEADER_SIZE,
+    PAYLOAD_SIZE, SLOT_SIZE,
 };
 
 use crate::folder::Pages;
 use crate::progress::Progress;
 use crate::Outcome;
 
-/// Both areas of one segment, in memory.
+/// Both areas of one segment, in memory, and the map kept beside them.
+///
+/// A read by a map that missed a write can give the page of before, so nothing here can make it miss
+/// one: it begins as zeros beside fresh areas, or is built when areas are loaded; the one way to write
+/// lends it; and it is never saved, since a file could be older than the areas.
 pub struct Areas {
     patch: Vec<u8>,
     full: Vec<u8>,
+    map: Vec<u8>,
 }
 
 /// What was stored of a segment.
@@ -28,6 +34,8 @@ pub struct Counts {
     pub empty: u64,
     pub patch: u64,
     pub full: u64,
+    /// Writes in the course of the day, each with the map: at noon and in the evening.
+    pub writes: u64,
     /// Bytes that both area files take on disk.
     pub kept: u64,
 }
@@ -39,6 +47,7 @@ impl Counts {
         self.empty += other.empty;
         self.patch += other.patch;
         self.full += other.full;
+        self.writes += other.writes;
         self.kept += other.kept;
     }
 
@@ -67,7 +76,11 @@ fn pages_needed(base: &Path, changed: &Path) -> Outcome<u64> {
 impl Areas {
     fn fresh(blocks: u64, pages: u64) -> Outcome<Areas> {
         let full = if pages == 0 { 0 } else { full_area_len(pages) };
-        let mut areas = Areas { patch: vec![0; patch_area_len(blocks)], full: vec![0; full] };
+        let mut areas = Areas {
+            patch: vec![0; patch_area_len(blocks)],
+            full: vec![0; full],
+            map: vec![0; map_len(blocks)],
+        };
         format(&mut areas.patch, &mut areas.full)?;
         Ok(areas)
     }
@@ -76,14 +89,22 @@ impl Areas {
         ((self.patch.len() - PATCH_HEADER_SIZE) / SLOT_SIZE) as u64
     }
 
-    /// The areas as `save` left them; without a full file the full area is absent.
+    /// The map that Build makes of the areas, which it checks.
+    fn built_map(&self) -> Outcome<Vec<u8>> {
+        let mut map = vec![0; map_len(self.blocks())];
+        build(&self.patch, &self.full, &mut map)?;
+        Ok(map)
+    }
+
+    /// The areas as `save` left them; without a full file the full area is absent. Their map is built.
     pub fn load(patch: &Path, full: &Path) -> Outcome<Areas> {
         let patch = fs::read(patch).map_err(|error| format!("{}: {error}", patch.display()))?;
         let full = if full.exists() { fs::read(full)? } else { Vec::new() };
-        let areas = Areas { patch, full };
+        let mut areas = Areas { patch, full, map: Vec::new() };
         if areas.patch.len() < PATCH_HEADER_SIZE {
             return Err("a patch area without its header".into());
         }
+        areas.map = areas.built_map()?;
         Ok(areas)
     }
 
@@ -96,41 +117,90 @@ impl Areas {
         Ok(kept)
     }
 
-    /// Stores every page of the changed file over its base.
-    pub fn store(base: &Path, changed: &Path, progress: &mut Progress) -> Outcome<Areas> {
-        let pages = pages_needed(base, changed)?;
-        let (mut base, mut changed) = (Pages::open(base)?, Pages::open(changed)?);
-        if changed.count > MAX_BLOCKS {
-            return Err(format!("{} blocks are more than a segment has", changed.count).into());
+    /// Stores every page of the changed file over its base; before that, where there is a file of noon,
+    /// the pages that it had then. Each is read back by the map at once. Says how many were written.
+    pub fn store(
+        base: &Path,
+        noon: Option<&Path>,
+        changed: &Path,
+        progress: &mut Progress,
+    ) -> Outcome<(Areas, u64)> {
+        let blocks = Pages::open(changed)?.count;
+        if blocks > MAX_BLOCKS {
+            return Err(format!("{blocks} blocks are more than a segment has").into());
         }
-        let mut areas = Areas::fresh(changed.count, pages)?;
-        let (mut base_page, mut page) = (Vec::new(), Vec::new());
-        for block in 0..changed.count {
-            base.next_page(&mut base_page)?;
-            changed.next_page(&mut page)?;
-            write(&mut areas.patch, &mut areas.full, block, &base_page, &page)?;
-            progress.block();
+        let mut pages = pages_needed(base, changed)?;
+        if let Some(noon) = noon {
+            pages = pages.max(pages_needed(base, noon)?.min(blocks));
         }
-        Ok(areas)
+        let mut areas = Areas::fresh(blocks, pages)?;
+        let mut writes = 0;
+        if let Some(noon) = noon {
+            writes += areas.write_all(base, noon, |_| ())?;
+        }
+        writes += areas.write_all(base, changed, |_| progress.block())?;
+        areas.check_kept_map()?;
+        Ok((areas, writes))
     }
 
-    /// Reads every block back and holds it against the changed file, and the map against the reads.
+    /// Writes the pages of a file, as far as there are blocks for them, and reads each by the map.
+    fn write_all(
+        &mut self,
+        base: &Path,
+        from: &Path,
+        mut written: impl FnMut(u64),
+    ) -> Outcome<u64> {
+        let (mut base, mut from) = (Pages::open(base)?, Pages::open(from)?);
+        let (mut base_page, mut page) = (Vec::new(), Vec::new());
+        let mut again = vec![0; PAGE_SIZE];
+        let blocks = from.count.min(self.blocks());
+        for block in 0..blocks {
+            base.next_page(&mut base_page)?;
+            from.next_page(&mut page)?;
+            self.write(block, &base_page, &page)?;
+            self.read(block, &base_page, &mut again)?;
+            if again != page {
+                return Err(format!("block {block} reads wrongly after its write").into());
+            }
+            written(block);
+        }
+        Ok(blocks)
+    }
+
+    /// Writes one block. No write goes without the map.
+    fn write(&mut self, block: u64, base: &[u8], page: &[u8]) -> Outcome<()> {
+        write_mapped(&mut self.patch, &mut self.full, &mut self.map, block, base, page)
+            .map(|_| ())
+            .map_err(|refusal| format!("block {block}: {refusal}").into())
+    }
+
+    /// The map that was lent to every write is the one that Build makes.
+    fn check_kept_map(&self) -> Outcome<()> {
+        if self.map != self.built_map()? {
+            return Err("the map that was kept is not the one that Build makes".into());
+        }
+        Ok(())
+    }
+
+    /// Reads every block back, by the map and by its slot, and holds it against the changed file, and
+    /// the map against the reads.
     pub fn check(&self, base_path: &Path, changed_path: &Path) -> Outcome<Counts> {
         let (mut base, mut changed) = (Pages::open(base_path)?, Pages::open(changed_path)?);
         let blocks = self.blocks();
         if blocks != changed.count {
             return Err(format!("{blocks} blocks kept of {}", changed.count).into());
         }
-        let mut map = vec![0; map_len(blocks)];
-        build(&self.patch, &self.full, &mut map)?;
         let mut counts = Counts { blocks, base_blocks: base.count, ..Counts::default() };
         let (mut base_page, mut page) = (Vec::new(), Vec::new());
-        let mut again = vec![0; PAGE_SIZE];
+        let (mut again, mut by_slot) = (vec![0; PAGE_SIZE], vec![0; PAGE_SIZE]);
         for block in 0..blocks {
             base.next_page(&mut base_page)?;
             changed.next_page(&mut page)?;
             let kind = self.read(block, &base_page, &mut again)?;
-            if again != page {
+            if read(&self.patch, &self.full, block, &base_page, &mut by_slot)? != kind {
+                return Err(format!("block {block} has another kind without the map").into());
+            }
+            if again != page || by_slot != page {
                 let path = changed_path.display();
                 return Err(format!("{path}: block {block} reads back wrongly").into());
             }
@@ -140,20 +210,21 @@ impl Areas {
                 Kind::Full => (&mut counts.full, Pair::Full),
             };
             *count += 1;
-            if look_up(&map, blocks, block)? != pair {
+            if look_up(&self.map, blocks, block)? != pair {
                 return Err(format!("the map is wrong about block {block}").into());
             }
         }
-        let tally = tally(&map, blocks)?;
+        let tally = tally(&self.map, blocks)?;
         if (tally.patch, tally.full) != (counts.patch, counts.full) {
             return Err(format!("the tally is {tally:?}, counted were {counts:?}").into());
         }
         Ok(counts)
     }
 
-    /// Reads one block. A refusal is told with the block and, where its payload breaks, the offset.
+    /// Reads one block by the map. A refusal is told with the block and, where its payload breaks, the
+    /// offset.
     fn read(&self, block: u64, base: &[u8], page: &mut [u8]) -> Outcome<Kind> {
-        read(&self.patch, &self.full, block, base, page)
+        read_mapped(&self.patch, &self.full, &self.map, block, base, page)
             .map_err(|refusal| format!("block {block}: {refusal}").into())
     }
 
@@ -188,4 +259,41 @@ fn save_with_holes(bytes: &[u8], path: &Path) -> Outcome<u64> {
     // Some file systems settle the room only then.
     file.sync_all()?;
     Ok(file.metadata()?.blocks() * 512)
+}
+
+#[cfg(test)]
+mod tests {
+    use super::*;
+
+    /// Five blocks, a patch in block 1 and a full page in block 3.
+    fn areas() -> Areas {
+        let mut areas = Areas::fresh(5, 4).expect("fresh areas");
+        let mut small = vec![0; PAGE_SIZE];
+        small[9] = 1;
+        areas.write(1, &[], &small).expect("written");
+        areas.write(3, &[], &[7; PAGE_SIZE]).expect("written");
+        areas
+    }
+
+    #[test]
+    fn the_map_is_kept_with_every_write() {
+        let mut areas = areas();
+        assert_eq!(areas.map, [0b01_00_10_00, 0]);
+        areas.write(3, &[], &[0; PAGE_SIZE]).expect("written");
+        assert!(areas.write(4, &[], &[7; PAGE_SIZE]).is_err());
+        assert_eq!(areas.map, [0b00_00_10_00, 0]);
+        assert!(areas.check_kept_map().is_ok());
+    }
+
+    /// What a map that missed a write would give, and that it would be noticed.
+    #[test]
+    fn a_map_that_missed_a_write_is_noticed() {
+        let mut areas = areas();
+        areas.map.fill(0);
+        let mut page = vec![1; PAGE_SIZE];
+        assert_eq!(areas.read(3, &[], &mut page).expect("read"), Kind::Empty);
+        assert_eq!(page, [0; PAGE_SIZE]);
+        let problem = areas.check_kept_map().expect_err("noticed").to_string();
+        assert_eq!(problem, "the map that was kept is not the one that Build makes");
+    }
 }

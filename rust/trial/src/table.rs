@@ -139,6 +139,13 @@ pub fn print(stored: &Stored, names: &Names) {
     );
     println!("block, the PATCH and the full ones. Every block was read back and compared.");
     println!(
+        "The map of each segment was lent to all {} writes and is the one that Build makes; blocks were",
+        thousands(total.writes)
+    );
+    println!(
+        "read by it after each write, and from the files by a map built anew and by their slots."
+    );
+    println!(
         "Besides: {} files unchanged, {} gone since the base, {} that hold no relation's pages kept whole ({}).",
         thousands(stored.unchanged),
         thousands(stored.gone),

@@ -5,10 +5,10 @@ use Rattle.edges_areas.proofs.run_all.Statement.{statement}
 use Rattle.edges_areas.proofs.run_all.Tie as tie
 
 abbrev Inv-loop : tie.InvT-loop
-Inv-loop text patch₀ full₀ n₀ m₀ at₀ patch full n m at = Unit {0}
+Inv-loop text patch₀ full₀ map₀ n₀ m₀ k₀ at₀ patch full map n m k at = Unit {0}
 
 abbrev μ-loop : tie.MeasureT-loop
-μ-loop text patch₀ full₀ n₀ m₀ at₀ patch full n m at = length text - at
+μ-loop text patch₀ full₀ map₀ n₀ m₀ k₀ at₀ patch full map n m k at = length text - at
 
 slice-aggregate-patch : tie.Need-slice-aggregate-patch Inv-loop μ-loop
 slice-aggregate-patch c = search needs
@@ -16,11 +16,20 @@ slice-aggregate-patch c = search needs
 slice-aggregate-full : tie.Need-slice-aggregate-full Inv-loop μ-loop
 slice-aggregate-full c = search needs
 
+slice-aggregate-map : tie.Need-slice-aggregate-map Inv-loop μ-loop
+slice-aggregate-map c = search needs
+
 loop-holds : tie.Need-loop-holds Inv-loop μ-loop
 loop-holds c = search needs
 
 line-at-requires : tie.Need-line-at-requires Inv-loop μ-loop
 line-at-requires c κs = search needs
+
+add-at : tie.Need-add-at Inv-loop μ-loop
+add-at c = search needs
+
+add-at-2 : tie.Need-add-at-2 Inv-loop μ-loop
+add-at-2 c = search needs
 
 field-requires : tie.Need-field-requires Inv-loop μ-loop
 field-requires c κs = search needs
@@ -33,6 +42,12 @@ field-requires-2 c κs = search needs
 
 make-or-keep-requires-2 : tie.Need-make-or-keep-requires-2 Inv-loop μ-loop
 make-or-keep-requires-2 c κs = search needs
+
+field-requires-3 : tie.Need-field-requires-3 Inv-loop μ-loop
+field-requires-3 c κs = search needs
+
+make-or-keep-requires-3 : tie.Need-make-or-keep-requires-3 Inv-loop μ-loop
+make-or-keep-requires-3 c κs = search needs
 
 sub-run : tie.Need-sub-run Inv-loop μ-loop
 sub-run c = search needs
@@ -52,14 +67,17 @@ part-run-start-2 c = search needs
 part-run-end-2 : tie.Need-part-run-end-2 Inv-loop μ-loop
 part-run-end-2 c = search needs
 
+sub-run-3 : tie.Need-sub-run-3 Inv-loop μ-loop
+sub-run-3 c = search needs
+
+part-run-start-3 : tie.Need-part-run-start-3 Inv-loop μ-loop
+part-run-start-3 c = search needs
+
+part-run-end-3 : tie.Need-part-run-end-3 Inv-loop μ-loop
+part-run-end-3 c = search needs
+
 run-requires : tie.Need-run-requires Inv-loop μ-loop
 run-requires c κs = search needs
-
-add-at : tie.Need-add-at Inv-loop μ-loop
-add-at c = search needs
-
-add-at-2 : tie.Need-add-at-2 Inv-loop μ-loop
-add-at-2 c = search needs
 
 loop-less : tie.Need-loop-less Inv-loop μ-loop
 loop-less c = search needs
@@ -78,21 +96,27 @@ run-all-spec =
     μ-loop
     slice-aggregate-patch
     slice-aggregate-full
+    slice-aggregate-map
     loop-holds
     line-at-requires
+    add-at
+    add-at-2
     field-requires
     make-or-keep-requires
     field-requires-2
     make-or-keep-requires-2
+    field-requires-3
+    make-or-keep-requires-3
     sub-run
     part-run-start
     part-run-end
     sub-run-2
     part-run-start-2
     part-run-end-2
+    sub-run-3
+    part-run-start-3
+    part-run-end-3
     run-requires
-    add-at
-    add-at-2
     loop-less
     loop-again
     returns)

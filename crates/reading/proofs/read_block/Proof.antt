@@ -1,24 +1,23 @@
 use Rattle.reading.proofs.Pages.{copied-page}
 use Rattle.reading.specs.Parts.{slotOutcome, PatchRead}
-use Rattle.reading.specs.ReadLaws.{slot-missing, slot-unsound, slot-empty, slot-full, patch-read}
+use Rattle.reading.specs.ReadLaws.{slot-unsound, slot-empty, patch-read}
+use Rattle.reading.specs.MappedLaws.{place-as, kind-block}
 use Rattle.stream.specs.Laws.{base-some}
 use Rattle.stream.specs.Calls.{pageOf}
 use Rattle.slots.specs.Slots.{slotNumbers, soundSlot, stateNumbers, payloadOf}
 use Rattle.slots.specs.SlotLaws.{told-patch}
-use Rattle.layout.specs.Lengths.{pagesIn}
-use Rattle.span.specs.Laws.{part-length}
 use Rattle.span.specs.Bytes.{part}
-use Rattle.store.specs.Block.{slotOf, placeOf}
-use Rattle.layout.specs.Sizes.{slotSize, pageAt, payloadAt}
+use Rattle.store.specs.Block.{slotOf}
+use Rattle.layout.specs.Sizes.{slotSize, payloadAt}
+use Rattle.reading.specs.Read.{readDone, readRefused}
 use lib.ListN.{length}
 use mathlib.Core.List.{List}
 use mathlib.Core.Path.{_≡_, sym, ap, subst, _∙_}
 use native.Mathlib.Omega.{arith}
-use Prim.Native.Nat.{ℕ, _<_}
+use Prim.Native.Nat.{ℕ}
 use borrow.Author.Needs.{needs}
 use Rattle.reading.proofs.read_block.Statement.{statement}
 use Rattle.reading.proofs.read_block.Tie as tie
-use Rattle.reading.specs.Read.{readDone, readRefused}
 
 slot-at-requires : tie.Need-slot-at-requires
 slot-at-requires c κs = search needs
@@ -50,34 +49,12 @@ read-patch-requires c κs = search needs
 enum-told-3 : tie.Need-enum-told-3
 enum-told-3 c = search needs
 
+read-place-requires : tie.Need-read-place-requires
+read-place-requires c κs = search needs
+
 returns : tie.Need-returns
 unfolding slotOf
 returns c =
-    let at = c .before .before .before .before .before .before .before .before .before .before in
-    let a = at .args in
-    let s : List ℕ = slotOf (a .patch .now) (a .block) in
-    let same-slot : c .before .before .before .before .part .result .now ≡ s = c .before .before .before .before .part .ensures .0
-    ∙ ap (λ (k : ℕ). part k slotSize (a .patch .now)) (c .before .before .before .before .before .slot-at .ensures) in
-    let numbers : stateNumbers (c .before .before .before .slot-state .result) ≡ slotNumbers s = c .before .before .before .slot-state
-    .ensures ∙ ap (λ (l : List ℕ). slotNumbers l) same-slot in
-    let e : slotOutcome (a .size) (a .patch .now) (a .full .now) (a .block) (a .base .now) (a .page .now)
-    ≡ readRefused 8 0 (a .page .now) =
-    slot-missing (a .size) (a .patch .now) (a .full .now) (a .block) (a .base .now) (a .page .now) (sym numbers
-    ∙ ap stateNumbers (c .before .enum-told3 .given .1)) (omega (arith, at .pre .1 .0, c .if1 .taken)) in
-    record { numbers = rw e; bytes = rw e }
-
-page-at-requires : tie.Need-page-at-requires
-page-at-requires c κs = search needs
-
-part-requires-3 : tie.Need-part-requires-3
-part-requires-3 c κs = search needs
-
-copy-requires-2 : tie.Need-copy-requires-2
-copy-requires-2 c κs = search needs
-
-returns-2 : tie.Need-returns-2
-unfolding slotOf
-returns-2 c =
     let at = c .before .before .before .before .before .before .before .before .before in
     let a = at .args in
     let s : List ℕ = slotOf (a .patch .now) (a .block) in
@@ -93,9 +70,9 @@ returns-2 c =
 same-length : tie.Need-same-length
 same-length c = search needs
 
-returns-3 : tie.Need-returns-3
+returns-2 : tie.Need-returns-2
 unfolding slotOf
-returns-3 c =
+returns-2 c =
     let at = c .before .before .before .before .before .before .before .before .before .before .before .before .before in
     let a = at .args in
     let s : List ℕ = slotOf (a .patch .now) (a .block) in
@@ -120,9 +97,9 @@ returns-3 c =
 same-length-2 : tie.Need-same-length-2
 same-length-2 c = search needs
 
-returns-4 : tie.Need-returns-4
+returns-3 : tie.Need-returns-3
 unfolding slotOf payloadOf
-returns-4 c =
+returns-3 c =
     let at = c .before .before .before .before .before .before .before .before .before .before .before .before .before .before .before in
     let a = at .args in
     let s : List ℕ = slotOf (a .patch .now) (a .block) in
@@ -147,37 +124,20 @@ returns-4 c =
 same-length-3 : tie.Need-same-length-3
 same-length-3 c = search needs
 
-returns-5 : tie.Need-returns-5
-unfolding slotOf placeOf
-returns-5 c =
-    let at = c .before .before .before .before .before .before .before .before .before .before .before .before .before .before .before .before in
-    let a = at .args in
+returns-4 : tie.Need-returns-4
+unfolding slotOf
+returns-4 c =
+    let a = c .before .before .before .before .before .before .before .before .before .before .before .before .before .args in
     let s : List ℕ = slotOf (a .patch .now) (a .block) in
-    let same-slot : c .before .before .before .before .before .before .before .before .before .before .part .result .now
-    ≡ s = c .before .before .before .before .before .before .before .before .before .before .part .ensures .0
-    ∙ ap (λ (k : ℕ). part k slotSize (a .patch .now)) (c .before .before .before .before .before .before .before .before .before .before .before
-    .slot-at .ensures) in
-    let numbers : stateNumbers (c .before .before .before .before .before .before .before .before .before .slot-state .result)
-    ≡ slotNumbers s = c .before .before .before .before .before .before .before .before .before .slot-state .ensures
-    ∙ ap (λ (l : List ℕ). slotNumbers l) same-slot in
-    let below : a .block < pagesIn (a .size) (length (a .full .now)) = omega (
-      arith,
-      at .pre .1 .0,
-      c .before .before .before .before .before .before .if1 .left,
-    ) in
-    let e : slotOutcome (a .size) (a .patch .now) (a .full .now) (a .block) (a .base .now) (a .page .now)
-    ≡ readDone 2 (placeOf (a .size) (a .full .now) (a .block)) =
-    slot-full (a .size) (a .patch .now) (a .full .now) (a .block) (a .base .now) (a .page .now) (sym numbers
-    ∙ ap stateNumbers (c .before .before .before .before .before .before .before .enum-told3 .given .1)) below in
-    let p : c .before .before .before .part3 .result .now ≡ part (pageAt (a .size) (a .block)) (a .size) (a .full .now) = c .before .before .before .part3
-    .ensures .0 ∙ ap (λ (k : ℕ). part k (a .size) (a .full .now)) (c .before .before .before .before .page-at .ensures) in
-    let l : length (c .before .before .before .part3 .result .now) ≡ a .size = ap (λ (x : List ℕ). length x) p
-    ∙ part-length (pageAt (a .size) (a .block)) (a .size) (a .full .now) (at .pre .1 .1 (a .block) below) in
-    record {
-      numbers = rw e;
-      bytes = rw e (copied-page (a .size) (a .page .now) (c .before .before .before .part3 .result .now) (c .before .before .copy2 .last .0) (at .pre .0 .1) l
-          (c .before .before .copy2 .ensures) ∙ p);
-    }
+    let p = c .before .before .before .before .before .before .before in
+    let same-slot : p .part .result .now ≡ s = p .part .ensures .0
+    ∙ ap (λ (k : ℕ). part k slotSize (a .patch .now)) (p .before .slot-at .ensures) in
+    let told : slotNumbers s ≡ soundSlot 2 0 =
+    sym (c .before .before .before .before .before .before .slot-state .ensures ∙ ap (λ (l : List ℕ). slotNumbers l) same-slot)
+    ∙ ap stateNumbers (c .before .before .before .before .enum-told3 .given .1) in
+    let r = c .before .before .read-place in
+    kind-block (a .size) (a .patch .now) (a .full .now) (a .block) (a .base .now) (a .page .now) 2 0 (r .result) (r .last .1 .1 .1 .1 .0) told
+    (place-as (a .size) (a .patch .now) (a .full .now) (a .block) (a .base .now) (a .page .now) (r .result) (r .last .1 .1 .1 .1 .0) (r .ensures))
 
 pub read-block-spec : {M : Type 1} → statement M
 read-block-spec =
@@ -193,14 +153,11 @@ read-block-spec =
     part-requires-2
     read-patch-requires
     enum-told-3
+    read-place-requires
     returns
-    page-at-requires
-    part-requires-3
-    copy-requires-2
-    returns-2
     same-length
-    returns-3
+    returns-2
     same-length-2
-    returns-4
+    returns-3
     same-length-3
-    returns-5)
+    returns-4)

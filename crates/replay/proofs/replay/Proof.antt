@@ -1,5 +1,7 @@
 use native.Mathlib.Omega.{arith}
 use Rattle.replay.specs.Laws.{Going, begin, go-on, countable, ended}
+use Rattle.replay.specs.Writes.{both}
+use Rattle.promises.specs.RunWords.{outcome, takesBy, doesBy}
 use Rattle.layout.specs.Sizes.{pageSize}
 use lib.ListN.{length}
 use mathlib.Core.Path.{_≡_, refl}
@@ -9,16 +11,22 @@ use Rattle.replay.proofs.replay.Statement.{statement}
 use Rattle.replay.proofs.replay.Tie as tie
 
 abbrev Inv-loop : tie.InvT-loop
-Inv-loop patch₀ full₀ blocks bases pages marks₀ accepted₀ i₀ patch full marks accepted i = Going pageSize patch₀ full₀ blocks bases pages marks₀ i accepted
-    patch full marks × (length patch ≡ length patch₀) × (length full ≡ length full₀) × (length marks ≡ length marks₀)
+Inv-loop patch₀ full₀ blocks bases pages marks₀ accepted₀ i₀ patch full marks accepted i =
+    Going (takesBy (outcome pageSize)) (doesBy (outcome pageSize)) pageSize (both patch₀ full₀) blocks bases pages marks₀ i accepted (both patch full) marks
+    × (length patch ≡ length patch₀) × (length full ≡ length full₀) × (length marks ≡ length marks₀)
 
 abbrev μ-loop : tie.MeasureT-loop
 μ-loop patch₀ full₀ blocks bases pages marks₀ accepted₀ i₀ patch full marks accepted i = length blocks - i
 
 loop-holds : tie.Need-loop-holds Inv-loop μ-loop
 loop-holds c =
-    let a = c .before .before .before .before .before .before .args in
-    (begin pageSize (a .patch .now) (a .full .now) (a .blocks .now) (a .bases .now) (a .pages .now) (a .marks .now), refl, refl, refl)
+    let a = c .before .before .before .before .before .before .args in (
+      begin (takesBy (outcome pageSize)) (doesBy (outcome pageSize)) pageSize (both (a .patch .now) (a .full .now)) (a .blocks .now) (a .bases .now)
+          (a .pages .now) (a .marks .now),
+      refl,
+      refl,
+      refl,
+    )
 
 nth-page-requires : tie.Need-nth-page-requires Inv-loop μ-loop
 nth-page-requires c κs = search needs
@@ -47,8 +55,9 @@ add-accepted c =
     .before .before .before .before .args in
     let l = c .before .before .before .before .before .before .before .before .before .before .before .before .before .before .before .loop in
     let t = c .before .before .before .before .before .before .before .before .turn in
-    let h = countable pageSize (a .patch .now) (a .full .now) (a .blocks .now) (a .bases .now) (a .pages .now) (a .marks .now) (l .i) (l .accepted) (l .patch)
-    (l .full) (l .marks) (l .inv .0) (omega arith) (t .result) (t .last .0) (t .last .1 .0) (t .ensures) in
+    let h = countable (takesBy (outcome pageSize)) (doesBy (outcome pageSize)) pageSize (both (a .patch .now) (a .full .now)) (a .blocks .now) (a .bases .now)
+    (a .pages .now) (a .marks .now) (l .i) (l .accepted) (both (l .patch) (l .full)) (l .marks) (l .inv .0) (omega arith) (t .result)
+    (both (t .last .0) (t .last .1 .0)) (t .ensures) in
     record {
       fits = omega (
         arith,
@@ -70,10 +79,11 @@ loop-again c =
     .before .before .before .before .args in
     let l = c .before .before .before .before .before .before .before .before .before .before .before .before .before .before .before .loop in
     let t = c .before .before .before .before .before .before .before .before .turn in (
-      go-on pageSize (a .patch .now) (a .full .now) (a .blocks .now) (a .bases .now) (a .pages .now) (a .marks .now) (l .i) (l .accepted) (l .patch) (l .full)
-          (l .marks) (l .inv .0) (omega arith) (c .before .before .before .before .before .before .before .before .before .before .before .before .before
+      go-on (takesBy (outcome pageSize)) (doesBy (outcome pageSize)) pageSize (both (a .patch .now) (a .full .now)) (a .blocks .now) (a .bases .now)
+          (a .pages .now) (a .marks .now) (l .i) (l .accepted) (both (l .patch) (l .full)) (l .marks) (l .inv .0) (omega arith) (c .before .before .before
+          .before .before .before .before .before .before .before .before .before .before
           .nth-page .result .now) (c .before .before .before .before .before .before .before .before .before .before .before .before .nth-page2 .result .now)
-          (t .result) (t .last .0) (t .last .1 .0) (c .before .before .put .last .0)
+          (t .result) (both (t .last .0) (t .last .1 .0)) (c .before .before .put .last .0)
           (c .before .before .before .before .before .before .before .before .before .before .before .before .before .nth-page .ensures)
           (c .before .before .before .before .before .before .before .before .before .before .before .before .nth-page2 .ensures) (t .ensures)
           (c .before .before .put .ensures),
@@ -95,8 +105,8 @@ returns : tie.Need-returns Inv-loop μ-loop
 returns c =
     let a = c .before .before .before .before .before .before .before .before .args in
     let l = c .before .loop in
-    ended pageSize (a .patch .now) (a .full .now) (a .blocks .now) (a .bases .now) (a .pages .now) (a .marks .now) (l .i) (l .accepted) (l .patch) (l .full)
-    (l .marks) (l .inv .0) (omega arith)
+    ended (takesBy (outcome pageSize)) (doesBy (outcome pageSize)) pageSize (both (a .patch .now) (a .full .now)) (a .blocks .now) (a .bases .now)
+    (a .pages .now) (a .marks .now) (l .i) (l .accepted) (both (l .patch) (l .full)) (l .marks) (l .inv .0) (omega arith)
 
 pub replay-spec : {M : Type 1} → statement M
 replay-spec =

@@ -22,7 +22,7 @@ use Rattle.writing.proofs.write.Tie as tie
 -- where the frame is opened, it has these numbers
 opened : (c : tie.After-size)
     → let a = c .before .before .before .before .before .before .before .before .before .before .args in
-    Lent pageSize (a .patch .now) (a .full .now) (a .base .now) (a .page .now)
+    Lent pageSize [] (a .patch .now) (a .full .now) (a .base .now) (a .page .now)
     (c .size .given .0 .0) (c .size .given .0 .1 .0) (c .size .given .0 .1 .1 .0)
 opened c =
     let a = c .before .before .before .before .before .before .before .before .before .before .args in

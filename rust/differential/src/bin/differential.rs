@@ -5,6 +5,7 @@ use std::time::{Instant, SystemTime, UNIX_EPOCH};
 
 use differential::generate;
 use differential::harness::{Counts, Harness, Mismatch};
+use differential::maps::{self, Elsewhere};
 use differential::rng::Rng;
 use differential::runs::{self, Pairs};
 use differential::{cases, crash, huge, orders, payloads, sweep};
@@ -18,8 +19,9 @@ independent implementation; compares every answer and every lent byte after ever
   --quick       a few seconds (the default)
   --long        more than a million calls
   --seed N      replay with this seed (otherwise drawn from the clock, and printed)
-  --part NAME   only one part: cases, orders, lengths, numbers, payloads, readers, random, runs, huge
-  --case I      only this case of the part, which is readers, random or runs
+  --part NAME   only one part: cases, orders, lengths, numbers, payloads, readers, pairs, maps, random,
+                runs, huge
+  --case I      only this case of the part, which is readers, maps, random or runs
   --trace       print each input before the call, to find the one that crashed
 ";
 
@@ -37,7 +39,7 @@ struct Part {
 }
 
 /// The parts in the order of a whole run.
-const PARTS: [Part; 9] = [
+const PARTS: [Part; 11] = [
     Part { name: "cases", work: Work::Whole(hand_written), meets_all: true },
     Part { name: "orders", work: Work::Whole(every_order), meets_all: false },
     Part { name: "lengths", work: Work::Whole(lengths), meets_all: false },
@@ -46,6 +48,12 @@ const PARTS: [Part; 9] = [
     Part {
         name: "readers",
         work: Work::Drawn { quick: 400, long: 8_000, run: longer_payload },
+        meets_all: false,
+    },
+    Part { name: "pairs", work: Work::Whole(every_pair), meets_all: false },
+    Part {
+        name: "maps",
+        work: Work::Drawn { quick: 300, long: 6_000, run: store_from_elsewhere },
         meets_all: false,
     },
     Part {
@@ -114,7 +122,7 @@ impl Options {
         let drawn = |part: &Part| matches!(part.work, Work::Drawn { .. });
         let one_drawn = PARTS.iter().filter(|part| self.wants(part)).all(drawn);
         if self.case.is_some() && !one_drawn {
-            return Err("--case goes with --part readers, random or runs".to_string());
+            return Err("--case goes with --part readers, maps, random or runs".to_string());
         }
         Ok(())
     }
@@ -130,6 +138,7 @@ struct Session {
     options: Options,
     harness: Harness,
     pairs: Pairs,
+    elsewhere: Elsewhere,
     /// What each part met, in the part alone.
     met: Vec<(&'static Part, Counts)>,
 }
@@ -210,9 +219,15 @@ impl Session {
                 holes.push(format!("{}: {} never gave {number}", part.name, call.name()));
             }
         }
-        let Pairs { alike, different } = self.pairs;
+        let Pairs { alike, different, mapped, unmapped } = self.pairs;
         if self.ran("runs") && (alike == 0 || different == 0) {
             holes.push(format!("runs: {alike} pairs ended alike, {different} did not"));
+        }
+        if self.ran("runs") && (mapped == 0 || unmapped == 0) {
+            holes.push(format!("runs: {mapped} with a map, {unmapped} without"));
+        }
+        if self.ran("maps") && self.elsewhere.accepted == 0 {
+            holes.push("maps: Build accepted no store".to_string());
         }
         holes
     }
@@ -222,8 +237,13 @@ impl Session {
         let mut all = Counts::default();
         self.met.iter().for_each(|(_, counts)| all.add_all(counts));
         println!("\n{all}");
+        if self.ran("maps") {
+            let Elsewhere { accepted, refused } = self.elsewhere;
+            println!("stores from elsewhere: Build accepted {accepted} and refused {refused}");
+        }
         if self.ran("runs") {
-            let Pairs { alike, different } = self.pairs;
+            let Pairs { alike, different, mapped, unmapped } = self.pairs;
+            println!("runs: {mapped} with a map lent to every write, {unmapped} without");
             println!("runs compared in pairs: {alike} ended alike, {different} did not");
         }
         let (compared, seed) = (all.total(), self.options.seed);
@@ -289,6 +309,14 @@ fn longer_payload(session: &mut Session, rng: &mut Rng) -> Result<(), Mismatch> 
     payloads::a_longer_one(&mut session.harness, rng)
 }
 
+fn every_pair(session: &mut Session) -> Result<(), Mismatch> {
+    maps::every_one(&mut session.harness)
+}
+
+fn store_from_elsewhere(session: &mut Session, rng: &mut Rng) -> Result<(), Mismatch> {
+    maps::from_elsewhere(&mut session.harness, rng, &mut session.elsewhere)
+}
+
 fn random(session: &mut Session, rng: &mut Rng) -> Result<(), Mismatch> {
     session.harness.check(&generate::any_input(rng)).map(|_| ())
 }
@@ -325,7 +353,13 @@ fn main() -> ExitCode {
     crash::watch();
     let mut harness = Harness::new();
     harness.trace = options.trace;
-    let mut session = Session { options, harness, pairs: Pairs::default(), met: Vec::new() };
+    let mut session = Session {
+        options,
+        harness,
+        pairs: Pairs::default(),
+        elsewhere: Elsewhere::default(),
+        met: Vec::new(),
+    };
     let result = session.run();
     if session.report(result) {
         ExitCode::SUCCESS

@@ -1,0 +1,294 @@
+//! Writes that keep a lent map and reads that go by it, held to what is written here by hand:
+//!
+//! * a read does what the block's own pair says, for every byte that a map can have, over slots of
+//!   every sort, and whether or not there is a place for the block;
+//! * a write sets the block's own pair to what it stored, and no other bit of the map;
+//! * a map is too short just where the blocks want another byte;
+//! * beside a store from elsewhere that Build accepts, reads by Build's map are those of Read, writes
+//!   with it are those of Write, and afterwards it is again the map that Build makes.
+//!
+//! Every call of it is also compared with the independent implementation.
+
+use crate::call::{Answer, Call, Input, Outcome, FULL_HEADER, PAGE, PATCH_HEADER, SLOT};
+use crate::generate::{self, Areas};
+use crate::harness::{Harness, Mismatch};
+use crate::rng::Rng;
+
+fn demand(holds: bool, what: impl FnOnce() -> String) -> Result<(), Mismatch> {
+    if holds {
+        return Ok(());
+    }
+    let input = "see the seed and case".to_string();
+    Err(Mismatch { side: "demand on maps", input, found: what() })
+}
+
+/// The four pairs of a byte, block 0's first.
+fn pairs(byte: u8) -> [u8; 4] {
+    [byte % 4, byte / 4 % 4, byte / 16 % 4, byte / 64]
+}
+
+/// What stands in a block's slot.
+#[derive(Clone, Copy, Debug, PartialEq, Eq)]
+enum Slot {
+    Empty,
+    /// Byte 0 becomes 7.
+    Patch,
+    /// The same, then a jump without a value: it breaks at offset 2.
+    Broken,
+    FullRef,
+    Unsound,
+}
+
+const SLOTS: [Slot; 5] = [Slot::Empty, Slot::Patch, Slot::Broken, Slot::FullRef, Slot::Unsound];
+
+impl Slot {
+    fn bytes(self) -> Vec<u8> {
+        let mut slot = match self {
+            Slot::Patch => return generate::patch_slot(&[0, 7]),
+            Slot::Broken => return generate::patch_slot(&[0, 7, 0]),
+            _ => vec![0; SLOT],
+        };
+        match self {
+            Slot::FullRef => slot[0] = 2,
+            Slot::Unsound => slot[0] = 3,
+            _ => {}
+        }
+        slot
+    }
+}
+
+const BASE: u8 = 0x42;
+const LENT: u8 = 0xEE;
+
+/// The byte that a block's place is full of, whatever its slot says.
+fn stored(block: usize) -> u8 {
+    0x90 + block as u8
+}
+
+/// Four blocks with this slot each, and their places, if there are any.
+fn store_of(slot: Slot, places: bool) -> Areas {
+    let mut areas = Areas::fresh(4, places.then_some(4));
+    areas.patch[PATCH_HEADER..].copy_from_slice(&slot.bytes().repeat(4));
+    if places {
+        let places = areas.full[FULL_HEADER..].chunks_exact_mut(PAGE);
+        places.enumerate().for_each(|(block, place)| place.fill(stored(block)));
+    }
+    areas
+}
+
+/// What a read gives by the block's own pair: its answer and the page afterwards.
+fn read_by(pair: u8, slot: Slot, block: usize, places: bool) -> (Answer, Vec<u8>) {
+    let untouched = vec![LENT; PAGE];
+    let base = vec![BASE; PAGE];
+    match (pair, slot) {
+        (0, _) => (Answer::of(&[0, 0]), base),
+        (1, _) if places => (Answer::of(&[0, 2]), vec![stored(block); PAGE]),
+        (1, _) => (Answer::of(&[8]), untouched),
+        (2, Slot::Patch) => {
+            let mut page = base;
+            page[0] = 7;
+            (Answer::of(&[0, 1]), page)
+        }
+        (2, Slot::Broken) => (Answer::of(&[7, 0, 2]), untouched),
+        (2, _) => (Answer::of(&[6]), untouched),
+        _ => (Answer::of(&[11]), untouched),
+    }
+}
+
+/// A read by every byte that a map can have.
+pub fn every_read(harness: &mut Harness) -> Result<(), Mismatch> {
+    for slot in SLOTS {
+        for places in [true, false] {
+            let Areas { patch, full } = store_of(slot, places);
+            for byte in 0..=255 {
+                for block in 0..4 {
+                    let lent = vec![LENT; PAGE];
+                    let buffers =
+                        vec![patch.clone(), full.clone(), vec![byte], vec![BASE; PAGE], lent];
+                    let input = Input::new(Call::ReadMapped, buffers).at_block(block as u64);
+                    let Outcome { answer, buffers } = harness.check(&input)?;
+                    let (expected, page) = read_by(pairs(byte)[block], slot, block, places);
+                    demand(answer == expected && buffers[4] == page, || {
+                        format!("block {block} of {slot:?} by {byte:02X}: {:?}", answer.0)
+                    })?;
+                }
+            }
+        }
+    }
+    Ok(())
+}
+
+/// The pages to write over a base of zeros, what is answered, and the pair that it sets, if any.
+fn writes() -> [(Vec<u8>, Answer, Option<u8>); 3] {
+    let mut small = vec![0; PAGE];
+    small[8191] = 1;
+    [
+        (vec![0; PAGE], Answer::of(&[0, 0, 0]), Some(0)),
+        (small, Answer::of(&[0, 1, 4]), Some(2)),
+        (vec![5; PAGE], Answer::of(&[0, 2, 16_384]), Some(1)),
+    ]
+}
+
+/// A write over every byte that a map can have: of three blocks, whose byte has an unused pair, and of
+/// four.
+pub fn every_write(harness: &mut Harness) -> Result<(), Mismatch> {
+    for n in [3, 4] {
+        for (page, accepted, pair) in writes() {
+            for places in [true, false] {
+                // A large page without a place is refused, and no pair is set.
+                let done = places || pair != Some(1);
+                let (expected, set) =
+                    if done { (accepted, pair) } else { (Answer::of(&[8]), None) };
+                for byte in 0..=255 {
+                    for block in 0..n {
+                        let Areas { patch, full } = Areas::fresh(n, places.then_some(n));
+                        // A later byte stays too.
+                        let buffers = vec![patch, full, vec![byte, byte], vec![], page.clone()];
+                        let input = Input::new(Call::WriteMapped, buffers).at_block(block as u64);
+                        let Outcome { answer, buffers } = harness.check(&input)?;
+                        let mut wanted = pairs(byte);
+                        wanted[block] = set.unwrap_or(wanted[block]);
+                        let after = [pairs(buffers[2][0]), pairs(buffers[2][1])];
+                        demand(answer == expected && after == [wanted, pairs(byte)], || {
+                            format!("write of block {block} of {n} over {byte:02X}: {after:?}")
+                        })?;
+                    }
+                }
+            }
+        }
+    }
+    Ok(())
+}
+
+/// Each length of a map up to one byte more than 0 to 9 blocks want.
+pub fn every_length(harness: &mut Harness) -> Result<(), Mismatch> {
+    for n in 0..10 {
+        for length in 0..=(n + 3) / 4 + 1 {
+            for block in 0..=n {
+                for call in [Call::WriteMapped, Call::ReadMapped] {
+                    let Areas { patch, full } = Areas::fresh(n, None);
+                    let buffers = vec![patch, full, vec![0; length], vec![], vec![0; PAGE]];
+                    let input = Input::new(call, buffers).at_block(block as u64);
+                    let answer = harness.check(&input)?.answer;
+                    let number = match (4 * length < n, block < n) {
+                        (true, _) => 9,
+                        (false, false) => 5,
+                        (false, true) => 0,
+                    };
+                    demand(answer == Answer::of(&[number]), || {
+                        format!("{} with {length} bytes for {n} blocks: {answer:?}", call.name())
+                    })?;
+                }
+            }
+        }
+    }
+    Ok(())
+}
+
+/// Every byte of a map, and every length.
+pub fn every_one(harness: &mut Harness) -> Result<(), Mismatch> {
+    every_read(harness)?;
+    every_write(harness)?;
+    every_length(harness)
+}
+
+/// How many stores from elsewhere Build accepted and refused; of a refused one nothing is demanded.
+#[derive(Clone, Copy, Debug, Default, PartialEq, Eq)]
+pub struct Elsewhere {
+    pub accepted: u64,
+    pub refused: u64,
+}
+
+/// A store and a map beside it, with bytes after it that stay.
+struct Kept {
+    areas: Areas,
+    map: Vec<u8>,
+}
+
+impl Kept {
+    /// The map's bytes that the blocks have.
+    fn used(&self) -> usize {
+        (self.areas.blocks() + 3) / 4
+    }
+
+    fn lent(&self, with_map: bool, base: &[u8], page: &[u8]) -> Vec<Vec<u8>> {
+        let mut lent = vec![self.areas.patch.clone(), self.areas.full.clone()];
+        if with_map {
+            lent.push(self.map.clone());
+        }
+        lent.extend([base.to_vec(), page.to_vec()]);
+        lent
+    }
+
+    /// What Build says, and the map afterwards, which held other bytes before.
+    fn build(&self, harness: &mut Harness) -> Result<(Answer, Vec<u8>), Mismatch> {
+        let map = self.map.iter().map(|byte| !byte).collect();
+        let buffers = vec![self.areas.patch.clone(), self.areas.full.clone(), map];
+        let Outcome { answer, mut buffers } = harness.check(&Input::new(Call::Build, buffers))?;
+        Ok((answer, buffers.swap_remove(2)))
+    }
+
+    /// Every block by the map and by its slot.
+    fn check_reads(&self, harness: &mut Harness, rng: &mut Rng) -> Result<(), Mismatch> {
+        for block in 0..self.areas.blocks() as u64 {
+            let (base, page) = (generate::base(rng), rng.bytes(PAGE));
+            let by_slot = Input::new(Call::Read, self.lent(false, &base, &page)).at_block(block);
+            let by_map =
+                Input::new(Call::ReadMapped, self.lent(true, &base, &page)).at_block(block);
+            let (slot, map) = (harness.check(&by_slot)?, harness.check(&by_map)?);
+            demand(slot.answer == map.answer && slot.buffers[3] == map.buffers[4], || {
+                format!("block {block} by its slot {:?}, by the map {:?}", slot.answer, map.answer)
+            })?;
+        }
+        Ok(())
+    }
+
+    /// One write with the map, and the same without it.
+    fn write(&mut self, harness: &mut Harness, rng: &mut Rng) -> Result<(), Mismatch> {
+        let block = rng.below(self.areas.blocks()) as u64;
+        let base = generate::base(rng);
+        let page = generate::modified(rng, &base);
+        let plain = Input::new(Call::Write, self.lent(false, &base, &page)).at_block(block);
+        let mapped = Input::new(Call::WriteMapped, self.lent(true, &base, &page)).at_block(block);
+        let (plain, mapped) = (harness.check(&plain)?, harness.check(&mapped)?);
+        demand(plain.answer == mapped.answer && plain.buffers[..2] == mapped.buffers[..2], || {
+            format!("block {block} without a map {:?}, with it {:?}", plain.answer, mapped.answer)
+        })?;
+        let mut buffers = mapped.buffers.into_iter();
+        let mut next = || buffers.next().expect("five buffers");
+        *self = Kept { areas: Areas { patch: next(), full: next() }, map: next() };
+        Ok(())
+    }
+}
+
+/// One store from elsewhere, and writes to it.
+pub fn from_elsewhere(
+    harness: &mut Harness,
+    rng: &mut Rng,
+    met: &mut Elsewhere,
+) -> Result<(), Mismatch> {
+    let areas = generate::areas(rng);
+    let room = (areas.blocks() + 3) / 4 + rng.below(3);
+    let mut kept = Kept { areas, map: rng.bytes(room) };
+    let (answer, built) = kept.build(harness)?;
+    if answer.number() != 0 {
+        met.refused += 1;
+        return Ok(());
+    }
+    met.accepted += 1;
+    kept.map = built;
+    let later = kept.map[kept.used()..].to_vec();
+    kept.check_reads(harness, rng)?;
+    if kept.areas.blocks() > 0 {
+        for _ in 0..rng.between(1, 12) {
+            kept.write(harness, rng)?;
+        }
+    }
+    let (answer, built) = kept.build(harness)?;
+    let used = kept.used();
+    demand(answer.number() == 0 && kept.map[..used] == built[..used], || {
+        format!("kept {:02X?}, Build says {answer:?} and makes {built:02X?}", kept.map)
+    })?;
+    demand(kept.map[used..] == later[..], || "bytes after the map were changed".to_string())?;
+    kept.check_reads(harness, rng)
+}
