@@ -6,30 +6,26 @@ use mathlib.Core.Bool.{Bool, true, false, cond}
 use mathlib.Core.List.{List}
 use lib.Dec.{eqb, leb}
 use lib.ListN.{length}
-use borrow.Author.Tests.{lt-ltb, leb-true, leb-false, ne-eqb, eqb-true, eqb-false}
+use borrow.Author.Tests.{leb-true, leb-false, ne-eqb, eqb-true, eqb-false}
 use Rattle.span.specs.Bytes.{splice}
 use Rattle.layout.specs.Sizes.{patchHead}
-use Rattle.layout.specs.Refusals.{Row, firstOf}
-use Rattle.layout.specs.RefusalLaws.{or-none}
-use Rattle.layout.specs.Lengths.{blocksIn, lengthRows}
+use Rattle.layout.specs.Lengths.{blocksIn}
 use Rattle.slots.specs.Slots.{slotNumbers}
 use Rattle.blockmap.specs.Pairs.{mapBytes}
 use Rattle.blockmap.specs.Pack.{pairOf, packed, setPair}
 use Rattle.blockmap.specs.PackLaws.{packed-same}
 use Rattle.blockmap.specs.SetLaws.{putAt, set-laid, set-packed}
-use Rattle.blockmap.specs.Calls.{shortMap}
-use Rattle.stream.specs.Calls.{pageRows}
 use Rattle.store.specs.Block.{slotOf}
-use Rattle.store.specs.Frame.{frameRows}
 use Rattle.writing.specs.Write.{WriteOutcome}
 use Rattle.writing.specs.Mapped.{MappedOutcome, keptBy}
-use Rattle.writing.specs.MappedLaws.{mapped-frame, mapped-accepted, mapped-refused}
+use Rattle.writing.specs.MappedLaws.{mapped-accepted, mapped-refused}
 use Rattle.building.specs.Build.{builtMap}
 use Rattle.building.specs.MapLaws.{laid-length, built-length}
 use Rattle.promises.specs.Words.{blocks, Stored}
 use Rattle.promises.specs.Cells.{emptied-length}
 use Rattle.promises.specs.StoreLaws.{write-not, Accepted, accepted, write-stored}
-use Rattle.promises.specs.MapTables.{stored-numbers}
+use Rattle.promises.specs.Kept.{write-mapped-kept}
+use Rattle.promises.specs.MapTables.{reaches, fitting, stored-numbers}
 use Rattle.promises.specs.Runs.{write, wipe}
 use Rattle.promises.specs.RunWords.{Areas, Lent, outcome, taken, next}
 use Rattle.promises.specs.RunStore.{store}
@@ -77,10 +73,6 @@ module _ (P : ℕ) (s : Areas) (w : Lent) (e : taken P s w ≡ true) where
 
 -- One write
 
-short-of : (b n l : ℕ) → l ≡ mapBytes n → b < n → b / 4 < l
-unfolding mapBytes
-short-of b n l e h = omega arith
-
 module _ (P : ℕ) (s : Areas) (map : List ℕ) (w : Lent) where
   module _ (long : Long s map) where
     fits-laid : Long s (laid s map)
@@ -109,18 +101,18 @@ module _ (P : ℕ) (s : Areas) (map : List ℕ) (w : Lent) where
         left : MappedOutcome → Mapped
         left o = with (record { patch = o .written .patch; full = o .written .full }) (o .map)
 
-        reaches : taken P s w ≡ true → w .block / 4 < length (builtMap (s .patch))
-        reaches e =
+        own-byte : taken P s w ≡ true → w .block / 4 < length (builtMap (s .patch))
+        own-byte e =
             let l : length (builtMap (s .patch)) ≡ mapBytes (blocks (s .patch)) = built-length (s .patch) in
             let b : w .block < blocks (s .patch) = a P s w e .below in
-            short-of (w .block) (blocks (s .patch)) (length (builtMap (s .patch))) l b
+            reaches (blocks (s .patch)) (w .block) (length (builtMap (s .patch))) (omega arith) b
 
         go : (t : Bool) → taken P s w ≡ t
             → doesWithBy (mapped P) (with s (laid s map)) (write w) ≡ with (next P s w) (laid (next P s w) map)
         go true e =
             ap left (with-accepted e)
             ∙ ap (with (next P s w))
-            (set-laid map (builtMap (s .patch)) (w .block) (pairOf (outcome P s w .kind)) (reaches e)
+            (set-laid map (builtMap (s .patch)) (w .block) (pairOf (outcome P s w .kind)) (own-byte e)
             ∙ ap (λ (l : List ℕ). splice map 0 l) (built-next P s w e))
         go false e =
             let kept : next P s w ≡ s = ap (λ (o : WriteOutcome). record { patch = o .patch; full = o .full })
@@ -129,28 +121,16 @@ module _ (P : ℕ) (s : Areas) (map : List ℕ) (w : Lent) where
 
   -- a map that is too short
   module _ (short : length map < mapRoom s) where
-    frame : List Row
-    frame = frameRows P (pageRows P (w .base) (w .page)) (shortMap map (blocks (s .patch))) (s .patch) (s .full)
-
-    refuses : firstOf frame ≡ 0 → ⊥
-    unfolding frame frameRows lengthRows firstOf
-    refuses e =
-        let z = or-none _ _ (or-none _ _ (or-none _ _ e .1) .1) .0 in
-        let nine : _≡_ {A = ℕ} 9 0 = rw (lt-ltb (length map) (mapRoom s) short) at z in
-        omega arith
+    refuses : mapped P (with s map) w .written .number ≡ 0 → ⊥
+    refuses e = omega (arith, short, fitting P (s .patch) (s .full) map (w .block) (w .base) (w .page) e)
 
     pub not-taken-short : takesWithBy (mapped P) (with s map) (write w) ≡ false
-    unfolding frame
-    not-taken-short =
-        ap (λ (o : MappedOutcome). eqb (o .written .number) 0)
-        (mapped-frame P (s .patch) (s .full) map (w .block) (w .base) (w .page) (firstOf frame) refl refuses)
-        ∙ ne-eqb (firstOf frame) 0 refuses
+    not-taken-short = ne-eqb (mapped P (with s map) w .written .number) 0 refuses
 
     pub nothing-short : doesWithBy (mapped P) (with s map) (write w) ≡ with s map
-    unfolding frame
     nothing-short =
-        ap (λ (o : MappedOutcome). with (record { patch = o .written .patch; full = o .written .full }) (o .map))
-        (mapped-frame P (s .patch) (s .full) map (w .block) (w .base) (w .page) (firstOf frame) refl refuses)
+        let k = write-mapped-kept P (s .patch) (s .full) map (w .block) (w .base) (w .page) refuses in
+        λ i. with (record { patch = k .0 i; full = k .1 i }) (k .2 i)
 
 -- The laws of `Beside`
 

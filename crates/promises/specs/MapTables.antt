@@ -116,6 +116,11 @@ module _ (P : ℕ) (patch full map base page : List ℕ) where
 
 -- Write with a lent map
 
+-- a map that fits has the byte of every block
+pub reaches : (n b l : ℕ) → mapBytes n ≤ l → b < n → b / 4 < l
+unfolding mapBytes
+reaches n b l h k = omega arith
+
 module _ (P : ℕ) (patch full map : List ℕ) (b : ℕ) (base page : List ℕ) where
   write-refused : {k : ℕ} → MapRefuses P patch full map base page k
       → writeMappedOutcome P patch full map b base page ≡ record { written = writeRefused k patch full; map = map }
@@ -164,7 +169,7 @@ module _ (P : ℕ) (patch full map : List ℕ) (b : ℕ) (base page : List ℕ) 
           ap (λ (o : WriteOutcome). o .number) (written-as-write l) ∙ write-table P patch full b base page k .1 g
 
   -- accepted: the map fits, the write is Write's, and one pair is set
-  fitting : writeMappedOutcome P patch full map b base page .written .number ≡ 0 → MapFits patch map
+  pub fitting : writeMappedOutcome P patch full map b base page .written .number ≡ 0 → MapFits patch map
   fitting e =
       elim (decLt (length map) (mapBytes (blocks patch))) [
         | yes s ↦ absurd (unfit s (map-frame-is P patch full map base page))
@@ -185,7 +190,6 @@ module _ (P : ℕ) (patch full map : List ℕ) (b : ℕ) (base page : List ℕ) 
 
     pub accepted-sets-pair : PairSet map b (pairOf (writeOutcome P patch full b base page .kind))
         (writeMappedOutcome P patch full map b base page .map)
-    unfolding mapBytes
     accepted-sets-pair =
         let k : ℕ = writeOutcome P patch full b base page .kind in
         let a : Accepted P patch full b base page = accepted P patch full b base page write-zero in
@@ -194,9 +198,6 @@ module _ (P : ℕ) (patch full map : List ℕ) (b : ℕ) (base page : List ℕ) 
         let s : pairOf k < reservedPair = pair-of-below k in
         rw (ap (λ (o : MappedOutcome). o .map) (mapped-accepted P patch full map b base page l write-zero))
         (pair-set map b (pairOf k) r (omega arith))
-      where
-        reaches : (n b l : ℕ) → mapBytes n ≤ l → b < n → b / 4 < l
-        reaches n b l h k = omega arith
 
 -- Read by the map
 
