@@ -67,11 +67,17 @@
  *
  * In the full area the place of a block that is not FULL_REF is all zeros.
  *
- * A payload is a row of entries, each a jump and a value byte. A jump of 0 to 254 is one byte; the
- * byte 255 is followed by a jump of 16 bits, which may be any number. A position starts at -1 and
- * grows by jump + 1 with each entry. It must stay at or below 8,191, and the value replaces the
- * base's byte there. A payload is sound if it has 1 to 504 bytes and is used up by whole entries
- * that stay in the page. An entry that is cut off or leaves the page is not sound.
+ * A payload is a row of entries, each a jump and a value byte. A jump of 0 to 254 is one byte. A
+ * jump of 255 to 65,535 is the byte 255 and then the jump in 16 bits, low byte first: the long
+ * form. A position starts at -1 and grows by jump + 1 with each entry. It must stay at or below
+ * 8,191, and the value replaces the base's byte there. A payload is sound if it has 1 to 504 bytes
+ * and is used up by sound entries. An entry is not sound if it is cut off, if it leaves the
+ * page, or if it has a jump below 255 in the long form. FF FF 00 05 is sound. FF 00 00 05 is not,
+ * and is refused with 7 and its entry's offset, 0; the same change is spelled 00 05.
+ *
+ * So a list of changes has one spelling: two sound payloads that list the same positions and values
+ * are the same bytes, and comparing the bytes tells whether they do. Two that list others may still
+ * make the same page: an entry may have the value that the base has there.
  *
  * The stream of a page is what the library itself makes of it: one entry for each byte that differs
  * from the base, in rising order, and no other; jumps below 255 in one byte, others in the long
@@ -143,8 +149,9 @@
  * still, which is no refusal. See there.
  *
  * Offset. With 7, `offset` is where the first entry that is not sound starts: the place of its jump
- * code, counted from the payload's first byte. For an empty payload and for one of more than 504
- * bytes it is 0, whatever the entries are. With any other number, 0 (done) too, `offset` is 0.
+ * code (in the long form the byte 255), counted from the payload's first byte. For an empty payload
+ * and for one of more than 504 bytes it is 0, whatever the entries are. With any other number, 0
+ * (done) too, `offset` is 0.
  * Where a payload was damaged, the damage mostly lies before the offset: a wrong jump moves every
  * entry after it, and the payload breaks further on. thx_next steps through it from the beginning.
  *
@@ -280,7 +287,8 @@ thx_applied thx_apply(const uint8_t *base, size_t base_len, const uint8_t *paylo
  *   number 7, found 0   the payload is empty or has more than 504 bytes, wherever `at` is;
  *   number 0, found 0   `at` is at or past the payload's length: the end;
  *   number 7, found 0   `position` is not from -1 to 8,191;
- *   number 7, found 0   the entry at `at` is cut off or leaves the page;
+ *   number 7, found 0   the entry at `at` is not sound: it is cut off, leaves the page, or has a
+ *                       jump below 255 in the long form;
  *   number 0, found 1   an entry: `position` and `value` are its own, the next one starts at `at`.
  * Without an entry (found 0) `at` and `position` are given back as they were given, and `value` is
  * 0: the reader stands where it stood. Asked again it answers the same.

@@ -2,7 +2,7 @@
  * What the files here share. They are compiled as C11 and as C++11, so they keep to what both have.
  *
  * Most calls are made on one scene, a sound store of three blocks with pages and a map (calls.c).
- * An ask is a call with its lengths and numbers, perhaps with a byte or two made wrong. What an ask
+ * An ask is a call with its lengths and numbers, perhaps with a few bytes made wrong. What an ask
  * without wrong bytes must give is in rules.c, written from document 01 and Request 02.
  */
 #ifndef CHECK_H
@@ -37,7 +37,7 @@ typedef struct {
     int32_t position;     /* for Next */
     uint8_t *nowhere;     /* the pointer lent for a buffer of length 0 */
     int pokes;
-    poke wrong[2];
+    poke wrong[4];
 } ask;
 
 /* The number and the other members of the struct, in their order. Show has no number: 0. */

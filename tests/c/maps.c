@@ -170,12 +170,15 @@ static void every_write(void) {
     }
 }
 
-/* What stands in a slot: EMPTY, PATCH, PATCH with an entry cut off at 2, FULL_REF, no sound slot. */
-enum { EMPTY, SOUND, BROKEN, FULL_REF, UNSOUND, SORTS };
-static const uint8_t slots[SORTS][11] = {
-    {0, 0, 0, 0, 0, 0, 0, 0, 0, 0, 0}, {1, 1, 2, 0, 0, 0, 0, 0, 0, 7, 0},
-    {1, 1, 3, 0, 0, 0, 0, 0, 0, 7, 0}, {2, 0, 0, 0, 0, 0, 0, 0, 0, 0, 0},
-    {3, 0, 0, 0, 0, 0, 0, 0, 0, 0, 0},
+/*
+ * What stands in a slot: EMPTY, PATCH, PATCH with an entry cut off at 2, PATCH with a jump below 255
+ * by the long code at 2, FULL_REF, no sound slot.
+ */
+enum { EMPTY, SOUND, BROKEN, SHORT_JUMP, FULL_REF, UNSOUND, SORTS };
+static const uint8_t slots[SORTS][14] = {
+    {0, 0, 0, 0, 0, 0, 0, 0, 0, 0, 0, 0, 0, 0}, {1, 1, 2, 0, 0, 0, 0, 0, 0, 7, 0, 0, 0, 0},
+    {1, 1, 3, 0, 0, 0, 0, 0, 0, 7, 0, 0, 0, 0}, {1, 1, 6, 0, 0, 0, 0, 0, 0, 7, 255, 254, 0, 5},
+    {2, 0, 0, 0, 0, 0, 0, 0, 0, 0, 0, 0, 0, 0}, {3, 0, 0, 0, 0, 0, 0, 0, 0, 0, 0, 0, 0, 0},
 };
 
 /* The answer by a pair; `wanted` becomes the page afterwards. The base is fives, places are nines. */
@@ -196,7 +199,7 @@ static thx_reading read_by(unsigned pair, unsigned sort, int has_place) {
         r.kind = THX_KIND_PATCH;
         memset(wanted, 5, sizeof wanted);
         wanted[0] = 7;
-    } else if (sort == BROKEN) {
+    } else if (sort == BROKEN || sort == SHORT_JUMP) {
         r.number = THX_BAD_PAYLOAD;
         r.offset = 2;
     } else {

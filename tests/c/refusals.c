@@ -6,14 +6,14 @@
 
 #include <string.h>
 
-enum { LENGTH, BYTE, COUNT, BLOCK, PLACE, POSITION };
+enum { LENGTH, BYTE, COUNT, BLOCK, PLACE, POSITION, SHORT_JUMP };
 
 typedef struct {
     unsigned calls;
     uint32_t number, paper;
-    int sort;       /* what is wrong: a length, a byte, n, the block, or a reader's start */
-    int role;       /* the buffer, for a length and a byte */
-    size_t at;      /* the length, the place of the byte, n, a reader's place or position */
+    int sort;       /* what is wrong: a length, a byte, n, the block, a reader's start or an entry */
+    int role;       /* the buffer, for a length, a byte and an entry */
+    size_t at;      /* the length, the place of the byte or entry, n, a reader's place or position */
     uint8_t value;  /* the byte */
     uint64_t block; /* the block asked for or, with Build, at fault */
     int64_t offset; /* where the payload breaks */
@@ -78,8 +78,10 @@ static const row rows[] = {
     {BIT(WRITE) | BIT(WRITE_MAPPED), THX_NO_FULL_PAGE, 8, LENGTH, FULL, 20480, 0, 2, 0},
     {BIT(APPLY), THX_BAD_PAYLOAD, 7, LENGTH, PAYLOAD, 505, 0, 0, 0},
     {BIT(APPLY), THX_BAD_PAYLOAD, 7, BYTE, PAYLOAD, 0, 255, 0, 0}, /* ends inside its entry */
+    {BIT(APPLY), THX_BAD_PAYLOAD, 7, SHORT_JUMP, PAYLOAD, 0, 0, 0, 0},
     {BIT(APPLY), THX_BAD_PAYLOAD, 7, LENGTH, PAYLOAD, 3, 0, 0, 2}, /* ends inside the next entry */
     {READS | BIT(BUILD), THX_BAD_PAYLOAD, 7, BYTE, PATCH, 520, 255, 0, 0},
+    {READS | BIT(BUILD), THX_BAD_PAYLOAD, 7, SHORT_JUMP, PATCH, 520, 0, 0, 0},
     {READS | BIT(BUILD), THX_BAD_PAYLOAD, 7, BYTE, PATCH, 514, 3, 0, 2}, /* payload length 3 */
     {BIT(BUILD), THX_STRAY_PAGE, 10, BYTE, FULL, 4096, 1, 0, 0},
     {BIT(BUILD), THX_STRAY_PAGE, 10, BYTE, FULL, 28671, 1, 2, 0},
@@ -95,8 +97,26 @@ static const row rows[] = {
     {BIT(NEXT), THX_BAD_PAYLOAD, 7, POSITION, 0, INT32_MAX, 0, ANY, 0},
     {BIT(NEXT), THX_BAD_PAYLOAD, 7, POSITION, 0, 8191, 0, ANY, 0},  /* the entry leaves the page */
     {BIT(NEXT), THX_BAD_PAYLOAD, 7, BYTE, PAYLOAD, 0, 255, ANY, 0}, /* ends inside its entry */
+    {BIT(NEXT), THX_BAD_PAYLOAD, 7, SHORT_JUMP, PAYLOAD, 0, 0, ANY, 0},
 };
 #define ROWS (sizeof rows / sizeof rows[0])
+
+static void set_byte(ask *a, int role, size_t at, uint8_t value) {
+    a->wrong[a->pokes].role = role;
+    a->wrong[a->pokes].at = at;
+    a->wrong[a->pokes].value = value;
+    a->pokes++;
+}
+
+/* The payload 00 07 becomes FF 07 00 and a value, four bytes: jump 7 by the long code. */
+static void short_jump(ask *a, const row *r) {
+    set_byte(a, r->role, r->at, 255);
+    if (r->role == PATCH) {
+        set_byte(a, PATCH, 514, 4);
+    } else {
+        a->length[PAYLOAD] = 4;
+    }
+}
 
 static void spoil(ask *a, const row *r) {
     if (r->block != ANY) {
@@ -111,10 +131,9 @@ static void spoil(ask *a, const row *r) {
     } else if (r->sort == POSITION) {
         a->position = (int32_t)r->at;
     } else if (r->sort == BYTE) {
-        a->wrong[a->pokes].role = r->role;
-        a->wrong[a->pokes].at = r->at;
-        a->wrong[a->pokes].value = r->value;
-        a->pokes++;
+        set_byte(a, r->role, r->at, r->value);
+    } else if (r->sort == SHORT_JUMP) {
+        short_jump(a, r);
     }
 }
 

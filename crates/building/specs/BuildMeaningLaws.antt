@@ -25,7 +25,8 @@ use Rattle.slots.specs.Meaning.{empty-numbers, full-numbers, patch-numbers, pay
 use Rattle.payload.specs.Entries.{start, sound, breaksAt, offsetWith}
 use Rattle.payload.specs.EntryLaws.{offset-other}
 use Rattle.payload.specs.Breaking.{breaks-iff}
-use Rattle.payload.specs.Spelling.{Spelled, Bytes, bytes-part, spelled-sound, sound-spelled}
+use Rattle.payload.specs.Spelling.{Spelled, Bytes, bytes-part}
+use Rattle.payload.specs.Soundness.{spelled-sound, sound-spelled}
 use Rattle.blockmap.specs.Pairs.{mapBytes, pairAt, patchPair, fullPair, badPairs}
 use Rattle.blockmap.specs.Pack.{pairOf}
 use Rattle.blockmap.specs.Meaning.{blocksWith, pairs-count, JustThose, HasPair, blocks-with}

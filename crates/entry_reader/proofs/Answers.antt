@@ -16,7 +16,7 @@ use Rattle.entry_reader.specs.Turns.{roomy, stands, left, stays, turnAt,
 use Rattle.entry_reader.specs.TurnLaws.{turn-unfit, turn-outside, turn-past, turn-read, turnTold, turn-told}
 use Rattle.entry_reader.specs.declared.Found.the-variants.{Entry, End, Stopped}
 use Rattle.entry_reader.specs.declared.Turn.{Turn}
-use Rattle.entry_reader.proofs.Positions.{place-back}
+use Rattle.payload.proofs.Turns.{place-back}
 
 module _ (n : ℕ) (payload : List ℕ) (at : ℕ) (p : ℤ) (p-fits : SFits w32 p) (t : Turn) where
   abbrev z : ℤ

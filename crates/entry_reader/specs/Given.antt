@@ -9,7 +9,7 @@ use Rattle.layout.specs.Refusals.{_⇐_, orElse, firstOf, decided}
 use Rattle.layout.specs.RefusalLaws.{Exactly, exactly, no-row, row}
 use Rattle.layout.specs.Groups.{ordered}
 use Rattle.layout.specs.GroupLaws.{once}
-use Rattle.payload.specs.Entries.{Stream, done, cut, out, entry}
+use Rattle.payload.specs.Entries.{Stream, done, unsound, entry}
 use Rattle.entry_reader.specs.Turns.{roomy, left, begins, nextGroups, nextRows, turnOf, turnAt, TurnNumbers, turnNumbers, Turned}
 use Rattle.entry_reader.specs.TurnLaws.{outside, byTests, by-tests}
 use Rattle.entry_reader.specs.declared.Turn.{Turn}
@@ -27,8 +27,7 @@ module _ (at : ℕ) (position : ℤ) where
   number-by false o s = refl
   number-by true true s = refl
   number-by true false done = refl
-  number-by true false cut = refl
-  number-by true false out = refl
+  number-by true false unsound = refl
   number-by true false (entry w q v rest) = refl
 
   put-by : (fits o : Bool) (s : Stream) → turnNumbers (byTests fits o s at position) .found ≡ 0
@@ -37,8 +36,7 @@ module _ (at : ℕ) (position : ℤ) where
   put-by false o s e = record { place = refl; before = refl; none = refl }
   put-by true true s e = record { place = refl; before = refl; none = refl }
   put-by true false done e = record { place = refl; before = refl; none = refl }
-  put-by true false cut e = record { place = refl; before = refl; none = refl }
-  put-by true false out e = record { place = refl; before = refl; none = refl }
+  put-by true false unsound e = record { place = refl; before = refl; none = refl }
   put-by true false (entry w q v rest) e = absurd (omega arith)
 
 module _ (n : ℕ) (payload : List ℕ) (at : ℕ) (position : ℤ) where

@@ -11,8 +11,9 @@ use lib.IntN.{ℤ, pos, _+ℤ_}
 use Rattle.layout.specs.Sizes.{room}
 use Rattle.payload.specs.Entries.{start, sound, breaksAt}
 use Rattle.payload.specs.Listing.{Listed}
-use Rattle.payload.specs.Spelling.{Spelt, Spelled, Bytes, spelled-sound}
-use Rattle.payload.specs.Breaking.{Breaks, broken, landed, spelled-lists, breaks-lists, unsound-iff}
+use Rattle.payload.specs.Spelling.{Spelt, Spelled, Bytes, landed}
+use Rattle.payload.specs.Soundness.{spelled-sound, spelled-lists}
+use Rattle.payload.specs.Breaking.{Breaks, broken, breaks-lists, unsound-iff}
 use Rattle.entry_reader.specs.Turns.{roomy}
 use Rattle.entry_reader.specs.TurnLaws.{room-empty, room-long, room-some}
 use Rattle.entry_reader.specs.Walk.{standing, finds, given, shown, ending}

@@ -4,7 +4,6 @@ use native.Mathlib.Omega.{arith}
 use mathlib.Core.Path.{_≡_, refl, ap, _∙_}
 use mathlib.Core.Bool.{Bool, true, false, not, _&&_}
 use mathlib.Core.List.{List, [], _∷_}
-use mathlib.Core.Logic.{inl, inr}
 use lib.Dec.{ltb}
 use lib.ListN.{length, drop-of-length-le}
 use lib.IntN.{ℤ}
@@ -12,7 +11,7 @@ use borrow.Author.Tests.{lt-ltb, le-ltb, le-leb, lt-leb}
 use Rattle.layout.specs.Sizes.{room}
 use Rattle.layout.specs.Refusals.{_⇐_, orElse, firstOf, decided}
 use Rattle.layout.specs.Groups.{ordered}
-use Rattle.payload.specs.Entries.{Stream, done, cut, out, entry, code, stream}
+use Rattle.payload.specs.Entries.{Stream, done, unsound, entry, code, stream}
 use Rattle.payload.specs.Steps.{Follows}
 use Rattle.payload.specs.declared.Step.{Step}
 use Rattle.payload.specs.declared.Step.the-variants.{End as AtEnd, Broken, Entry as Next}
@@ -54,8 +53,7 @@ module _ (at : ℕ) (position : ℤ) where
   read : (s : Stream) → byTests true false s at position ≡ turnOf at position s
   unfolding firstOf orElse decided begins turnOf
   read done = refl
-  read cut = refl
-  read out = refl
+  read unsound = refl
   read (entry w q v rest) = refl
 
 module _ (n : ℕ) (payload : List ℕ) (at : ℕ) (position : ℤ) where
@@ -112,8 +110,7 @@ pub turn-told : (n : ℕ) (payload : List ℕ) (at : ℕ) (position : ℤ) (r : 
     → turnOf at position (left n payload at position) ≡ turnTold at position r
 unfolding turnOf
 turn-told n payload at position AtEnd f = ap (λ (s : Stream). turnOf at position s) f
-turn-told n payload at position Broken (inl f) = ap (λ (s : Stream). turnOf at position s) f
-turn-told n payload at position Broken (inr f) = ap (λ (s : Stream). turnOf at position s) f
+turn-told n payload at position Broken f = ap (λ (s : Stream). turnOf at position s) f
 turn-told n payload at position (Next q v next) f =
     let e : at + (next - at) ≡ next = omega (arith, f .on) in
     ap (λ (s : Stream). turnOf at position s) (f .is) ∙ (λ i. record { found = Entry q v; at = e i; position = q })

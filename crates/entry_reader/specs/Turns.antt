@@ -10,7 +10,7 @@ use Rattle.layout.specs.Sizes.{room}
 use Rattle.layout.specs.Refusals.{Row, _⇐_, firstOf, decided}
 use Rattle.layout.specs.Groups.{Grouped, ordered, _▸_}
 use Rattle.layout.specs.Groups as group
-use Rattle.payload.specs.Entries.{Stream, done, cut, out, entry, code, stream}
+use Rattle.payload.specs.Entries.{Stream, done, unsound, entry, code, stream}
 use Rattle.entry_reader.specs.declared.Found.{Found}
 use Rattle.entry_reader.specs.declared.Found.the-variants.{Entry, End, Stopped}
 use Rattle.entry_reader.specs.declared.Turn.{Turn}
@@ -29,11 +29,10 @@ stands n (negsuc (suc k)) = false
 abbrev pub left : ℕ → List ℕ → ℕ → ℤ → Stream
 left n payload at position = stream n position code (drop at payload)
 
--- it ends here, or a whole entry that stays in the page begins here
+-- it ends here, or a sound entry begins here
 unfoldable pub begins : Stream → Bool
 begins done = true
-begins cut = false
-begins out = false
+begins unsound = false
 begins (entry w q v rest) = true
 
 -- "an empty or overlong payload is 7 whatever `at` is; an `at` at or past the payload's length is its end; a `position` outside -1 to
@@ -57,8 +56,7 @@ stays found at position = record { found = found; at = at; position = position }
 -- by what is left: its first entry and the place after that, or the end
 unfoldable pub turnOf : ℕ → ℤ → Stream → Turn
 turnOf at position done = stays End at position
-turnOf at position cut = stays (Stopped at) at position
-turnOf at position out = stays (Stopped at) at position
+turnOf at position unsound = stays (Stopped at) at position
 turnOf at position (entry w q v rest) = record { found = Entry q v; at = at + w; position = q }
 
 unfoldable pub turnAt : ℕ → List ℕ → ℕ → ℤ → Turn

@@ -7,7 +7,7 @@ use mathlib.Core.List.{List, [], _∷_, _++_, append-nil}
 use lib.ListN.{length, take, drop, getD, drop-of-length-le}
 use lib.Seq.{drop-cons}
 use lib.IntN.{ℤ, pos, negsuc}
-use Rattle.payload.specs.Entries.{Stream, done, cut, out, entry, inPage, start, payloadStream, whole, used, sound, breaksAt}
+use Rattle.payload.specs.Entries.{Stream, done, unsound, entry, inPage, start, payloadStream, whole, used, sound, breaksAt}
 use Rattle.payload.specs.Listing.{Listed, listed}
 use Rattle.entry_reader.specs.Turns.{roomy, stands, left, turnOf, turnAt}
 use Rattle.entry_reader.specs.TurnLaws.{turn-read}
@@ -116,8 +116,7 @@ module _ (n : ℕ) (payload : List ℕ) (fits : roomy payload ≡ true) where
       go : (s : Stream) → left n payload at position ≡ s
           → Gone n payload (suc k) (turnOf at position s .at) (turnOf at position s .position) (so ++ entryOf (turnOf at position s .found))
       go done e = no-more k at position so End g (ap (λ (s : Stream). listed s) e) refl
-      go cut e = no-more k at position so (Stopped at) g (ap (λ (s : Stream). listed s) e) refl
-      go out e = no-more k at position so (Stopped at) g (ap (λ (s : Stream). listed s) e) refl
+      go unsound e = no-more k at position so (Stopped at) g (ap (λ (s : Stream). listed s) e) refl
       go (entry w q v rest) e = one-more k at position so g w q v rest e
 
   pub gone : (k : ℕ) → Gone n payload k (standing n payload k .at) (standing n payload k .position) (given n payload k)
@@ -147,8 +146,7 @@ module _ (n : ℕ) (payload : List ℕ) (fits : roomy payload ≡ true) where
             → turnOf here (standing n payload k .position) s .found
             ≡ Entry (getD (listed (payloadStream n payload)) k d .position) (getD (listed (payloadStream n payload)) k d .value)
         go done e = let z : _≡_ {A = ℕ} 0 1 = cc in absurd (omega arith)
-        go cut e = let z : _≡_ {A = ℕ} 0 1 = cc in absurd (omega arith)
-        go out e = let z : _≡_ {A = ℕ} 0 1 = cc in absurd (omega arith)
+        go unsound e = let z : _≡_ {A = ℕ} 0 1 = cc in absurd (omega arith)
         go (entry w q v r) e =
             let f : record { position = q; value = v } ≡ getD (listed (payloadStream n payload)) k d = cc in
             ap (λ (x : Listed). Entry (x .position) (x .value)) f
@@ -182,8 +180,7 @@ module _ (n : ℕ) (payload : List ℕ) (fits : roomy payload ≡ true) where
 
         go : (s : Stream) → rest ≡ s → Last
         go done e = last-whole (ap (λ (x : Stream). whole x) e) (ap (λ (x : Stream). used x) e) (found-in done e)
-        go cut e = last-broken (ap (λ (x : Stream). whole x) e) (ap (λ (x : Stream). used x) e) (found-in cut e)
-        go out e = last-broken (ap (λ (x : Stream). whole x) e) (ap (λ (x : Stream). used x) e) (found-in out e)
+        go unsound e = last-broken (ap (λ (x : Stream). whole x) e) (ap (λ (x : Stream). used x) e) (found-in unsound e)
         go (entry w q v r) e =
             let c : record { position = q; value = v } ∷ listed r ≡ [] = sym (ap (λ (x : Stream). listed x) e) ∙ none in
             let z : _≡_ {A = ℕ} 0 1 = cc in

@@ -35,14 +35,16 @@ pub struct EntryReader<'a> {
 fn stands(position: i32, size: usize) -> bool
     ensures { λ r. ⌜ r ≡ standsIn (reach size) position ⌝ }
 {
-    if position < 0 {
-        return position == -1;
-    }
-    let at = position as usize;
-    if size <= at {
+    // The place after it, so that -1 is no case of its own: from 0 to the page's size.
+    let after = payload::entry::moved(position, 1);
+    if after < 0 {
         return false;
     }
-    at < Code::REACH
+    let next = after as usize;
+    if Code::REACH < next {
+        return false;
+    }
+    next <= size
 }
 
 // No sound entry begins here, and the reader stays.

@@ -4,7 +4,6 @@ use native.Mathlib.Omega.{arith}
 use mathlib.Core.Path.{_≡_, refl, sym, ap, _∙_, subst}
 use mathlib.Core.Bool.{Bool, true, false, _&&_, and-false, false≢true}
 use mathlib.Core.List.{List, [], _∷_}
-use mathlib.Core.Logic.{_⊎_, ⊎-elim}
 use lib.Dec.{leb, T}
 use lib.ListN.{length, drop, set, length-set}
 use lib.IntN.{ℤ, pos, negsuc, natAbs}
@@ -14,7 +13,7 @@ use mir.Val.{Fits, SFits, toZ, ofZ}
 use mir.ValLaws.{toZ-ofZ}
 use borrow.Author.Tests.{le-leb, lt-leb, ltb-true}
 use Rattle.layout.specs.Sizes.{room}
-use Rattle.payload.specs.Entries.{Stream, done, cut, out, code, inPage, stream, start, payloadStream, whole, sound}
+use Rattle.payload.specs.Entries.{Stream, done, unsound, code, inPage, stream, start, payloadStream, whole, sound}
 use Rattle.payload.specs.Entries.{entries, last, used, breaksAt, put, applied}
 use Rattle.payload.specs.Steps.{Follows, Entered}
 use Rattle.payload.specs.StepLaws.{SoundAs, UnsoundAt}
@@ -87,16 +86,11 @@ module _ (n : ℕ) (payload : List ℕ) (place : ℕ) (p : ℤ) (count : ℕ) (h
         last = sym (h .final ∙ ap (λ (s : Stream). last p s) e);
       }
 
-  pub passed-broken : length payload ≤ 504 → (stream n p code (drop place payload) ≡ cut) ⊎ (stream n p code (drop place payload) ≡ out)
-      → UnsoundAt n payload place
+  pub passed-broken : length payload ≤ 504 → stream n p code (drop place payload) ≡ unsound → UnsoundAt n payload place
   unfolding sound whole breaksAt used
   passed-broken l e =
-      let f : whole (payloadStream n payload) ≡ false =
-      h .wholly ∙ ⊎-elim (λ (x : stream n p code (drop place payload) ≡ cut). ap (λ (s : Stream). whole s) x)
-      (λ (x : stream n p code (drop place payload) ≡ out). ap (λ (s : Stream). whole s) x) e in
-      let g : used (stream n p code (drop place payload)) ≡ 0 =
-      ⊎-elim (λ (x : stream n p code (drop place payload) ≡ cut). ap (λ (s : Stream). used s) x)
-      (λ (x : stream n p code (drop place payload) ≡ out). ap (λ (s : Stream). used s) x) e in
+      let f : whole (payloadStream n payload) ≡ false = h .wholly ∙ ap (λ (s : Stream). whole s) e in
+      let g : used (stream n p code (drop place payload)) ≡ 0 = ap (λ (s : Stream). used s) e in
       let k : place ≡ used (payloadStream n payload) = omega (arith, h .far) in
       record {
         is = ap (λ (t : Bool). leb 1 (length payload) && leb (length payload) room && t) f ∙ and-false (leb 1 (length payload) && leb (length payload) room);
@@ -148,14 +142,9 @@ module _ (n : ℕ) (page₀ payload page : List ℕ) (place : ℕ) (p : ℤ) (h 
   unfolding applied
   laid-all e = sym (h .still ∙ ap (λ (s : Stream). applied page s) e)
 
-  pub laid-broken : (stream n p code (drop place payload) ≡ cut) ⊎ (stream n p code (drop place payload) ≡ out)
-      → page ≡ applied page₀ (payloadStream n payload)
+  pub laid-broken : stream n p code (drop place payload) ≡ unsound → page ≡ applied page₀ (payloadStream n payload)
   unfolding applied
-  laid-broken e =
-      sym
-      (h .still
-      ∙ ⊎-elim (λ (x : stream n p code (drop place payload) ≡ cut). ap (λ (s : Stream). applied page s) x)
-      (λ (x : stream n p code (drop place payload) ≡ out). ap (λ (s : Stream). applied page s) x) e)
+  laid-broken e = sym (h .still ∙ ap (λ (s : Stream). applied page s) e)
 
 -- an index that the code reads back from a place's bits
 pub index-fits : (n : ℕ) (q : ℤ) → n ≤ 65536 → inPage n q ≡ true → T (nonNeg (toZ w32 (ofZ w32 q))) × Fits w64 (natAbs (toZ w32 (ofZ w32 q)))

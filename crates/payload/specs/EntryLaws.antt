@@ -10,8 +10,8 @@ use lib.ListN.{length}
 use lib.IntN.{ℤ, pos, _+ℤ_}
 use borrow.Author.Tests.{eq-eqb, ne-eqb, leb-true, le-leb, lt-leb}
 use Rattle.layout.specs.Sizes.{room}
-use Rattle.payload.specs.Entries.{Stream, out, entry, Next, code, low, high, value, inPage, stream, start, payloadStream, whole}
-use Rattle.payload.specs.Entries.{sound, used, breaksAt, offsetWith, entries}
+use Rattle.payload.specs.Entries.{longFrom, Stream, unsound, entry, Next, code, low, high, value, inPage, stream, start}
+use Rattle.payload.specs.Entries.{payloadStream, whole, sound, used, breaksAt, offsetWith, entries}
 
 module _ (n : ℕ) (p : ℤ) where
   pub code-short : (b : ℕ) (bs : List ℕ) → (b ≡ 255 → ⊥) → stream n p code (b ∷ bs) ≡ stream n p (value 2 b) bs
@@ -26,21 +26,50 @@ module _ (n : ℕ) (p : ℤ) where
 
   pub value-is : (w j v : ℕ) (bs : List ℕ) (t : Bool) → inPage n (p +ℤ pos (j + 1)) ≡ t
       → stream n p (value w j) (v ∷ bs)
-      ≡ elim t as (λ _. Stream) [ true ↦ entry w (p +ℤ pos (j + 1)) v (stream n (p +ℤ pos (j + 1)) code bs) | false ↦ out ]
+      ≡ elim t as (λ _. Stream) [ true ↦ entry w (p +ℤ pos (j + 1)) v (stream n (p +ℤ pos (j + 1)) code bs) | false ↦ unsound ]
   unfolding stream
   value-is w j v bs t e = ap (λ (x : Bool). elim x as (λ _. Stream)
-      [ true ↦ entry w (p +ℤ pos (j + 1)) v (stream n (p +ℤ pos (j + 1)) code bs) | false ↦ out ]) e
+      [ true ↦ entry w (p +ℤ pos (j + 1)) v (stream n (p +ℤ pos (j + 1)) code bs) | false ↦ unsound ]) e
+
+  -- a 16-bit jump is read from 255 on, and below it is unsound
+  pub high-long : (a b : ℕ) (bs : List ℕ) → longFrom ≤ a + 256 * b
+      → stream n p (high a) (b ∷ bs) ≡ stream n p (value 4 (a + 256 * b)) bs
+  unfolding stream
+  high-long a b bs h = ap (λ (t : Bool). elim t as (λ _. Stream) [ true ↦ stream n p (value 4 (a + 256 * b)) bs | false ↦ unsound ])
+      (le-leb longFrom (a + 256 * b) h)
+
+  pub high-short : (a b : ℕ) (bs : List ℕ) → a + 256 * b < longFrom → stream n p (high a) (b ∷ bs) ≡ unsound
+  unfolding stream
+  high-short a b bs h = ap (λ (t : Bool). elim t as (λ _. Stream) [ true ↦ stream n p (value 4 (a + 256 * b)) bs | false ↦ unsound ])
+      (lt-leb longFrom (a + 256 * b) h)
+
+  -- so an entry with such a jump is unsound, whatever comes after it
+  pub below-unsound : (a b : ℕ) (bs : List ℕ) → a + 256 * b < longFrom → stream n p code (255 ∷ a ∷ b ∷ bs) ≡ unsound
+  unfolding stream
+  below-unsound a b bs h = code-long 255 (a ∷ b ∷ bs) refl ∙ high-short a b bs h
+
+  -- a 16-bit jump with fewer than three bytes after its code is cut off
+  pub low-cut : (l : List ℕ) → length l < 3 → stream n p low l ≡ unsound
+  unfolding stream
+  low-cut [] h = refl
+  low-cut (a ∷ []) h = refl
+  low-cut (a ∷ b ∷ []) h = go (leb longFrom (a + 256 * b))
+    where
+      go : (t : Bool) → elim t as (λ _. Stream) [ true ↦ unsound | false ↦ unsound ] ≡ unsound
+      go true = refl
+      go false = refl
+  low-cut (a ∷ b ∷ c ∷ l) h = absurd (omega arith)
 
   -- an entry with a one-byte jump, and one with a 16-bit jump, that land in the page
   pub short-in : (j v : ℕ) (bs : List ℕ) → (j ≡ 255 → ⊥) → inPage n (p +ℤ pos (j + 1)) ≡ true
       → stream n p code (j ∷ v ∷ bs) ≡ entry 2 (p +ℤ pos (j + 1)) v (stream n (p +ℤ pos (j + 1)) code bs)
   short-in j v bs d e = code-short j (v ∷ bs) d ∙ value-is 2 j v bs true e
 
-  pub long-in : (a b v j : ℕ) (bs : List ℕ) → a + 256 * b ≡ j → inPage n (p +ℤ pos (j + 1)) ≡ true
+  pub long-in : (a b v j : ℕ) (bs : List ℕ) → a + 256 * b ≡ j → longFrom ≤ j → inPage n (p +ℤ pos (j + 1)) ≡ true
       → stream n p code (255 ∷ a ∷ b ∷ v ∷ bs) ≡ entry 4 (p +ℤ pos (j + 1)) v (stream n (p +ℤ pos (j + 1)) code bs)
   unfolding stream
-  long-in a b v j bs f e = code-long 255 (a ∷ b ∷ v ∷ bs) refl ∙ ap (λ (k : ℕ). stream n p (value 4 k) (v ∷ bs)) f
-      ∙ value-is 4 j v bs true e
+  long-in a b v j bs f h e = code-long 255 (a ∷ b ∷ v ∷ bs) refl ∙ high-long a b (v ∷ bs) (omega arith)
+      ∙ ap (λ (k : ℕ). stream n p (value 4 k) (v ∷ bs)) f ∙ value-is 4 j v bs true e
 
 -- Every entry takes at least two bytes.
 
@@ -63,13 +92,18 @@ entries-few n (b ∷ bs) p code = go (eqb b 255) (entries-few n bs p low) (entri
     go true h k = omega arith
     go false h k = omega arith
 entries-few n (b ∷ bs) p low = omega (arith, entries-few n bs p (high b))
-entries-few n (b ∷ bs) p (high a) = omega (arith, entries-few n bs p (value 4 (a + 256 * b)))
+entries-few n (b ∷ bs) p (high a) = go (leb 255 (a + 256 * b)) (entries-few n bs p (value 4 (a + 256 * b)))
+  where
+    go : (t : Bool) → 2 * entries (stream n p (value 4 (a + 256 * b)) bs) ≤ length bs + 1
+        → 2 * entries (elim t as (λ _. Stream) [ true ↦ stream n p (value 4 (a + 256 * b)) bs | false ↦ unsound ]) ≤ length (b ∷ bs) + 1
+    go true h = omega arith
+    go false h = omega arith
 entries-few n (b ∷ bs) p (value w j) = go (inPage n (p +ℤ pos (j + 1))) (entries-few n bs (p +ℤ pos (j + 1)) code)
   where
     go : (t : Bool) → 2 * entries (stream n (p +ℤ pos (j + 1)) code bs) ≤ length bs + 0
         → 2 * entries (elim t as (λ _. Stream) [
           | true ↦ entry w (p +ℤ pos (j + 1)) b (stream n (p +ℤ pos (j + 1)) code bs)
-          | false ↦ out
+          | false ↦ unsound
         ]) ≤ length (b ∷ bs) + 1
     go true h = omega arith
     go false h = omega arith
@@ -137,13 +171,18 @@ used-few n (b ∷ bs) p code = go (eqb b 255) (used-few n bs p low) (used-few n 
     go true h k = omega arith
     go false h k = omega arith
 used-few n (b ∷ bs) p low = omega (arith, used-few n bs p (high b))
-used-few n (b ∷ bs) p (high a) = omega (arith, used-few n bs p (value 4 (a + 256 * b)))
+used-few n (b ∷ bs) p (high a) = go (leb 255 (a + 256 * b)) (used-few n bs p (value 4 (a + 256 * b)))
+  where
+    go : (t : Bool) → used (stream n p (value 4 (a + 256 * b)) bs) ≤ length bs + 3
+        → used (elim t as (λ _. Stream) [ true ↦ stream n p (value 4 (a + 256 * b)) bs | false ↦ unsound ]) ≤ length (b ∷ bs) + 2
+    go true h = omega arith
+    go false h = omega arith
 used-few n (b ∷ bs) p (value w j) = go (inPage n (p +ℤ pos (j + 1))) (used-few n bs (p +ℤ pos (j + 1)) code)
   where
     go : (t : Bool) → used (stream n (p +ℤ pos (j + 1)) code bs) ≤ length bs + 0
         → used (elim t as (λ _. Stream) [
           | true ↦ entry w (p +ℤ pos (j + 1)) b (stream n (p +ℤ pos (j + 1)) code bs)
-          | false ↦ out
+          | false ↦ unsound
         ]) ≤ length (b ∷ bs) + (w - 1)
     go true h = omega arith
     go false h = omega arith

@@ -3,6 +3,12 @@ pub mod EntryLaws
 pub mod RestLaws
 pub mod Listing
 pub mod Spelling
+pub mod SpellingLaws
+pub mod Fronts
+pub mod Soundness
 pub mod Breaking
+pub mod OneSpelling
+pub mod LongJumps
+pub mod Wrong
 pub mod Steps
 pub mod StepLaws

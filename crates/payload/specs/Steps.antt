@@ -3,10 +3,9 @@ use Prim.Native.Nat.{ℕ, _-_, _<_, _≤_, min}
 use mathlib.Core.Path.{_≡_}
 use mathlib.Core.Bool.{Bool, true, false, cond}
 use mathlib.Core.List.{List}
-use mathlib.Core.Logic.{_⊎_}
 use lib.ListN.{length, drop}
 use lib.IntN.{ℤ, pos}
-use Rattle.payload.specs.Entries.{Stream, done, cut, out, entry, code, inPage, stream, start, payloadStream, sound, breaksAt}
+use Rattle.payload.specs.Entries.{Stream, done, unsound, entry, code, inPage, stream, start, payloadStream, sound, breaksAt}
 use Rattle.payload.specs.Entries.{entries as entriesOf, last as lastOf}
 use Rattle.payload.specs.declared.Step.{Step}
 use Rattle.payload.specs.declared.Step.the-variants.{End, Broken, Entry}
@@ -32,7 +31,7 @@ pub record Entered (n : ℕ) (payload : List ℕ) (place : ℕ) (s : Stream) (q 
 -- how the stream s, which stands at `place` of the payload, begins
 abbrev pub Follows : ℕ → List ℕ → ℕ → Stream → Step → Type 0
 Follows n payload place s End = s ≡ done
-Follows n payload place s Broken = (s ≡ cut) ⊎ (s ≡ out)
+Follows n payload place s Broken = s ≡ unsound
 Follows n payload place s (Entry q v next) = Entered n payload place s q v next
 
 abbrev pub landing : Bool → ℤ → ℕ → ℕ → Step

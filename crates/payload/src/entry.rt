@@ -9,7 +9,7 @@ ghost use Rattle.payload.specs.Entries.{stream, code as nextCode, inPage
 ghost use Rattle.payload.specs.Steps.{farthest, reach, landing, Follows};
 
 // A position and a distance, in a width that holds every sum of the two.
-fn moved(position: i32, by: u32) -> i64
+pub fn moved(position: i32, by: u32) -> i64
     ensures { λ r. ⌜ r ≡ position +ℤ pos by ⌝ }
 {
     (position as i64) + (by as i64)
@@ -25,10 +25,11 @@ fn landed(position: i32, jump: u32, value: u8, next: usize, size: usize) -> Step
         return Step::Broken;
     }
     let at = to as usize;
-    if size <= at {
+    // The fixed bound before the page size: in this order the compiler makes one test of all three.
+    if Code::REACH <= at {
         return Step::Broken;
     }
-    if Code::REACH <= at {
+    if size <= at {
         return Step::Broken;
     }
     Step::Entry {
@@ -65,6 +66,9 @@ pub fn step(payload: &[u8], place: usize, position: i32, size: usize) -> Step
         return Step::Broken;
     }
     let jump = (payload[place + 1] as u32) + 256 * (payload[place + 2] as u32);
+    if jump < Code::LONG_FROM {
+        return Step::Broken;
+    }
     let value = payload[place + 3];
     landed(position, jump, value, place + Code::LONG_WIDTH, size)
 }

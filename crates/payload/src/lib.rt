@@ -4,11 +4,10 @@ pub mod entry;
 use layout::Layout;
 ghost use mathlib.Core.Path.{_≡_};
 ghost use lib.ListN.{length};
-ghost use Rattle.payload.specs.Entries.{longCode, shortEntry, longEntry, payloadStream, applied};
+ghost use Rattle.payload.specs.Entries.{longCode, longFrom, shortEntry, longEntry, payloadStream, applied};
 ghost use Rattle.payload.specs.Steps.{farthest, reach, checkedNumbers, checkNumbers};
 
-// What stands next in a payload: nothing more, no whole entry that stays in the page, or an entry's place and value, and where the
-// payload goes on after it.
+// What stands next in a payload: nothing more, an unsound entry, or an entry's place and value, and where the payload goes on after it.
 pub enum Step {
     End,
     Broken,
@@ -30,8 +29,10 @@ pub enum Checked {
 pub struct Code;
 
 impl Code {
-    // The first byte of an entry with a 16-bit jump, and how many bytes an entry takes.
+    // The first byte of an entry with a 16-bit jump, the least jump that it is for, and how many bytes an entry takes.
     pub const LONG: u8 = 255;
+
+    pub const LONG_FROM: u32 = 255;
 
     pub const SHORT_WIDTH: usize = 2;
 
@@ -42,6 +43,7 @@ impl Code {
     // The code's numbers are the definitions'.
     pub fn agrees()
         ensures long { λ _. do ⌜ (← ⟦Code::LONG⟧ .entry) ≡ longCode ⌝ }
+        ensures long_from { λ _. do ⌜ (← ⟦Code::LONG_FROM⟧ .entry) ≡ longFrom ⌝ }
         ensures short_width { λ _. do ⌜ (← ⟦Code::SHORT_WIDTH⟧ .entry) ≡ shortEntry ⌝ }
         ensures long_width { λ _. do ⌜ (← ⟦Code::LONG_WIDTH⟧ .entry) ≡ longEntry ⌝ }
         ensures reach { λ _. do ⌜ (← ⟦Code::REACH⟧ .entry) ≡ farthest ⌝ }

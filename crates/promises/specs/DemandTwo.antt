@@ -2,23 +2,27 @@
 -- patch if the stream takes at most 504 bytes, a full page otherwise, and refuses for room only if the full area has no place for that
 -- block. Reading back over the same base gives the written page; every sound slot from elsewhere reads as the layout says, unless its
 -- payload is unsound or its full page missing." With an unsound payload comes "the payload offset at which the first unsound entry
--- starts".
+-- starts". "A 16-bit jump below 255 makes the payload unsound ... two sound payloads that list the same positions and values are the same
+-- bytes."
 --
 -- `writeOutcome`, `readOutcome` and `Show` are what the contracts of Write, Read and Show cite; the other words are in `Words`. Any lists
 -- are areas, bases and pages here, and any number is a block.
-use Prim.Native.Nat.{ℕ, _+_, _≤_, _<_}
+use Prim.Native.Nat.{ℕ, _+_, _*_, _≤_, _<_}
 use mathlib.Core.Path.{_≡_}
 use mathlib.Core.Bool.{true, false}
 use mathlib.Core.Logic.{_↔_, _⊎_}
-use mathlib.Core.List.{List, []}
+use mathlib.Core.List.{List, [], _∷_, _++_}
 use lib.Dec.{lit≤}
 use lib.ListN.{length}
 use Rattle.span.specs.Bytes.{zeros}
 use Rattle.layout.specs.Sizes.{pageSize, slotAt, payloadAt}
-use Rattle.slots.specs.Slots.{emptySlot, fullSlot}
+use Rattle.slots.specs.Slots.{emptySlot, patchSlot, fullSlot}
 use Rattle.payload.specs.Entries.{start, payloadStream, sound, breaksAt, applied}
 use Rattle.stream.specs.Calls.{pageOf}
-use Rattle.payload.specs.Spelling.{Spelled, Bytes}
+use Rattle.payload.specs.Listing.{listed}
+use Rattle.payload.specs.Spelling.{Spelt, Spelled, joined, Coded, Stays, Bytes}
+use Rattle.payload.specs.OneSpelling as spelling
+use Rattle.stream.specs.OwnStream.{Changes}
 use Rattle.payload.specs.Breaking.{Breaks}
 use Rattle.writer.specs.Writer.{placed}
 use Rattle.writer.specs.ReadBack.{pokes}
@@ -36,6 +40,7 @@ use Rattle.promises.specs.Tables.{write-table, read-table}
 use Rattle.promises.specs.StoreLaws.{write-stored}
 use Rattle.promises.specs.ReadLaws.{reads-empty, reads-patch, reads-unsound, reads-spelled, reads-unspelled, reads-full}
 use Rattle.promises.specs.ReadLaws.{reads-missing, reads-sound, zero-bases}
+use Rattle.promises.specs.SpellingLaws.{slots-one, reads-below, own-slot, writes-same}
 use Rattle.promises.specs.WriteLaws.{write-length, kind-empty, kind-patch, kind-full, no-room, reads-back, others-read}
 use Rattle.promises.specs.MapTables.{write-mapped-table, written-as-write, accepted-is-write, kept-pair, reads-back-by-map}
 use Rattle.promises.specs.MapTables.{others-by-map}
@@ -115,6 +120,26 @@ module _ (patch full : List ℕ) (b : ℕ) (base page : List ℕ) where
         → (read ≡ readRefused 7 at page) ↔ ((Spelled pageSize start payload → ⊥) × Breaks pageSize payload at)
     patch-slot-unspelled = reads-unspelled pageSize patch full b base page fits below
 
+    -- "A 16-bit jump below 255 makes the payload unsound": after sound entries and before any bytes, with the offset of its entry
+    pub patch-slot-below : (es : List Spelt) (lo hi : ℕ) (rest : List ℕ) → Coded es → Stays pageSize start es → lo + 256 * hi < 255
+        → PatchOf (slotOf patch b) (joined es ++ (255 ∷ lo ∷ hi ∷ rest)) → read ≡ readRefused 7 (length (joined es)) page
+    patch-slot-below = reads-below pageSize patch full b base page fits below
+
+    -- a slot of which every entry changes its byte is determined by the base and the page that it gives, wherever it came from: it is the
+    -- one that Write stores for that page, so writing what was read leaves the patch area as it is
+    module _ (bytes : Bytes patch) (payload : List ℕ) (p : PatchOf (slotOf patch b) payload) (is-sound : sound pageSize payload ≡ true)
+        (changes : Changes (pageOf pageSize base) (listed (payloadStream pageSize payload))) where
+      abbrev pub given : List ℕ
+      given = applied (pageOf pageSize base) (payloadStream pageSize payload)
+
+      pub patch-slot-own : slotOf patch b ≡ patchSlot (streamOf pageSize base given)
+      patch-slot-own = own-slot pageSize patch full b base page fits below bytes payload p is-sound changes
+
+      pub write-leaves : (writeOutcome pageSize patch full b base given .number ≡ 0)
+          × (writeOutcome pageSize patch full b base given .kind ≡ 1)
+          × (writeOutcome pageSize patch full b base given .patch ≡ patch)
+      write-leaves = writes-same pageSize patch full b base page fits below bytes payload p is-sound changes
+
     pub full-slot : slotOf patch b ≡ fullSlot → b < places pageSize full
         → read ≡ readDone 2 (placeOf pageSize full b)
     full-slot = reads-full pageSize patch full b base page fits below
@@ -125,6 +150,15 @@ module _ (patch full : List ℕ) (b : ℕ) (base page : List ℕ) where
     -- "unless its payload is unsound or its full page missing": no other number is given for a sound slot
     pub sound-slot : SoundSlot (slotOf patch b) → (read .number ≡ 0) ⊎ (read .number ≡ 7) ⊎ (read .number ≡ 8)
     sound-slot = reads-sound pageSize patch full b base page fits below
+
+-- "Two sound payloads that list the same positions and values are the same bytes", and so are the slots that hold them
+pub one-spelling : (a c : List ℕ) → Bytes a → Bytes c → sound pageSize a ≡ true → sound pageSize c ≡ true
+    → listed (payloadStream pageSize a) ≡ listed (payloadStream pageSize c) → a ≡ c
+one-spelling = spelling.one-spelling pageSize
+
+pub one-slot : (s t a c : List ℕ) → Bytes s → Bytes t → PatchOf s a → PatchOf t c → sound pageSize a ≡ true → sound pageSize c ≡ true
+    → listed (payloadStream pageSize a) ≡ listed (payloadStream pageSize c) → s ≡ t
+one-slot = slots-one pageSize
 
 -- Show hands out the payload of a sound PATCH, and otherwise an empty part
 module _ (patch : List ℕ) (b : ℕ) (lent handed : ℕ × ℕ) (shown : List ℕ) (call : Show pageSize patch b lent shown handed) where

@@ -11,6 +11,7 @@ pub mod Tables
 pub mod StoreLaws
 pub mod ReadLaws
 pub mod WriteLaws
+pub mod SpellingLaws
 pub mod Kept
 pub mod MapTables
 pub mod ShowLaws

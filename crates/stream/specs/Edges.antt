@@ -86,8 +86,8 @@ pub record Edges : Type 0 where
   pub P10 : Refuses [] 0
   -- equal pages: same, length 0, last −1, whatever they hold
   pub P11 : (base page : List ℕ) → pagesFit pageSize base page ≡ true → page ≡ pageOf pageSize base → FindsNone base page
-  -- applying `FF 00 00 05`: byte 0 becomes 05
-  pub P12 : Gives (255 ∷ 0 ∷ 0 ∷ 5 ∷ []) 1 (pos 0) (one 0 5)
+  -- applying `FF 00 00 05`, a 16-bit jump below 255: 7, at offset 0
+  pub P12 : Refuses (255 ∷ 0 ∷ 0 ∷ 5 ∷ []) 0
 
 -- Each row computes, but for the base's form and the buffer or the page that is lent.
 
@@ -190,7 +190,7 @@ edges = record {
   P9 = refuses (0 ∷ []) 0 refl refl;
   P10 = refuses [] 0 refl refl;
   P11 = finds-none;
-  P12 = gives (255 ∷ 0 ∷ 0 ∷ 5 ∷ []) (one 0 5) 1 (pos 0) refl refl refl refl;
+  P12 = refuses (255 ∷ 0 ∷ 0 ∷ 5 ∷ []) 0 refl refl;
 }
 
 -- a payload cut short after a whole entry: 7, at the offset of the entry that is cut

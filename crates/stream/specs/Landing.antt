@@ -1,27 +1,26 @@
 -- What a payload does, the writer's or not: where entries spell it and stay in the page, Apply counts those entries, the last of them
 -- gives the last position, and each value lands at its entry's place. What is said of the entries shares nothing with the reader's
 -- definition.
-use Prim.Native.Nat.{ℕ, suc, _+_, _/_, _%_, _≤_}
+use Prim.Native.Nat.{ℕ, suc, _+_, _≤_}
 use native.Mathlib.Omega.{arith}
 use mathlib.Core.Path.{_≡_, refl, sym, ap, _∙_, subst}
 use mathlib.Core.Bool.{Bool, true, false, cond}
-use mathlib.Core.List.{List, [], _∷_, _++_}
+use mathlib.Core.List.{List, [], _∷_}
 use mathlib.Core.Logic.{_↔_, _⊎_, inl, inr}
 use lib.ListN.{length, set, getD, length-set}
 use lib.Seq.{getD-set-same, getD-set-other}
 use lib.IntN.{ℤ, pos, _+ℤ_}
 use Rattle.layout.specs.Sizes.{room}
-use Rattle.layout.specs.Numbers.{le}
 use Rattle.layout.specs.Refusals.{firstOf}
-use Rattle.payload.specs.Entries.{Stream, entry, code, inPage, stream, start, payloadStream, sound, breaksAt}
+use Rattle.payload.specs.Entries.{Stream, done, entry, start, payloadStream, sound, breaksAt}
 use Rattle.payload.specs.Entries.{entries, last, put, applied}
 use Rattle.writer.specs.Differences.{Change, lastPlace}
 use Rattle.stream.specs.Calls.{pageOf, pagesFit, AppliedNumbers, appliedNumbers, Apply, applyRows, applyDone, applyRefused}
 use Rattle.writer.specs.Steps.{before}
 use Rattle.stream.specs.Laws.{pages-fit, present-length, apply-number, apply-done, apply-not}
-use Rattle.payload.specs.EntryLaws.{short-in, long-in}
-use Rattle.payload.specs.Spelling.{Form, short, long, Spelt, takes, bytes, joined, Coded, Inside, Stays, Spelled, Bytes, inside-page}
-use Rattle.payload.specs.Spelling.{two-bytes, spelled-sound}
+use Rattle.payload.specs.Spelling.{Spelt, Inside, Stays, Spelled, Bytes}
+use Rattle.payload.specs.SpellingLaws.{wide, prefixed}
+use Rattle.payload.specs.Soundness.{spelled-read, spelled-sound}
 use Rattle.payload.specs.Breaking.{Unsound, unsound-iff}
 use Rattle.writer.specs.Writer.{In, Rising, Below, placed}
 use Rattle.writer.specs.LastPlace.{LastOf, last-some}
@@ -33,15 +32,15 @@ use Rattle.layout.specs.declared.Refusal.the-variants.{Payload}
 
 -- Where the entries put their values: in rising order, in the page
 
-placed-rising : (es : List Spelt) (next : ℕ) → Rising next (placed next es)
+pub placed-rising : (es : List Spelt) (next : ℕ) → Rising next (placed next es)
 placed-rising [] next = tt {0}
 placed-rising (e ∷ es) next = (omega arith, placed-rising es (next + e .jump + 1))
 
 -- a jump from before `next` leads to next + jump, and before the place after that
-lands-at : (next : ℕ) (j : ℕ) → before next +ℤ pos (j + 1) ≡ before (next + j + 1)
+pub lands-at : (next : ℕ) (j : ℕ) → before next +ℤ pos (j + 1) ≡ before (next + j + 1)
 lands-at next j = moved next j ∙ sym (before-next (next + j))
 
-placed-below : (n : ℕ) (es : List Spelt) (next : ℕ) → Stays n (before next) es → Below n (placed next es)
+pub placed-below : (n : ℕ) (es : List Spelt) (next : ℕ) → Stays n (before next) es → Below n (placed next es)
 placed-below n [] next s = tt {0}
 placed-below n (e ∷ es) next s = (
   subst (λ (z : ℤ). Inside n z) (moved next (e .jump)) (s .0),
@@ -64,56 +63,36 @@ one-more next w e es s l = record {
   page = λ base. l .page (set base (next + e .jump) (e .value));
 }
 
-pub lands : (n : ℕ) (es : List Spelt) (next : ℕ) → Coded es → Stays n (before next) es
-    → Lands next es (stream n (before next) code (joined es))
-unfolding entries last lastPlace applied stream le
-lands n [] next c s = record { count = refl; last = λ p. refl; page = λ base. refl }
-lands n (e ∷ es) next c s =
-    go (e .form) (c .0) (lands n es (next + j + 1) (c .1) (subst (λ (z : ℤ). Stays n z es) (lands-at next j) (s .1)))
-  where
-    j : ℕ
-    j = e .jump
-
-    inp : inPage n (before next +ℤ pos (j + 1)) ≡ true
-    inp = inside-page n (before next +ℤ pos (j + 1)) (s .0)
-
-    at : (w : ℕ) → Lands (next + j + 1) es (stream n (before (next + j + 1)) code (joined es))
-        → Lands next (e ∷ es) (entry w (before next +ℤ pos (j + 1)) (e .value) (stream n (before next +ℤ pos (j + 1)) code (joined es)))
-    at w l =
-        let rest : Stream = stream n (before next +ℤ pos (j + 1)) code (joined es) in
-        let l′ : Lands (next + j + 1) es rest = subst (λ (z : ℤ). Lands (next + j + 1) es (stream n z code (joined es)))
-        (sym (lands-at next j)) l in
-        subst (λ (z : ℤ). Lands next (e ∷ es) (entry w z (e .value) rest)) (sym (moved next j)) (one-more next w e es rest l′)
-
-    go : (f : Form) → takes f j → Lands (next + j + 1) es (stream n (before (next + j + 1)) code (joined es))
-        → Lands next (e ∷ es) (stream n (before next) code (bytes f j (e .value) ++ joined es))
-    go short t l =
-        subst (λ (x : Stream). Lands next (e ∷ es) x) (sym (short-in n (before next) j (e .value) (joined es) (λ q. omega arith) inp))
-        (at 2 l)
-    go long t l =
-        subst (λ (x : Stream). Lands next (e ∷ es) x)
-        (sym (long-in n (before next) (j % 256) (j / 256 % 256) (e .value) j (joined es) (two-bytes j t) inp)) (at 4 l)
+lands : (es : List Spelt) (next : ℕ) → Lands next es (prefixed (before next) es done)
+unfolding entries last lastPlace applied
+lands [] next = record { count = refl; last = λ p. refl; page = λ base. refl }
+lands (e ∷ es) next =
+    let q : ℤ = before next +ℤ pos (e .jump + 1) in
+    let later : Lands (next + e .jump + 1) es (prefixed q es done) =
+    subst (λ (z : ℤ). Lands (next + e .jump + 1) es (prefixed z es done)) (sym (lands-at next (e .jump))) (lands es (next + e .jump + 1)) in
+    subst (λ (z : ℤ). Lands next (e ∷ es) (entry (wide (e .form)) z (e .value) (prefixed q es done))) (sym (moved next (e .jump)))
+    (one-more next (wide (e .form)) e es (prefixed q es done) later)
 
 -- the payload that they spell reads so
 pub spelled-lands : (n : ℕ) (payload : List ℕ) (w : Spelled n start payload) → Lands 0 (w .entries) (payloadStream n payload)
 spelled-lands n payload w =
-    subst (λ (l : List ℕ). Lands 0 (w .entries) (stream n start code l)) (sym (w .spells)) (lands n (w .entries) 0 (w .coded) (w .stays))
+    subst (λ (s : Stream). Lands 0 (w .entries) s) (sym (spelled-read n start payload w)) (lands (w .entries) 0)
 
 -- Byte by byte
 
-pokes-length : (cs : List Change) (base : List ℕ) → length (pokes base cs) ≡ length base
+pub pokes-length : (cs : List Change) (base : List ℕ) → length (pokes base cs) ≡ length base
 pokes-length [] base = refl
 pokes-length (c ∷ cs) base = pokes-length cs (set base (c .place) (c .value)) ∙ length-set base (c .place) (c .value)
 
 -- a place that no change names keeps its byte
-pokes-others : (cs : List Change) (base : List ℕ) (i : ℕ) → ((c : Change) → In c cs → c .place ≡ i → ⊥)
+pub pokes-others : (cs : List Change) (base : List ℕ) (i : ℕ) → ((c : Change) → In c cs → c .place ≡ i → ⊥)
     → getD (pokes base cs) i 0 ≡ getD base i 0
 pokes-others [] base i h = refl
 pokes-others (c ∷ cs) base i h =
     pokes-others cs (set base (c .place) (c .value)) i (λ d m. h d (inr m))
     ∙ getD-set-other base (c .place) i (c .value) 0 (λ e. h c (inl refl) (sym e))
 
-from-next : (cs : List Change) (next : ℕ) (c : Change) → Rising next cs → In c cs → next ≤ c .place
+pub from-next : (cs : List Change) (next : ℕ) (c : Change) → Rising next cs → In c cs → next ≤ c .place
 from-next [] next c r m = absurd m
 from-next (d ∷ cs) next c r (inl e) =
     let q : c .place ≡ d .place = ap (λ (x : Change). x .place) e in
@@ -121,7 +100,7 @@ from-next (d ∷ cs) next c r (inl e) =
 from-next (d ∷ cs) next c r (inr m) = omega (arith, r .0, from-next cs (d .place + 1) c (r .1) m)
 
 -- one that a change names has its value: no later change names it again
-pokes-named : (cs : List Change) (base : List ℕ) (next : ℕ) (c : Change) → Rising next cs → Below (length base) cs → In c cs
+pub pokes-named : (cs : List Change) (base : List ℕ) (next : ℕ) (c : Change) → Rising next cs → Below (length base) cs → In c cs
     → getD (pokes base cs) (c .place) 0 ≡ c .value
 pokes-named [] base next c r b m = absurd m
 pokes-named (d ∷ cs) base next c r b (inl e) =

@@ -4,6 +4,7 @@ pub mod Laws
 pub mod Edges
 pub mod Only
 pub mod Landing
+pub mod OwnStream
 pub mod Kinds
 pub mod Given
 pub mod Wrong

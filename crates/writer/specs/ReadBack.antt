@@ -8,7 +8,7 @@ use lib.Dec.{eqb, ltb}
 use lib.ListN.{length, set, length-append}
 use lib.Seq.{set-at}
 use lib.IntN.{ℤ, pos, _+ℤ_}
-use borrow.Author.Tests.{eqb-true, ltb-true, le-ltb, lt-ltb}
+use borrow.Author.Tests.{eqb-true, ltb-true, ltb-false, le-ltb, lt-ltb}
 use Rattle.layout.specs.Sizes.{room}
 use Rattle.layout.specs.Numbers.{le}
 use Rattle.payload.specs.Entries.{Stream, done, entry, code, inPage, stream, start, payloadStream, whole, sound, entries, last, put}
@@ -73,7 +73,8 @@ read-coded n (c ∷ cs) next h r b = go (ltb j 255) refl (read-coded n cs (c .pl
         short-in n (before next) j (c .value) (coded (c .place + 1) cs) (λ q. omega arith) inside ∙ on rest 2
     go false e rest =
         let k : j ≤ 65535 = omega (arith, b .0) in
-        long-in n (before next) (j % 256) (j / 256 % 256) (c .value) j (coded (c .place + 1) cs) (two-bytes j k) inside ∙ on rest 4
+        long-in n (before next) (j % 256) (j / 256 % 256) (c .value) j (coded (c .place + 1) cs) (two-bytes j k) (ltb-false j 255 e) inside
+        ∙ on rest 4
 
 whole-entered : (ds : List Change) (next : ℕ) → whole (entered next ds) ≡ true
 unfolding whole

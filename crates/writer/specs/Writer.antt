@@ -1,5 +1,5 @@
 -- The writer's stream, said of places: its entries stand at exactly the differing positions, in rising order, with the modified page's
--- values, each by its shortest code.
+-- values, each by its jump's own code.
 use Prim.Native.Nat.{ℕ, zero, suc, _+_, _-_, _≤_, _<_}
 use native.Mathlib.Omega.{arith}
 use mathlib.Core.Path.{_≡_, refl, sym, ap, _∙_, subst}
@@ -168,26 +168,16 @@ diffs-exact base page c = (
 
 -- How they are spelled
 
--- "it uses the one-byte code for jumps below 255 and the long code otherwise"
-pub record Shortest (e : Spelt) : Type 0 where
-  pub below : e .jump < 255 → e .form ≡ short
-  pub otherwise : 255 ≤ e .jump → e .form ≡ long
-
-abbrev pub AllShortest : List Spelt → Type 0
-AllShortest [] = Unit {0}
-AllShortest (e ∷ es) = Shortest e × AllShortest es
-
 -- where entries put their values, from `next` on
 abbrev pub placed : ℕ → List Spelt → List Change
 placed next [] = []
 placed next (e ∷ es) = record { place = next + e .jump; value = e .value } ∷ placed (next + e .jump + 1) es
 
--- the entries of a page's stream
+-- The entries of a page's stream. `coded` is "it uses the one-byte code for jumps below 255 and the long code otherwise".
 pub record Written (base page : List ℕ) : Type 0 where
   pub entries : List Spelt
   pub spells : written base page ≡ joined entries
   pub coded : Coded entries
-  pub shortest : AllShortest entries
   pub places : placed 0 entries ≡ diffs 0 base page
 
 formFor : Bool → Form
@@ -219,20 +209,9 @@ spelt-coded (c ∷ cs) next b = (go (ltb (c .place - next) 255) refl, spelt-code
     go true e =
         let h : c .place - next < 255 = ltb-true (c .place - next) 255 e in
         omega arith
-    go false e = omega (arith, b .0)
-
-spelt-shortest : (ds : List Change) (next : ℕ) → AllShortest (spelt next ds)
-unfolding spelt formFor
-spelt-shortest [] next = tt {0}
-spelt-shortest (c ∷ cs) next = (go (ltb (c .place - next) 255) refl, spelt-shortest cs (c .place + 1))
-  where
-    go : (t : Bool) → ltb (c .place - next) 255 ≡ t → Shortest (record { jump = c .place - next; value = c .value; form = formFor t })
-    go true e =
-        let h : c .place - next < 255 = ltb-true (c .place - next) 255 e in
-        record { below = λ _. refl; otherwise = λ k. absurd (omega arith) }
     go false e =
         let h : 255 ≤ c .place - next = ltb-false (c .place - next) 255 e in
-        record { below = λ k. absurd (omega arith); otherwise = λ _. refl }
+        (h, omega (arith, b .0))
 
 spelt-placed : (ds : List Change) (next : ℕ) → Rising next ds → placed next (spelt next ds) ≡ ds
 unfolding spelt
@@ -249,6 +228,5 @@ writer base page h = record {
   entries = spelt 0 (diffs 0 base page);
   spells = spelt-joined (diffs 0 base page) 0;
   coded = spelt-coded (diffs 0 base page) 0 (diffs-below 65536 0 base page (omega arith));
-  shortest = spelt-shortest (diffs 0 base page) 0;
   places = spelt-placed (diffs 0 base page) 0 (diffs-rising 0 base page);
 }

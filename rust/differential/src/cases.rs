@@ -1,6 +1,7 @@
 //! Inputs with their outcomes written by hand from the rules: P1 to P12, both sides of each edge, the
-//! order of refusals, where payloads break, the steps of a reader, what a lent map becomes and what it
-//! makes of a read, and the shortcuts that give a wrong page.
+//! order of refusals, long jumps that are long and those that are not, where payloads break, the steps
+//! of a reader, what a lent map becomes and what it makes of a read, and the shortcuts that give a wrong
+//! page.
 
 use crate::call::{
     Answer, Call, Input, Outcome, BEGINNING, FULL_HEADER, PAGE, PATCH_HEADER, PAYLOAD, SLOT,
@@ -263,16 +264,11 @@ fn more_examples(cases: &mut Vec<Case>) {
         &[0, 0, 0, 0, -1],
         &[],
     ));
-    cases.push(case(
-        "P12",
-        apply(Vec::new(), &[0xFF, 0x00, 0x00, 0x05], filler(PAGE)),
-        &[0, 1, 0],
-        &[put(2, 0, &page(&[(0, 5)]))],
-    ));
+    breaking(cases, "P12", &[0xFF, 0x00, 0x00, 0x05], 0);
 }
 
-/// A payload that is not sound, and the offset at which it breaks: applied and, if it fits a slot, read
-/// and built.
+/// A payload that is not sound, and the offset at which it breaks: applied and, if it fits a slot, read,
+/// read by a map and built.
 fn breaking(cases: &mut Vec<Case>, name: &str, payload: &[u8], offset: i128) {
     let input = apply(Vec::new(), payload, filler(PAGE));
     cases.push(case(&format!("{name} applied"), input, &[7, 0, 0, offset], &[]));
@@ -280,17 +276,81 @@ fn breaking(cases: &mut Vec<Case>, name: &str, payload: &[u8], offset: i128) {
         let area = with(patch_area(3), 1024, &patch_slot(payload));
         let input = read(area.clone(), Vec::new(), 1, Vec::new());
         cases.push(case(&format!("{name} read"), input, &[7, 0, offset], &[]));
+        let input = read_mapped([area.clone(), Vec::new()], &[0x08], 1, Vec::new());
+        cases.push(case(&format!("{name} read by a map"), input, &[7, 0, offset], &[]));
         let input = build(area, Vec::new(), filler(1));
         cases.push(case(&format!("{name} built"), input, &[7, 1, offset], &[]));
     }
 }
 
-/// The entry that is cut off or leaves the page first, wherever it stands.
+/// A sound payload and the bytes that it changes in zeros, in the same calls.
+fn landing(cases: &mut Vec<Case>, name: &str, payload: &[u8], changes: &[(usize, u8)]) {
+    let (entries, last) = (changes.len() as i128, changes[changes.len() - 1].0 as i128);
+    let modified = page(changes);
+    let input = apply(Vec::new(), payload, filler(PAGE));
+    cases.push(case(
+        &format!("{name} applied"),
+        input,
+        &[0, entries, last],
+        &[put(2, 0, &modified)],
+    ));
+    let area = with(patch_area(3), 1024, &patch_slot(payload));
+    let input = read(area.clone(), Vec::new(), 1, Vec::new());
+    cases.push(case(&format!("{name} read"), input, &[0, 1], &[put(3, 0, &modified)]));
+    let input = read_mapped([area.clone(), Vec::new()], &[0x08], 1, Vec::new());
+    cases.push(case(&format!("{name} read by a map"), input, &[0, 1], &[put(4, 0, &modified)]));
+    let input = build(area, Vec::new(), filler(1));
+    cases.push(case(&format!("{name} built"), input, &[0, 0], &[put(2, 0, &[0x08])]));
+}
+
+/// The long code is for jumps of 255 and more: both sides of that edge, in each entry.
+fn long_jumps(cases: &mut Vec<Case>) {
+    let short: [(&str, &[u8], i128); 12] = [
+        ("a long jump of 1", &[0xFF, 0x01, 0x00, 0x05], 0),
+        ("a long jump of 127", &[0xFF, 0x7F, 0x00, 0x05], 0),
+        ("a long jump of 128", &[0xFF, 0x80, 0x00, 0x05], 0),
+        ("a long jump of 253", &[0xFF, 0xFD, 0x00, 0x05], 0),
+        ("a long jump of 254", &[0xFF, 0xFE, 0x00, 0x05], 0),
+        ("a long jump of 0 after an entry", &[0x00, 0x01, 0xFF, 0x00, 0x00, 0x05], 2),
+        ("a long jump of 254 after an entry", &[0x00, 0x01, 0xFF, 0xFE, 0x00, 0x05], 2),
+        ("254 after 255", &[0xFF, 0xFF, 0x00, 0x01, 0xFF, 0xFE, 0x00, 0x05], 4),
+        ("254 in a third entry", &[0, 1, 0xFF, 0xFF, 0x00, 0x01, 0xFF, 0xFE, 0x00, 0x05], 6),
+        ("a long jump of 0 past the page", &[0xFF, 0xFF, 0x1F, 0x01, 0xFF, 0x00, 0x00, 0x05], 4),
+        ("a long jump of 0, then cut off", &[0x00, 0x01, 0xFF, 0x00, 0x00, 0x05, 0x00], 2),
+        ("a long jump of 0, then past the page", &[0xFF, 0, 0, 5, 0xFF, 0x00, 0x20, 0x01], 0),
+    ];
+    for (name, payload, offset) in short {
+        breaking(cases, name, payload, offset);
+    }
+    let last = |jump: u8| with(vec![0; PAYLOAD], 500, &[0xFF, jump, 0x00, 0x05]);
+    breaking(cases, "254 in the last entry that fits", &last(0xFE), 500);
+    breaking(cases, "505 bytes with 254", &with(vec![0; 505], 2, &[0xFF, 0xFE]), 0);
+
+    landing(cases, "a long jump of 255", &[0xFF, 0xFF, 0x00, 0x05], &[(255, 5)]);
+    // Its low byte alone is 0.
+    landing(cases, "a long jump of 256", &[0xFF, 0x00, 0x01, 0x05], &[(256, 5)]);
+    landing(cases, "a long jump of 510", &[0xFF, 0xFE, 0x01, 0x05], &[(510, 5)]);
+    landing(cases, "a long jump of 511", &[0xFF, 0xFF, 0x01, 0x05], &[(511, 5)]);
+    let after_one = [0x00, 0x01, 0xFF, 0x00, 0x01, 0x05];
+    landing(cases, "256 after an entry", &after_one, &[(0, 1), (257, 5)]);
+    let twice = [0xFF, 0xFF, 0x00, 0x01, 0xFF, 0xFF, 0x00, 0x02];
+    landing(cases, "255 twice", &twice, &[(255, 1), (511, 2)]);
+    let both_codes = [0xFE, 0x01, 0xFF, 0xFF, 0x00, 0x02];
+    landing(cases, "a short 254, then 255", &both_codes, &[(254, 1), (510, 2)]);
+    // 250 entries on zeros that stay zeros, then 255 further.
+    let name = "255 in the last entry that fits";
+    let puts = [put(2, 0, &page(&[(505, 5)]))];
+    cases.push(case(name, apply(vec![], &last(0xFF), filler(PAGE)), &[0, 251, 505], &puts));
+}
+
+/// The entry that is cut off or leaves the page first, wherever it stands. Long jumps that are not long
+/// have cases of their own.
 fn breaks(cases: &mut Vec<Case>) {
-    let short: [(&str, &[u8], i128); 13] = [
+    let short: [(&str, &[u8], i128); 14] = [
         ("FF alone", &[0xFF], 0),
         ("a long code without its high byte", &[0xFF, 0x00], 0),
         ("a long code without a value", &[0xFF, 0x00, 0x00], 0),
+        ("a long code of 255 without a value", &[0xFF, 0xFF, 0x00], 0),
         ("a second jump without a value", &[0x00, 0x07, 0x00], 2),
         ("a second FF alone", &[0x00, 0x07, 0xFF], 2),
         ("a second long code without a value", &[0x00, 0x01, 0xFF, 0xFF, 0x00], 2),
@@ -343,7 +403,16 @@ fn steps(cases: &mut Vec<Case>) {
     from("P7", &[0xFF, 0x00, 0x20, 0x01], BEGINNING, [7, 0, 0, -1, 0]);
     from("P9", &[0x00], BEGINNING, [7, 0, 0, -1, 0]);
     from("P10", &[], BEGINNING, [7, 0, 0, -1, 0]);
-    from("P12", &[0xFF, 0x00, 0x00, 0x05], BEGINNING, [0, 1, 4, 0, 5]);
+    from("P12", &[0xFF, 0x00, 0x00, 0x05], BEGINNING, [7, 0, 0, -1, 0]);
+    // 254 by the long code at 1 and 255 at 5. At 1 the first entry's value stands for the code byte.
+    let long: &[u8] = &[0x00, 0xFF, 0xFE, 0x00, 0x00, 0xFF, 0xFF, 0x00, 0x09];
+    from("254 by the long code", long, (1, 0), [7, 0, 1, 0, 0]);
+    from("254 by the long code", long, (1, 8191), [7, 0, 1, 8191, 0]);
+    from("255 by the long code", long, (5, 0), [0, 1, 9, 256, 9]);
+    from("255 by the long code", long, (5, 7935), [0, 1, 9, 8191, 9]);
+    from("255 by the long code", long, (5, 7936), [7, 0, 5, 7936, 0]);
+    from("256 by the long code", &[0xFF, 0x00, 0x01, 0x05], BEGINNING, [0, 1, 4, 256, 5]);
+    from("510 by the long code", &[0xFF, 0xFE, 0x01, 0x05], BEGINNING, [0, 1, 4, 510, 5]);
     from("a value of 255", &[0x03, 0xFF], (0, 10), [0, 1, 2, 14, 255]);
 
     // Inside an entry its other bytes are taken for one.
@@ -1062,6 +1131,7 @@ pub fn all() -> Vec<Case> {
     let mut cases = Vec::new();
     examples(&mut cases);
     more_examples(&mut cases);
+    long_jumps(&mut cases);
     breaks(&mut cases);
     steps(&mut cases);
     stream_edges(&mut cases);

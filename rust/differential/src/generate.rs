@@ -99,18 +99,22 @@ pub fn modified(rng: &mut Rng, base: &[u8]) -> Vec<u8> {
 // Payloads and slots
 // ---------------------------------------------------------------------------------------------
 
-/// One entry; the long code also for jumps that would fit the short one, as the reader takes it.
+/// One entry in the code that its jump must have.
 fn push_entry(rng: &mut Rng, payload: &mut Vec<u8>, jump: usize) {
-    if jump >= 255 || rng.chance(10) {
-        payload.push(255);
-        payload.extend_from_slice(&(jump as u16).to_le_bytes());
+    if jump < 255 {
+        payload.extend([jump as u8, rng.byte()]);
     } else {
-        payload.push(jump as u8);
+        payload.extend(long_entry(rng, jump));
     }
-    payload.push(rng.byte());
 }
 
-/// A payload of whole entries that stay in the page, at most `most` bytes.
+/// One entry in the long code, which for a jump below 255 is a fault.
+fn long_entry(rng: &mut Rng, jump: usize) -> [u8; 4] {
+    let [low, high] = (jump as u16).to_le_bytes();
+    [255, low, high, rng.byte()]
+}
+
+/// A sound payload of at most `most` bytes.
 fn sound_payload(rng: &mut Rng, most: usize) -> Vec<u8> {
     let habit = rng.below(7);
     let target = if rng.chance(50) { most } else { rng.between(1, most) };
@@ -144,14 +148,28 @@ fn to_the_end(rng: &mut Rng) -> Vec<u8> {
 
 /// One entry with a long jump that just stays in the page or leaves it.
 fn far_jump(rng: &mut Rng) -> Vec<u8> {
-    let jump: u16 = rng.pick(&[8190, 8191, 8192, 8193, 65535, 32767, 32768]);
-    let [low, high] = jump.to_le_bytes();
-    vec![255, low, high, rng.byte()]
+    let jump = rng.pick(&[8190, 8191, 8192, 8193, 65535, 32767, 32768]);
+    long_entry(rng, jump).to_vec()
 }
 
-/// A payload that may be anything: sound, cut off, one entry too far, too long, empty, noise.
+/// A sound payload with one more entry at any place: the long code with a jump below 255 or just above.
+/// One entry and not a share of all, since a payload of many would then hardly be sound or break late.
+fn near_the_least_long_jump(rng: &mut Rng) -> Vec<u8> {
+    let mut bytes = sound_payload(rng, PAYLOAD - 4);
+    let at = reached(rng, &bytes).0 as usize;
+    let jump = match rng.below(4) {
+        0 => 0,
+        1 => rng.below(255),
+        _ => rng.between(253, 257),
+    };
+    bytes.splice(at..at, long_entry(rng, jump));
+    bytes
+}
+
+/// A payload that may be anything: sound, cut off, one entry too far, a long jump that is not long, too
+/// long, empty, noise.
 pub fn payload(rng: &mut Rng) -> Vec<u8> {
-    match rng.below(12) {
+    match rng.below(14) {
         0 => Vec::new(),
         1 => {
             let length = rng.between(1, 600);
@@ -179,6 +197,7 @@ pub fn payload(rng: &mut Rng) -> Vec<u8> {
             bytes.push(rng.byte());
             bytes
         }
+        8 | 9 => near_the_least_long_jump(rng),
         _ => sound_payload(rng, PAYLOAD),
     }
 }
@@ -193,7 +212,8 @@ pub fn patch_slot(payload: &[u8]) -> Vec<u8> {
     slot
 }
 
-/// A slot of a store. PATCH payloads are mostly sound.
+/// A slot of a store. PATCH payloads are mostly sound: of many blocks each must be, or Build would stop
+/// at the first ones and accept no store.
 fn slot(rng: &mut Rng, may_be_full: bool) -> Vec<u8> {
     match rng.below(4) {
         0 => vec![0; SLOT],

@@ -1,9 +1,11 @@
-//! Every short payload over a few bytes, and longer ones drawn at random, held to the demand on readers:
+//! Every short payload over a few bytes, every long jump, and longer payloads drawn at random, held to the
+//! demand on readers:
 //!
 //! * the entries that a reader gives, joined, are those that Apply uses;
 //! * of a payload that is not sound it gives those before the offset that Apply gives, and stops there;
 //! * once it has ended or stopped it stays where it is;
-//! * Read and Build give the same offset for a slot with that payload.
+//! * a sound payload is the one spelling of its entries: no other bytes list the same;
+//! * both reads and Build give the same offset for a slot with that payload, and Build its block.
 //!
 //! Every call of it is also compared with the independent implementation.
 
@@ -14,7 +16,8 @@ use crate::generate::{self, Areas};
 use crate::harness::{Harness, Mismatch};
 use crate::rng::Rng;
 
-/// Jumps of 0, 1 and the largest short one, the mark of the long code, and the high byte of 8,192.
+/// Jumps of 0, 1 and the largest short one, the mark of the long code, and the high byte of 8,192. As low
+/// and high bytes they make 0, 1, 254, 255, 256 and 510 among others.
 const ALPHABET: [u8; 5] = [0x00, 0x01, 0xFE, 0xFF, 0x20];
 /// Long enough for one entry with the long code, two with the short one, and all that is cut off.
 const LONGEST: u32 = 4;
@@ -93,7 +96,7 @@ fn apply(harness: &mut Harness, payload: &[u8], gave: &Readout) -> Result<[i128;
     Ok([number, offset])
 }
 
-/// Read and Build of a store with the payload in a PATCH slot.
+/// Both reads and Build of a store with the payload in a PATCH slot.
 fn in_a_slot(
     harness: &mut Harness,
     payload: &[u8],
@@ -103,22 +106,50 @@ fn in_a_slot(
     let start = PATCH_HEADER + SLOT * BLOCK;
     patch[start..start + SLOT].copy_from_slice(&generate::patch_slot(payload));
     let lent = vec![patch.clone(), full.clone(), Vec::new(), vec![0xEE; PAGE]];
+    let mut mapped = lent.clone();
+    let mut map = vec![0; 1];
+    generate::set_pair(&mut map, BLOCK, 2);
+    mapped.insert(2, map);
     let read = harness.check(&Input::new(Call::Read, lent).at_block(BLOCK as u64))?.answer.0;
+    let by_map = Input::new(Call::ReadMapped, mapped).at_block(BLOCK as u64);
+    let by_map = harness.check(&by_map)?.answer.0;
     let built = harness.check(&Input::new(Call::Build, vec![patch, full, vec![0xEE; 1]]))?.answer.0;
-    let found = [[read[0], read[2]], [built[0], built[2]]];
-    demand(found == [[number, offset]; 2], payload, || {
-        format!("Apply gives {number} and offset {offset}, Read and Build give {found:?}")
-    })
+    let found = [[read[0], read[2]], [by_map[0], by_map[2]], [built[0], built[2]]];
+    demand(found == [[number, offset]; 3], payload, || {
+        format!("Apply gives {number} and offset {offset}, both reads and Build give {found:?}")
+    })?;
+    let named = if number == 0 { 0 } else { BLOCK as i128 };
+    demand(built[1] == named, payload, || format!("Build gives {number} at block {}", built[1]))
+}
+
+/// The writer's spelling of entries in rising order.
+fn spelled(entries: &[(usize, u8)]) -> Vec<u8> {
+    let mut bytes = Vec::new();
+    let mut next = 0;
+    for (position, value) in entries {
+        let jump = position - next;
+        if jump >= 255 {
+            bytes.extend([255, (jump % 256) as u8, (jump / 256) as u8]);
+        } else {
+            bytes.push(jump as u8);
+        }
+        bytes.push(*value);
+        next = position + 1;
+    }
+    bytes
 }
 
 /// One payload with all that is demanded.
-fn check_one(harness: &mut Harness, payload: &[u8]) -> Result<(), Mismatch> {
+fn check_one(harness: &mut Harness, payload: &[u8]) -> Result<Readout, Mismatch> {
     let gave = read_through(harness, payload)?;
     let applied = apply(harness, payload, &gave)?;
+    let otherwise =
+        || format!("sound, but its entries are spelled {:02X?}", spelled(&gave.entries));
+    demand(gave.number != 0 || spelled(&gave.entries) == payload, payload, otherwise)?;
     if (1..=PAYLOAD).contains(&payload.len()) {
         in_a_slot(harness, payload, applied)?;
     }
-    Ok(())
+    Ok(gave)
 }
 
 /// The payload of this length with this number, its bytes being the digits.
@@ -137,6 +168,45 @@ pub fn every_short_one(harness: &mut Harness) -> Result<(), Mismatch> {
     Ok(())
 }
 
+/// Where the answer changes, or would by a wrong test: small jumps, those around each multiple of 256, and
+/// those around the page's end and the largest.
+fn near_an_edge(jump: &u16) -> bool {
+    let around_a_multiple = [0, 1, 254, 255].contains(&(jump % 256));
+    *jump <= 600 || around_a_multiple || (8_185..=8_195).contains(jump) || *jump >= 65_530
+}
+
+/// The long code with a jump, in an entry that stands alone or after one that changes byte 0.
+fn long_jump(harness: &mut Harness, jump: u16, before: &[(usize, u8)]) -> Result<(), Mismatch> {
+    const VALUE: u8 = 5;
+    let [low, high] = jump.to_le_bytes();
+    let start = spelled(before);
+    let payload = [&start[..], &[0xFF, low, high, VALUE]].concat();
+    let gave = check_one(harness, &payload)?;
+    let position = usize::from(jump) + before.len();
+    let mut entries = before.to_vec();
+    let ends = if jump >= 255 && position < PAGE {
+        entries.push((position, VALUE));
+        (0, payload.len() as i128)
+    } else {
+        (7, start.len() as i128)
+    };
+    let (number, at) = (gave.number, gave.at);
+    demand((number, at) == ends && gave.entries == entries, &payload, || {
+        format!("{:?}, then {number} at {at}, where {ends:?} is right", gave.entries)
+    })
+}
+
+/// Every 16-bit jump in the long code, or only those near an edge, in a first entry and in a second. What
+/// must come of it is the rule itself: from 255 to the page's end they are sound.
+pub fn every_long_jump(harness: &mut Harness, near_edges_only: bool) -> Result<(), Mismatch> {
+    for jump in (0..=u16::MAX).filter(|jump| !near_edges_only || near_an_edge(jump)) {
+        for before in [&[][..], &[(0, 1)]] {
+            long_jump(harness, jump, before)?;
+        }
+    }
+    Ok(())
+}
+
 /// A longer payload of any sort.
 pub fn a_longer_one(harness: &mut Harness, rng: &mut Rng) -> Result<(), Mismatch> {
     let payload = if rng.chance(50) {
@@ -145,7 +215,7 @@ pub fn a_longer_one(harness: &mut Harness, rng: &mut Rng) -> Result<(), Mismatch
         let length = rng.between(5, PAYLOAD + 2);
         (0..length).map(|_| rng.pick(&ALPHABET)).collect()
     };
-    check_one(harness, &payload)
+    check_one(harness, &payload).map(|_| ())
 }
 
 #[cfg(test)]
@@ -161,5 +231,22 @@ mod tests {
         all.sort();
         all.dedup();
         assert_eq!(all.len(), 1 + 5 + 25 + 125 + 625);
+    }
+
+    /// A quick run has every jump around the least long one and around the page's end.
+    #[test]
+    fn a_quick_run_has_the_edges() {
+        let quick: Vec<u16> = (0..=u16::MAX).filter(near_an_edge).collect();
+        for edge in [0, 253, 254, 255, 256, 510, 511, 8_190, 8_191, 8_192, 65_535] {
+            assert!(quick.contains(&edge), "{edge}");
+        }
+        assert!(quick.len() < 2_000, "{} jumps", quick.len());
+    }
+
+    #[test]
+    fn entries_are_spelled_by_the_writers_rule() {
+        let entries = [(0, 7), (255, 1), (511, 2), (8_191, 3)];
+        let bytes = [0, 7, 254, 1, 255, 255, 0, 2, 255, 255, 29, 3];
+        assert_eq!(spelled(&entries), bytes);
     }
 }

@@ -141,6 +141,8 @@ pub fn places(harness: &mut Harness) -> Result<(), Mismatch> {
         for position in POSITIONS {
             harness.check(&Input::step(&payload[..6], (at, position)))?;
             harness.check(&Input::step(&[255, 255, 31, 1, 255], (at, position)))?;
+            // A jump of 254 in the long code at 0, and one of 255 at 4.
+            harness.check(&Input::step(&[255, 254, 0, 1, 255, 255, 0, 1], (at, position)))?;
         }
     }
     Ok(())

@@ -9,7 +9,7 @@ use differential::harness::{independent_outcome, Counts, Harness, Mismatch, Side
 use differential::maps::{self, Elsewhere};
 use differential::rng::Rng;
 use differential::runs::{self, Pairs};
-use differential::{orders, payloads};
+use differential::{cases, orders, payloads};
 
 const SEED: u64 = 1;
 const MOST_CASES: u64 = 60_000;
@@ -191,9 +191,17 @@ fn always_reads_the_base(input: &Input) -> Outcome {
     })
 }
 
+/// Which jumps the long code may have, told whether the entry is the payload's first.
+type LongRule = fn(first: bool, jump: u16) -> bool;
+
+/// The right one.
+fn from_255_on(_: bool, jump: u16) -> bool {
+    jump >= 255
+}
+
 /// The entries of a payload, with their positions, up to the first that is not sound, and the offset of
 /// that one if there is one. `first` is where the position starts.
-fn decoded(payload: &[u8], first: i32) -> (Vec<(usize, u8)>, Option<usize>) {
+fn decoded(payload: &[u8], first: i32, rule: LongRule) -> (Vec<(usize, u8)>, Option<usize>) {
     let mut entries = Vec::new();
     let mut position = first;
     let mut rest = payload;
@@ -201,7 +209,11 @@ fn decoded(payload: &[u8], first: i32) -> (Vec<(usize, u8)>, Option<usize>) {
         let offset = payload.len() - rest.len();
         let (jump, value, after) = match rest {
             [255, low, high, value, after @ ..] => {
-                (u16::from_le_bytes([*low, *high]), value, after)
+                let jump = u16::from_le_bytes([*low, *high]);
+                if !rule(offset == 0, jump) {
+                    return (entries, Some(offset));
+                }
+                (jump, value, after)
             }
             [jump @ 0..=254, value, after @ ..] => (u16::from(*jump), value, after),
             _ => return (entries, Some(offset)),
@@ -225,7 +237,7 @@ fn own_apply(input: &Input, first: i32, while_checking: bool) -> Outcome {
         if outcome.answer.number() == 1 || !length_sound {
             return;
         }
-        let (entries, breaks_at) = decoded(payload, first);
+        let (entries, breaks_at) = decoded(payload, first, from_255_on);
         outcome.buffers = input.buffers.clone();
         if breaks_at.is_none() || while_checking {
             let mut page = generate::page_of_base(base);
@@ -317,7 +329,8 @@ fn offset_from_the_area(input: &Input) -> Outcome {
 fn offset_in_an_overlong_payload(input: &Input) -> Outcome {
     altered(input, Call::Apply, |outcome| {
         if outcome.answer.number() == 7 && input.buffers[1].len() > PAYLOAD {
-            outcome.answer.0[3] = decoded(&input.buffers[1], -1).1.unwrap_or(PAYLOAD) as i128;
+            let breaks_at = decoded(&input.buffers[1], -1, from_255_on).1;
+            outcome.answer.0[3] = breaks_at.unwrap_or(PAYLOAD) as i128;
         }
     })
 }
@@ -327,7 +340,7 @@ fn offset_beside_a_wrong_page(input: &Input) -> Outcome {
     altered(input, Call::Apply, |outcome| {
         let payload = &input.buffers[1];
         if outcome.answer.number() == 1 && (1..=PAYLOAD).contains(&payload.len()) {
-            outcome.answer.0[3] = decoded(payload, -1).1.unwrap_or(0) as i128;
+            outcome.answer.0[3] = decoded(payload, -1, from_255_on).1.unwrap_or(0) as i128;
         }
     })
 }
@@ -421,6 +434,125 @@ fn place_cut_to_32_bits(input: &Input) -> Outcome {
             step[2] = input.numbers.at.into();
         }
     })
+}
+
+// Programs that take another set of jumps after 255.
+
+/// A payload that comes to the same by the rules as this one does by another rule about long jumps: its
+/// entries as the writer spells them, or as many bytes of short entries before one that is cut off.
+fn respelled(payload: &[u8], rule: LongRule) -> Vec<u8> {
+    match decoded(payload, -1, rule) {
+        (_, Some(offset)) => [&[0, 7].repeat(offset / 2)[..], &[0]].concat(),
+        (entries, None) => {
+            let mut page = vec![0; PAGE];
+            let mut base = page.clone();
+            // Over a base that differs wherever there is an entry, and only there.
+            for (place, value) in entries {
+                (page[place], base[place]) = (value, !value);
+            }
+            let mut bytes = vec![0; PAYLOAD];
+            let compared = independent::compare(&base, &page, &mut bytes);
+            bytes.truncate(compared.length as usize);
+            bytes
+        }
+    }
+}
+
+/// The patch area with every sound PATCH slot's payload respelled.
+fn respelled_area(patch: &[u8], rule: LongRule) -> Vec<u8> {
+    let mut area = patch.to_vec();
+    for slot in area.chunks_exact_mut(SLOT).skip(1) {
+        let judged = independent::judge(slot);
+        if (judged.number, judged.kind) == (0, 1) {
+            let payload = respelled(&slot[8..8 + judged.length as usize], rule);
+            slot.copy_from_slice(&generate::patch_slot(&payload));
+        }
+    }
+    area
+}
+
+/// One step of a reader, if it has come to the long code.
+fn step_by_rule(input: &Input, rule: LongRule) -> Outcome {
+    altered_step(input, |step| {
+        let (payload, at) = (&input.buffers[0], input.numbers.at);
+        let position = input.numbers.position;
+        let length_sound = (1..=PAYLOAD).contains(&payload.len());
+        if !length_sound || at >= payload.len() as u64 || !(-1..=8191).contains(&position) {
+            return;
+        }
+        if let [255, low, high, value, ..] = payload[at as usize..] {
+            let jump = u16::from_le_bytes([low, high]);
+            let reached = position + i32::from(jump) + 1;
+            *step = if rule(at == 0, jump) && reached <= 8191 {
+                [0, 1, at as i128 + 4, reached.into(), value.into()]
+            } else {
+                [7, 0, at.into(), position.into(), 0]
+            };
+        }
+    })
+}
+
+/// The independent implementation with another rule about long jumps, in every call that looks at the
+/// entries of a payload.
+fn by_rule(input: &Input, rule: LongRule) -> Outcome {
+    let lent = match input.call {
+        Call::Next => return step_by_rule(input, rule),
+        Call::Apply => 1,
+        Call::Read | Call::ReadMapped | Call::Build => 0,
+        _ => return independent_outcome(input),
+    };
+    let bytes = &input.buffers[lent];
+    let mut changed = input.clone();
+    changed.buffers[lent] = match input.call {
+        Call::Apply if (1..=PAYLOAD).contains(&bytes.len()) => respelled(bytes, rule),
+        Call::Apply => bytes.clone(),
+        _ => respelled_area(bytes, rule),
+    };
+    let mut outcome = independent_outcome(&changed);
+    outcome.buffers[lent] = bytes.clone();
+    outcome
+}
+
+fn takes_long_jumps_rightly(input: &Input) -> Outcome {
+    by_rule(input, from_255_on)
+}
+
+/// The rule of before.
+fn takes_any_long_jump(input: &Input) -> Outcome {
+    by_rule(input, |_, _| true)
+}
+
+fn refuses_255(input: &Input) -> Outcome {
+    by_rule(input, |_, jump| jump > 255)
+}
+
+fn lets_254_through(input: &Input) -> Outcome {
+    by_rule(input, |_, jump| jump >= 254)
+}
+
+fn looks_at_the_first_entry_only(input: &Input) -> Outcome {
+    by_rule(input, |first, jump| !first || jump >= 255)
+}
+
+fn looks_past_the_first_entry_only(input: &Input) -> Outcome {
+    by_rule(input, |first, jump| first || jump >= 255)
+}
+
+fn tests_the_low_byte_alone(input: &Input) -> Outcome {
+    by_rule(input, |_, jump| jump % 256 >= 255)
+}
+
+fn takes_the_high_byte_first(input: &Input) -> Outcome {
+    by_rule(input, |_, jump| jump.swap_bytes() >= 255)
+}
+
+/// The rule of before in one call alone, the one with this place in `Call::ALL`.
+fn takes_any_in<const CALL: usize>(input: &Input) -> Outcome {
+    if input.call == Call::ALL[CALL] {
+        takes_any_long_jump(input)
+    } else {
+        independent_outcome(input)
+    }
 }
 
 // Maps that are kept wrongly, and reads that go by something else.
@@ -641,6 +773,16 @@ fn the_right_programs_pass() {
     assert!(first_mismatch(applies_rightly).is_none());
 }
 
+/// So does a program with a rule of its own about long jumps, if that is the right one. It is held to the
+/// independent implementation, which the library agrees with by the test above.
+#[test]
+fn the_right_rule_about_long_jumps_passes() {
+    for input in (0..MOST_CASES / 10).map(random_input) {
+        let (outcome, right) = (takes_long_jumps_rightly(&input), independent_outcome(&input));
+        assert_eq!(outcome.difference(&right, input.call), None, "{input}");
+    }
+}
+
 #[test]
 fn small_mistakes_are_found() {
     must_find("another number", another_number);
@@ -715,6 +857,70 @@ const WRONG_READERS: [(&str, Side); 8] = [
     ("a reader that forgets its position", reader_forgets_its_position_at_the_end),
     ("a place cut to 32 bits", place_cut_to_32_bits),
 ];
+
+const WRONG_LONG_JUMPS: [(&str, Side); 12] = [
+    ("any jump after 255", takes_any_long_jump),
+    ("255 refused", refuses_255),
+    ("254 let through", lets_254_through),
+    ("a test of the first entry only", looks_at_the_first_entry_only),
+    ("a test past the first entry only", looks_past_the_first_entry_only),
+    ("a test of the low byte alone", tests_the_low_byte_alone),
+    ("a test of the high byte first", takes_the_high_byte_first),
+    ("any jump in Apply", takes_any_in::<{ Call::Apply as usize }>),
+    ("any jump in the reader", takes_any_in::<{ Call::Next as usize }>),
+    ("any jump in Read", takes_any_in::<{ Call::Read as usize }>),
+    ("any jump in Read by the map", takes_any_in::<{ Call::ReadMapped as usize }>),
+    ("any jump in Build", takes_any_in::<{ Call::Build as usize }>),
+];
+
+#[test]
+fn wrong_long_jumps_are_found() {
+    WRONG_LONG_JUMPS.iter().for_each(|(name, wrong)| must_find(name, *wrong));
+}
+
+/// Each of them contradicts a case that is written by hand.
+#[test]
+fn cases_by_hand_notice_wrong_long_jumps() {
+    let cases = cases::all();
+    let notice = |program: Side| {
+        let differs = |case: &cases::Case| {
+            program(&case.input).difference(&case.expected, case.input.call).is_some()
+        };
+        cases.iter().any(differs)
+    };
+    assert!(!notice(takes_long_jumps_rightly));
+    for (name, wrong) in WRONG_LONG_JUMPS {
+        assert!(notice(wrong), "{name} was not noticed");
+    }
+}
+
+/// The same wrong program on both sides, through every long jump near an edge: only what is demanded
+/// there can notice.
+#[test]
+fn the_demand_on_long_jumps_notices_wrong_programs() {
+    let notices = |wrong: Side| {
+        let mut harness = Harness::new();
+        harness.expected = wrong;
+        harness.in_place_of_library = Some(wrong);
+        payloads::every_long_jump(&mut harness, true).err().map(|mismatch| mismatch.side)
+    };
+    assert_eq!(notices(independent_outcome), None);
+    assert_eq!(notices(takes_long_jumps_rightly), None);
+    for (name, wrong) in WRONG_LONG_JUMPS {
+        assert_eq!(notices(wrong), Some("demand on readers"), "{name}");
+    }
+}
+
+/// The rule of before on both sides, through every short payload: the same entries are spelled twice.
+#[test]
+fn a_second_spelling_is_noticed() {
+    let mut harness = Harness::new();
+    harness.expected = takes_any_long_jump;
+    harness.in_place_of_library = Some(takes_any_long_jump);
+    let mismatch = payloads::every_short_one(&mut harness).expect_err("noticed");
+    assert_eq!(mismatch.side, "demand on readers");
+    assert!(mismatch.found.contains("its entries are spelled"), "{mismatch}");
+}
 
 #[test]
 fn wrong_offsets_are_found() {
@@ -835,6 +1041,7 @@ fn the_demand_on_readers_notices_wrong_programs() {
         ("an offset counted from the slot", offset_from_the_slot, "demand on readers"),
         ("an offset in an overlong payload", offset_in_an_overlong_payload, "demand on readers"),
         ("an offset of a sound payload", offset_of_the_end, "rule of answers"),
+        ("Build without its block", build_keeps_its_block_to_itself, "demand on readers"),
         ("a reader that skips its first entry", reader_skips_its_first_entry, "demand on readers"),
         ("a reader that goes on after a stop", reader_goes_on_after_a_stop, "demand on readers"),
         ("a reader that moves at a stop", reader_moves_at_a_stop, "rule of answers"),

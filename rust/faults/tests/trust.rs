@@ -9,7 +9,7 @@ use faults::maps::{self, Bit};
 use faults::shipped::{self, Block};
 use faults::store::{place, slot, Store};
 use faults::{checksum, tables};
-use thonxiliko::{Kind, Refusal, PAGE_SIZE, SLOT_SIZE};
+use thonxiliko::{entries, show, Kind, Refusal, PAGE_SIZE, SLOT_SIZE};
 
 fn ground() -> (Store, Vec<Block>) {
     let blocks = shipped::blocks(&shipped::folder()).expect("the shipped pages");
@@ -89,6 +89,36 @@ fn every_flipped_bit_comes_to_one_thing() {
     assert!(of(Part::Payload).other_page > of(Part::Payload).bits / 2);
     assert_eq!(of(Part::FullPage).other_page, of(Part::FullPage).bits);
     assert_eq!((of(Part::EmptySlot).other_page, of(Part::EmptySlot).taken), (1, 1));
+}
+
+/// A flipped bit that makes a long jump short is noticed, and the offset names that very entry.
+#[test]
+fn a_long_jump_that_becomes_short_is_named() {
+    let (store, blocks) = ground();
+    let mut met = 0;
+    for block in 0..blocks.len() {
+        let payload = show(&store.patch, block as u64).unwrap_or(&[]);
+        let mut reader = entries(payload);
+        let mut offset = reader.offset();
+        while reader.next().is_some() {
+            // A high byte with one bit, and a low byte that is a short jump.
+            let high_byte = match payload[offset..] {
+                [255, 0..=254, high, ..] => high,
+                _ => 0,
+            };
+            if high_byte.is_power_of_two() {
+                let mut damaged = store.clone();
+                damaged.patch[slot(block)][8 + offset + 2] ^= high_byte;
+                let fault = damaged.read(block, &mut [0; PAGE_SIZE]).unwrap_err();
+                assert_eq!((fault.refusal, fault.offset), (Refusal::Payload, Some(offset)));
+                let built = damaged.build().unwrap_err();
+                assert_eq!((built.block, built.offset), (Some(block as u64), Some(offset)));
+                met += 1;
+            }
+            offset = reader.offset();
+        }
+    }
+    assert!(met > 0, "the shipped pages have such a jump");
 }
 
 /// The counts can tell: held against another page than the one that was written, no flip gives the page.

@@ -277,13 +277,18 @@ fn entries_of(payload: &[u8]) -> Result<Vec<Entry>, Refused> {
     Ok(entries)
 }
 
-/// Takes one entry, if it is whole and stays in the page.
+/// Takes one entry, if it is whole, has the long code only for a jump that needs it, and stays in the
+/// page.
 fn entry_from(bytes: &mut impl Iterator<Item = u8>, position: i32) -> Option<Entry> {
     let jump = match bytes.next()? {
         255 => {
             let low = bytes.next()?;
             let high = bytes.next()?;
-            i32::from(low) + 256 * i32::from(high)
+            let long = i32::from(low) + 256 * i32::from(high);
+            if long < 255 {
+                return None;
+            }
+            long
         }
         short => i32::from(short),
     };
@@ -422,6 +427,8 @@ pub fn next(payload: &[u8], at: u64, position: i32) -> Step {
         return stands(BAD_PAYLOAD);
     }
     let (jump, value, length) = match payload[at as usize..] {
+        // The low byte comes first: these are the jumps below 255.
+        [255, 0..=254, 0, ..] => return stands(BAD_PAYLOAD),
         [255, low, high, value, ..] => (number16(&[low, high], 0) as i32, value, 4),
         [short @ 0..=254, value, ..] => (i32::from(short), value, 2),
         _ => return stands(BAD_PAYLOAD),

@@ -1,7 +1,7 @@
 //! Where payloads break and what a reader of entries gives, worked by hand from the rules. Nothing is
 //! linked for these.
 
-use independent::{apply, build, format, next, read, Applied, Built, Reading, Step};
+use independent::{apply, build, format, next, read, read_mapped, Applied, Built, Reading, Step};
 
 const PAGE: usize = 8192;
 
@@ -28,8 +28,29 @@ fn worked_by_hand() -> Vec<Worked> {
         sound(&[0xFF, 0xFF, 0x1F, 0x01], &[(8191, 1)]),
         sound(&[0x00, 0x01, 0xFE, 0x01], &[(0, 1), (255, 1)]),
         sound(&[0x00, 0x01, 0xFF, 0xFF, 0x00, 0x01], &[(0, 1), (256, 1)]),
-        // The long code with a jump that would fit the short one.
-        sound(&[0xFF, 0x00, 0x00, 0x05], &[(0, 5)]),
+        // The long code: 256, whose low byte is 0, 510 and 511, in the first entry and in a later one.
+        sound(&[0xFF, 0x00, 0x01, 0x05], &[(256, 5)]),
+        sound(&[0xFF, 0xFE, 0x01, 0x05], &[(510, 5)]),
+        sound(&[0xFF, 0xFF, 0x01, 0x05], &[(511, 5)]),
+        sound(&[0x00, 0x01, 0xFF, 0x00, 0x01, 0x05], &[(0, 1), (257, 5)]),
+        // A jump of 255 in two entries, the second from position 255.
+        sound(&[0xFF, 0xFF, 0x00, 0x01, 0xFF, 0xFF, 0x00, 0x02], &[(255, 1), (511, 2)]),
+        // The long code with a jump below 255: 0 (P12), 1, 253 and 254, in each entry.
+        broken(&[0xFF, 0x00, 0x00, 0x05], &[], 0),
+        broken(&[0xFF, 0x01, 0x00, 0x05], &[], 0),
+        broken(&[0xFF, 0xFD, 0x00, 0x05], &[], 0),
+        broken(&[0xFF, 0xFE, 0x00, 0x05], &[], 0),
+        broken(&[0x00, 0x01, 0xFF, 0x00, 0x00, 0x05], &[(0, 1)], 2),
+        broken(&[0x00, 0x01, 0xFF, 0xFE, 0x00, 0x05], &[(0, 1)], 2),
+        broken(&[0xFF, 0xFF, 0x00, 0x01, 0xFF, 0xFE, 0x00, 0x05], &[(255, 1)], 4),
+        broken(
+            &[0x00, 0x01, 0xFF, 0xFF, 0x00, 0x01, 0xFF, 0xFE, 0x00, 0x05],
+            &[(0, 1), (256, 1)],
+            6,
+        ),
+        // The same in an entry that would leave the page, and twice: the first counts.
+        broken(&[0xFF, 0xFF, 0x1F, 0x01, 0xFF, 0x00, 0x00, 0x05], &[(8191, 1)], 4),
+        broken(&[0x00, 0x01, 0xFF, 0x01, 0x00, 0x05, 0xFF, 0x01, 0x00, 0x05], &[(0, 1)], 2),
         // Out of the page: by one jump of 8,192 (P7), by the entry after the last byte (P8), by far.
         broken(&[0xFF, 0x00, 0x20, 0x01], &[], 0),
         broken(&[0xFF, 0xFF, 0x1F, 0x01, 0x00, 0x02], &[(8191, 1)], 4),
@@ -37,22 +58,25 @@ fn worked_by_hand() -> Vec<Worked> {
         broken(&[0x00, 0x07, 0xFF, 0xFF, 0xFF, 0x01], &[(0, 7)], 2),
         // The first unsound entry counts, not a later one.
         broken(&[0xFF, 0x00, 0x20, 0x01, 0x00], &[], 0),
+        broken(&[0xFF, 0x00, 0x00, 0x05, 0x00], &[], 0),
         // Cut off: after a jump (P9), inside the long code, before its value.
         broken(&[0x00], &[], 0),
         broken(&[0xFF], &[], 0),
         broken(&[0xFF, 0x00], &[], 0),
         broken(&[0xFF, 0x00, 0x00], &[], 0),
+        broken(&[0xFF, 0xFF, 0x00], &[], 0),
         broken(&[0x00, 0x07, 0x00], &[(0, 7)], 2),
         broken(&[0x00, 0x01, 0xFF, 0xFF, 0x00], &[(0, 1)], 2),
         broken(&[0xFF, 0xFF, 0x00, 0x01, 0xFE], &[(255, 1)], 4),
         broken(&[0x00, 0x01, 0xFF, 0xFF, 0x00, 0x01, 0xFF, 0x00], &[(0, 1), (256, 1)], 6),
-        // The longest that is sound, one byte less, and overlong ones: whole entries, a cut one, an
-        // entry that breaks early.
+        // The longest that is sound, one byte less, and overlong ones: whole entries, a cut one,
+        // entries that break early.
         sound(&[0; 504], &(0..252).map(|at| (at, 0)).collect::<Vec<_>>()),
         broken(&[0; 503], &(0..251).map(|at| (at, 0)).collect::<Vec<_>>(), 502),
         broken(&[0; 505], &[], 0),
         broken(&[0; 506], &[], 0),
         broken(&[&[0x00, 0x07, 0xFF, 0x00, 0x20][..], &[0; 600]].concat(), &[], 0),
+        broken(&[&[0x00, 0x07, 0xFF, 0x00, 0x00][..], &[0; 600]].concat(), &[], 0),
         broken(&[], &[], 0),
     ]
 }
@@ -104,13 +128,16 @@ fn area_with(payload: &[u8]) -> Vec<u8> {
 }
 
 #[test]
-fn read_and_build_pass_the_offset_on() {
+fn both_reads_and_build_pass_the_offset_on() {
     for Worked { payload, breaks_at, .. } in worked_by_hand() {
         if !(1..=504).contains(&payload.len()) {
             continue;
         }
         let patch = area_with(&payload);
         let reading = read(&patch, &[], 1, &[], &mut [0; PAGE]);
+        // By pair 2 of block 1.
+        let by_map = read_mapped(&patch, &[], &[0b1000], 1, &[], &mut [0; PAGE]);
+        assert_eq!(by_map, reading, "{payload:02X?}");
         let built = build(&patch, &[], &mut [0; 1]);
         match breaks_at {
             Some(offset) => {
@@ -197,4 +224,73 @@ fn one_step_from_anywhere() {
     assert_eq!(next(&two, 0, 8191), stands(7, 0, 8191));
     assert_eq!(next(&two, 2, 8188), gives(4, 8191, 8));
     assert_eq!(next(&two, 2, 8189), stands(7, 2, 8189));
+    // A jump of 255 in the long code and one of 254, from anywhere and from inside another entry.
+    let long = [0x00, 0xFF, 0xFE, 0x00, 0xFF, 0xFF, 0x00, 0x09];
+    for position in [-1, 0, 7000] {
+        assert_eq!(next(&long, 4, position), gives(8, position + 256, 9));
+        assert_eq!(next(&long, 1, position), stands(7, 1, position));
+        assert_eq!(next(&long, 2, position), gives(4, position + 255, 0));
+    }
+}
+
+/// The spelling of entries by the writer's rule, which is the only one that the reader takes.
+fn spelled(entries: &[(i32, u8)]) -> Vec<u8> {
+    let mut bytes = Vec::new();
+    let mut next = 0;
+    for (position, value) in entries {
+        match u8::try_from(position - next) {
+            Ok(jump @ 0..=254) => bytes.push(jump),
+            _ => {
+                bytes.push(255);
+                bytes.extend(((position - next) as u16).to_le_bytes());
+            }
+        }
+        bytes.push(*value);
+        next = position + 1;
+    }
+    bytes
+}
+
+/// The entries of a payload by the reader; none if it is not sound.
+fn read_through(payload: &[u8]) -> Option<Vec<(i32, u8)>> {
+    let mut entries = Vec::new();
+    let mut step = next(payload, 0, -1);
+    while step.found == 1 {
+        entries.push((step.position, step.value as u8));
+        step = next(payload, step.at, step.position);
+    }
+    (step.number == 0).then_some(entries)
+}
+
+/// Every long jump, alone and after an entry: sound from 255 to the page's end, and then the only
+/// spelling of its entries.
+#[test]
+fn every_long_jump() {
+    let untouched = [0xEE; PAGE];
+    let mut page = untouched;
+    for jump in 0..=u16::MAX {
+        let [low, high] = jump.to_le_bytes();
+        for before in [&[][..], &[(0, 1)]] {
+            let payload = [&spelled(before)[..], &[0xFF, low, high, 0x05]].concat();
+            let position = i32::from(jump) + before.len() as i32;
+            let applied = apply(&[], &payload, &mut page);
+            if jump >= 255 && position <= 8191 {
+                let entries = [before, &[(position, 5)]].concat();
+                let count = entries.len() as u32;
+                assert_eq!(
+                    applied,
+                    Applied { number: 0, entries: count, last: position, offset: 0 }
+                );
+                assert!(page[..] == page_of(&entries), "{payload:02X?}");
+                assert_eq!(read_through(&payload).as_deref(), Some(&entries[..]));
+                assert_eq!(spelled(&entries), payload);
+                page = untouched;
+            } else {
+                let offset = 2 * before.len() as u32;
+                assert_eq!(applied, Applied { number: 7, entries: 0, last: 0, offset });
+                assert!(page == untouched, "{payload:02X?}");
+                assert_eq!(read_through(&payload), None, "{payload:02X?}");
+            }
+        }
+    }
 }

@@ -190,7 +190,7 @@ pub enum Refusal {
     Block = 5,
     /// The slot is not sound.
     Slot = 6,
-    /// The payload is not sound.
+    /// The payload is not sound; see [`apply`].
     Payload = 7,
     /// The full area has no place for this block's page.
     NoFullPage = 8,
@@ -521,7 +521,9 @@ pub fn compare(base: &[u8], page: &[u8], payload: &mut [u8]) -> Result<Compared,
 /// Fills `page` with `base` and then the entries of `payload`.
 ///
 /// Refuses, in this order: [`Refusal::PageLength`]; [`Refusal::Payload`] if the payload is empty,
-/// longer than 504 bytes, or not a row of whole entries that stay in the page.
+/// longer than 504 bytes, or not a row of whole entries that stay in the page. An entry is a jump and a
+/// value; a jump of 0 to 254 is one byte, and the byte 255 is followed by one of 255 or more in 16 bits,
+/// the low byte first. A smaller jump there is refused too.
 ///
 /// ```
 /// let mut page = [0xFF; thonxiliko::PAGE_SIZE];
@@ -533,6 +535,12 @@ pub fn compare(base: &[u8], page: &[u8], payload: &mut [u8]) -> Result<Compared,
 /// let fault = thonxiliko::apply(&[], &[0xFE, 0x01, 0x00], &mut page).unwrap_err();
 /// assert_eq!(fault.to_string(), "refused 7: the payload is not sound (offset 2)");
 /// assert_eq!(fault.offset, Some(2));
+///
+/// // After 255 a jump of 255 is sound; 254 has a code of one byte.
+/// let applied = thonxiliko::apply(&[], &[0xFF, 0xFF, 0x00, 0x01], &mut page)?;
+/// assert_eq!((applied.entries, applied.last), (1, 255));
+/// let fault = thonxiliko::apply(&[], &[0xFF, 0xFE, 0x00, 0x01], &mut page).unwrap_err();
+/// assert_eq!(fault.offset, Some(0));
 /// # Ok::<(), thonxiliko::Refusal>(())
 /// ```
 pub fn apply(base: &[u8], payload: &[u8], page: &mut [u8]) -> Result<Applied, PayloadRefusal> {
@@ -557,7 +565,8 @@ pub fn apply(base: &[u8], payload: &[u8], page: &mut [u8]) -> Result<Applied, Pa
 /// Reads the entries of a payload, one after the other.
 ///
 /// Joined, they are those that [`apply`] uses. Of a payload that is not sound, those before the first
-/// entry that is not sound are given. [`Entries::ending`] tells which it was.
+/// entry that is not sound are given. [`Entries::ending`] tells which it was. Two sound payloads that
+/// give the same entries are the same bytes.
 ///
 /// ```
 /// use thonxiliko::{entries, Ending, Entry};
@@ -573,6 +582,11 @@ pub fn apply(base: &[u8], payload: &[u8], page: &mut [u8]) -> Result<Applied, Pa
 /// assert_eq!(broken.by_ref().count(), 1);
 /// assert_eq!(broken.ending(), Some(Ending::Stopped { offset: 2 }));
 /// assert_eq!(broken.next(), None);
+///
+/// // The second entry has a jump of 0 in three bytes.
+/// let mut broken = entries(&[0x00, 0x07, 0xFF, 0x00, 0x00, 0x05]);
+/// assert_eq!(broken.by_ref().count(), 1);
+/// assert_eq!(broken.ending(), Some(Ending::Stopped { offset: 2 }));
 /// ```
 pub fn entries(payload: &[u8]) -> Entries<'_> {
     Entries { payload, at: 0, position: -1, ending: None }

@@ -17,7 +17,7 @@ Gives the same inputs to libthonxiliko.a over its C interface, to the safe wrapp
 independent implementation; compares every answer and every lent byte after every call.
 
   --quick       a few seconds (the default)
-  --long        more than a million calls
+  --long        more than three million calls
   --seed N      replay with this seed (otherwise drawn from the clock, and printed)
   --part NAME   only one part: cases, orders, lengths, numbers, payloads, readers, pairs, maps, random,
                 runs, huge
@@ -302,7 +302,9 @@ fn numbers(session: &mut Session) -> Result<(), Mismatch> {
 }
 
 fn short_payloads(session: &mut Session) -> Result<(), Mismatch> {
-    payloads::every_short_one(&mut session.harness)
+    payloads::every_short_one(&mut session.harness)?;
+    // All of them are a million calls.
+    payloads::every_long_jump(&mut session.harness, !session.options.long)
 }
 
 fn longer_payload(session: &mut Session, rng: &mut Rng) -> Result<(), Mismatch> {

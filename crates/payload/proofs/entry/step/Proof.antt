@@ -3,11 +3,10 @@ use mir.Val.{toZ, ofZ}
 use mir.Syntax.{w32}
 use lib.ListN.{getD}
 use mathlib.Core.List.{List}
-use mathlib.Core.Logic.{inl}
 use Prim.Native.Nat.{ℕ, _+_, _*_}
 use native.Mathlib.Omega.{arith}
 use Rattle.payload.specs.Steps.{reach}
-use Rattle.payload.proofs.Reading.{at-end, short-cut, long-cut, lands, short-read, long-read}
+use Rattle.payload.proofs.Reading.{at-end, short-cut, long-cut, long-below, lands, short-read, long-read}
 use borrow.Author.Needs.{needs}
 use Rattle.payload.proofs.entry.step.Statement.{statement}
 use Rattle.payload.proofs.entry.step.Tie as tie
@@ -26,7 +25,7 @@ shared-slice-read-first c = search needs
 returns-2 : tie.Need-returns-2
 returns-2 c =
     let a = c .before .before .before .before .before .args in
-    inl (short-cut (reach (a .size)) (a .position) (a .payload .now) (a .place) (omega arith) (c .if3 .taken) (c .before .if2 .taken))
+    short-cut (reach (a .size)) (a .position) (a .payload .now) (a .place) (omega arith) (c .if3 .taken) (c .before .if2 .taken)
 
 add-value : tie.Need-add-value
 add-value c = search needs
@@ -60,7 +59,7 @@ returns-3 c =
 returns-4 : tie.Need-returns-4
 returns-4 c =
     let a = c .before .before .before .before .before .args in
-    inl (long-cut (reach (a .size)) (a .position) (a .payload .now) (a .place) (omega arith) (c .if4 .taken) (c .before .if2 .left))
+    long-cut (reach (a .size)) (a .position) (a .payload .now) (a .place) (omega arith) (c .if4 .taken) (c .before .if2 .left)
 
 add-jump : tie.Need-add-jump
 add-jump c = search needs
@@ -94,6 +93,12 @@ add-jump-3 c =
     let a = c .before .before .before .before .before .before .before .args in
     omega (arith, c .shared-slice-known5 .given (a .place + 1), c .shared-slice-known5 .given (a .place + 2))
 
+returns-5 : tie.Need-returns-5
+returns-5 c =
+    let a = c .before .before .before .before .before .before .before .before .args in
+    long-below (reach (a .size)) (a .position) (a .payload .now) (a .place) (omega arith)
+    (c .before .before .before .before .if2 .left) (omega (arith, c .if5 .taken))
+
 add-value-2 : tie.Need-add-value-2
 add-value-2 c = search needs
 
@@ -105,18 +110,19 @@ add-landed-2 c = search needs
 
 landed-requires-2 : tie.Need-landed-requires-2
 landed-requires-2 c κs =
-    let a = c .before .before .before .before .before .before .before .before .args in
+    let a = c .before .before .before .before .before .before .before .before .before .args in
     omega (arith, c .shared-slice-known6 .given (a .place + 1), c .shared-slice-known6 .given (a .place + 2))
 
-returns-5 : tie.Need-returns-5
-returns-5 c =
-    let a = c .before .before .before .before .before .before .before .before .before .args in
+returns-6 : tie.Need-returns-6
+returns-6 c =
+    let a = c .before .before .before .before .before .before .before .before .before .before .args in
     let s : List ℕ = a .payload .now in
     lands (reach (a .size)) (a .position) s (a .place) 4 (getD s (a .place + 1) 0 + 256 * getD s (a .place + 2) 0) (getD s (a .place + 3) 0)
     (toZ w32 (ofZ w32 (a .position))) (c .landed2 .result)
-    (toZ-ofZ w32 (a .position) (c .before .before .before .before .before .before .before .before .before .fits .position))
+    (toZ-ofZ w32 (a .position) (c .before .before .before .before .before .before .before .before .before .before .fits .position))
     (omega arith) (omega arith)
-    (long-read (reach (a .size)) (a .position) s (a .place) (omega arith) (c .before .before .before .before .before .if2 .left))
+    (long-read (reach (a .size)) (a .position) s (a .place) (omega arith) (c .before .before .before .before .before .before .if2 .left)
+    (omega (arith, c .before .before .if5 .left)))
     (c .landed2 .ensures)
 
 pub step-spec : {M : Type 1} → statement M
@@ -142,8 +148,9 @@ step-spec =
     cast-jump-2
     mul-jump
     add-jump-3
+    returns-5
     add-value-2
     shared-slice-read-value-2
     add-landed-2
     landed-requires-2
-    returns-5)
+    returns-6)
