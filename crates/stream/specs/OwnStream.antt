@@ -9,16 +9,16 @@ use mathlib.Core.Logic.{_⊎_, inl, inr}
 use lib.Dec.{eqb}
 use lib.ListN.{length, getD}
 use lib.IntN.{ℤ, pos, natAbs, _+ℤ_}
-use borrow.Author.Tests.{eqb-true, eqb-false, lt-ltb, le-ltb}
+use borrow.Author.Tests.{eqb-true, eqb-false}
 use Rattle.span.specs.Bytes.{zeros}
 use Rattle.layout.specs.Sizes.{pageSize}
 use Rattle.payload.specs.Entries.{stream, inPage, start, payloadStream, whole, sound, put, applied}
 use Rattle.payload.specs.Listing.{Listed, listed}
-use Rattle.payload.specs.Spelling.{Form, short, long, Spelt, takes, bytes, joined, Coded, Spelled, Bytes, landed}
+use Rattle.payload.specs.Spelling.{Spelt, bytes, joined, Coded, Spelled, Bytes, landed}
 use Rattle.payload.specs.Soundness.{sound-spelled, spelled-lists}
 use Rattle.writer.specs.Differences.{Change, diffs, spelled, coded, written}
 use Rattle.writer.specs.Steps.{before}
-use Rattle.writer.specs.Writer.{In, Rising, Below, Differing, diffs-rising, diffs-exact, placed}
+use Rattle.writer.specs.Writer.{In, Rising, Below, Differing, diffs-rising, diffs-exact, placed, spelled-bytes}
 use Rattle.writer.specs.ReadBack.{moved, pokes}
 use Rattle.stream.specs.Landing.{placed-rising, placed-below, spelled-lands, lands-at}
 use Rattle.stream.specs.Landing.{pokes-length, pokes-others, from-next, pokes-named}
@@ -121,11 +121,6 @@ module _ (base : List ℕ) (cs : List Change) (rising : Rising 0 cs) (below : Be
       (λ c m. diffs-exact base page c .1 (made-differs c m))
 
 -- The writer spells those changes as the entries did
-
-spelled-bytes : (f : Form) (j v : ℕ) → takes f j → spelled j v ≡ bytes f j v
-unfolding spelled
-spelled-bytes short j v t = rw (lt-ltb j 255 (omega arith))
-spelled-bytes long j v t = rw (le-ltb j 255 (t .0))
 
 coded-placed : (es : List Spelt) (next : ℕ) → Coded es → coded next (placed next es) ≡ joined es
 unfolding coded

@@ -1,23 +1,23 @@
 -- Applying the writer's stream to the base gives the page, with the writer's own numbers, in pages up to 65,536 bytes.
-use Prim.Native.Nat.{ℕ, zero, suc, _+_, _-_, _/_, _%_, _≤_, _<_}
+use Prim.Native.Nat.{ℕ, zero, suc, _+_, _-_, _≤_}
 use native.Mathlib.Omega.{arith}
 use mathlib.Core.Path.{_≡_, refl, sym, ap, _∙_}
-use mathlib.Core.Bool.{Bool, true, false, cond}
+use mathlib.Core.Bool.{Bool, true, false}
 use mathlib.Core.List.{List, [], _∷_, _++_, append-assoc}
-use lib.Dec.{eqb, ltb}
+use lib.Dec.{eqb}
 use lib.ListN.{length, set, length-append}
 use lib.Seq.{set-at}
 use lib.IntN.{ℤ, pos, _+ℤ_}
-use borrow.Author.Tests.{eqb-true, ltb-true, ltb-false, le-ltb, lt-ltb}
+use borrow.Author.Tests.{eqb-true, le-ltb, lt-ltb}
 use Rattle.layout.specs.Sizes.{room}
-use Rattle.layout.specs.Numbers.{le}
 use Rattle.payload.specs.Entries.{Stream, done, entry, code, inPage, stream, start, payloadStream, whole, sound, entries, last, put}
 use Rattle.payload.specs.Entries.{applied}
 use Rattle.writer.specs.Differences.{Change, diffs, spelled, coded, written, lastPlace}
 use Rattle.writer.specs.Steps.{before}
-use Rattle.payload.specs.EntryLaws.{short-in, long-in, parts-sound}
-use Rattle.payload.specs.Spelling.{two-bytes}
-use Rattle.writer.specs.Writer.{Rising, Below, diffs-rising, diffs-below}
+use Rattle.payload.specs.EntryLaws.{parts-sound}
+use Rattle.payload.specs.Spelling.{Form, takes, bytes}
+use Rattle.payload.specs.SpellingLaws.{wide, wide-is, entry-in}
+use Rattle.writer.specs.Writer.{Rising, Below, diffs-rising, diffs-below, formOf, form-takes, spelled-bytes}
 
 -- the position before the next place, and where a jump from there leads
 pub before-next : (at : ℕ) → before (at + 1) ≡ pos at
@@ -41,9 +41,17 @@ entered next (c ∷ cs) = entry (length (spelled (c .place - next) (c .value))) 
 
 pub read-coded : (n : ℕ) (ds : List Change) (next : ℕ) → n ≤ 65536 → Rising next ds → Below n ds
     → stream n (before next) code (coded next ds) ≡ entered next ds
-unfolding coded spelled stream inPage le
+unfolding coded stream inPage
 read-coded n [] next h r b = refl
-read-coded n (c ∷ cs) next h r b = go (ltb j 255) refl (read-coded n cs (c .place + 1) h (r .1) (b .1))
+read-coded n (c ∷ cs) next h r b =
+    let f : Form = formOf j in
+    let t : takes f j = form-takes j (omega (arith, b .0)) in
+    let e : spelled j (c .value) ≡ bytes f j (c .value) = spelled-bytes f j (c .value) t in
+    let w : wide f ≡ length (spelled j (c .value)) = sym (ap (λ (l : List ℕ). length l) e ∙ wide-is f j (c .value)) in
+    ap (λ (l : List ℕ). stream n (before next) code (l ++ coded (c .place + 1) cs)) e
+    ∙ entry-in n (before next) f j (c .value) (coded (c .place + 1) cs) t inside
+    ∙ on (read-coded n cs (c .place + 1) h (r .1) (b .1)) (wide f)
+    ∙ ap (λ (x : ℕ). entry x (pos (c .place)) (c .value) (entered (c .place + 1) cs)) w
   where
     j : ℕ
     j = c .place - next
@@ -63,18 +71,6 @@ read-coded n (c ∷ cs) next h r b = go (ltb j 255) refl (read-coded n cs (c .pl
         ap (λ (z : ℤ). entry w z (c .value) (stream n z code (coded (c .place + 1) cs))) at
         ∙ ap (λ (z : ℤ). entry w (pos (c .place)) (c .value) (stream n z code (coded (c .place + 1) cs))) (sym (before-next (c .place)))
         ∙ ap (λ (s : Stream). entry w (pos (c .place)) (c .value) s) rest
-
-    go : (t : Bool) → ltb j 255 ≡ t → stream n (before (c .place + 1)) code (coded (c .place + 1) cs) ≡ entered (c .place + 1) cs
-        → stream n (before next) code (cond t (j ∷ c .value ∷ []) (255 ∷ (le 2 j ++ (c .value ∷ []))) ++ coded (c .place + 1) cs)
-        ≡ entry (length (cond t (j ∷ c .value ∷ []) (255 ∷ (le 2 j ++ (c .value ∷ []))))) (pos (c .place)) (c .value)
-        (entered (c .place + 1) cs)
-    go true e rest =
-        let k : j < 255 = ltb-true j 255 e in
-        short-in n (before next) j (c .value) (coded (c .place + 1) cs) (λ q. omega arith) inside ∙ on rest 2
-    go false e rest =
-        let k : j ≤ 65535 = omega (arith, b .0) in
-        long-in n (before next) (j % 256) (j / 256 % 256) (c .value) j (coded (c .place + 1) cs) (two-bytes j k) (ltb-false j 255 e) inside
-        ∙ on rest 4
 
 whole-entered : (ds : List Change) (next : ℕ) → whole (entered next ds) ≡ true
 unfolding whole

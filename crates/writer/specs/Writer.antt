@@ -3,13 +3,12 @@
 use Prim.Native.Nat.{ℕ, zero, suc, _+_, _-_, _≤_, _<_}
 use native.Mathlib.Omega.{arith}
 use mathlib.Core.Path.{_≡_, refl, sym, ap, _∙_, subst}
-use mathlib.Core.Bool.{Bool, true, false, cond}
+use mathlib.Core.Bool.{Bool, true, false}
 use mathlib.Core.List.{List, [], _∷_, _++_}
 use mathlib.Core.Logic.{_↔_, _⊎_, inl, inr}
 use lib.Dec.{eqb, ltb}
 use lib.ListN.{length, getD}
-use borrow.Author.Tests.{eqb-true, eqb-false, ltb-true, ltb-false}
-use Rattle.layout.specs.Numbers.{le}
+use borrow.Author.Tests.{eqb-true, eqb-false, ltb-true, ltb-false, lt-ltb, le-ltb}
 use Rattle.writer.specs.Differences.{Change, diffs, spelled, coded, written}
 use Rattle.payload.specs.Spelling.{Form, short, long, Spelt, takes, bytes, joined, Coded}
 
@@ -184,34 +183,41 @@ formFor : Bool → Form
 formFor true = short
 formFor false = long
 
+-- the code that takes a jump, and that the writer spells it so
+pub formOf : ℕ → Form
+formOf jump = formFor (ltb jump 255)
+
+pub form-takes : (jump : ℕ) → jump ≤ 65535 → takes (formOf jump) jump
+unfolding formOf formFor
+form-takes jump h = go (ltb jump 255) refl
+  where
+    go : (t : Bool) → ltb jump 255 ≡ t → takes (formFor t) jump
+    go true e =
+        let k : jump < 255 = ltb-true jump 255 e in
+        omega arith
+    go false e = (ltb-false jump 255 e, h)
+
+pub spelled-bytes : (f : Form) (j v : ℕ) → takes f j → spelled j v ≡ bytes f j v
+unfolding spelled
+spelled-bytes short j v t = rw (lt-ltb j 255 (omega arith))
+spelled-bytes long j v t = rw (le-ltb j 255 (t .0))
+
 spelt : ℕ → List Change → List Spelt
 spelt next [] = []
-spelt next (c ∷ cs) = record { jump = c .place - next; value = c .value; form = formFor (ltb (c .place - next) 255) }
+spelt next (c ∷ cs) = record { jump = c .place - next; value = c .value; form = formOf (c .place - next) }
     ∷ spelt (c .place + 1) cs
 
-spelt-joined : (ds : List Change) (next : ℕ) → coded next ds ≡ joined (spelt next ds)
-unfolding coded spelled spelt formFor
-spelt-joined [] next = refl
-spelt-joined (c ∷ cs) next = go (ltb (c .place - next) 255) (spelt-joined cs (c .place + 1))
-  where
-    go : (t : Bool) → coded (c .place + 1) cs ≡ joined (spelt (c .place + 1) cs)
-        → cond t ((c .place - next) ∷ c .value ∷ []) (255 ∷ (le 2 (c .place - next) ++ (c .value ∷ []))) ++ coded (c .place + 1) cs
-        ≡ bytes (formFor t) (c .place - next) (c .value) ++ joined (spelt (c .place + 1) cs)
-    go true r = ap (λ (l : List ℕ). (c .place - next) ∷ c .value ∷ l) r
-    go false r = ap (λ (l : List ℕ). (255 ∷ (le 2 (c .place - next) ++ (c .value ∷ []))) ++ l) r
-
 spelt-coded : (ds : List Change) (next : ℕ) → Below 65536 ds → Coded (spelt next ds)
-unfolding spelt formFor
+unfolding spelt
 spelt-coded [] next b = tt {0}
-spelt-coded (c ∷ cs) next b = (go (ltb (c .place - next) 255) refl, spelt-coded cs (c .place + 1) (b .1))
-  where
-    go : (t : Bool) → ltb (c .place - next) 255 ≡ t → takes (formFor t) (c .place - next)
-    go true e =
-        let h : c .place - next < 255 = ltb-true (c .place - next) 255 e in
-        omega arith
-    go false e =
-        let h : 255 ≤ c .place - next = ltb-false (c .place - next) 255 e in
-        (h, omega (arith, b .0))
+spelt-coded (c ∷ cs) next b = (form-takes (c .place - next) (omega (arith, b .0)), spelt-coded cs (c .place + 1) (b .1))
+
+spelt-joined : (ds : List Change) (next : ℕ) → Below 65536 ds → coded next ds ≡ joined (spelt next ds)
+unfolding coded spelt
+spelt-joined [] next b = refl
+spelt-joined (c ∷ cs) next b =
+    let j : ℕ = c .place - next in
+    λ i. spelled-bytes (formOf j) j (c .value) (form-takes j (omega (arith, b .0))) i ++ spelt-joined cs (c .place + 1) (b .1) i
 
 spelt-placed : (ds : List Change) (next : ℕ) → Rising next ds → placed next (spelt next ds) ≡ ds
 unfolding spelt
@@ -226,7 +232,7 @@ pub writer : (base page : List ℕ) → length page ≤ 65536 → Written base p
 unfolding written
 writer base page h = record {
   entries = spelt 0 (diffs 0 base page);
-  spells = spelt-joined (diffs 0 base page) 0;
+  spells = spelt-joined (diffs 0 base page) 0 (diffs-below 65536 0 base page (omega arith));
   coded = spelt-coded (diffs 0 base page) 0 (diffs-below 65536 0 base page (omega arith));
   places = spelt-placed (diffs 0 base page) 0 (diffs-rising 0 base page);
 }
