@@ -11,12 +11,13 @@
  *   the full area    whole pages, for blocks that differ in more than a slot can hold.
  *
  * thx_format makes both areas empty. A page is written with thx_write and read back with thx_read,
- * always together with its page in the base. thx_build checks a whole store and makes a map that
- * tells for each block where its page is. A program that keeps this map lends it to every write, by
- * thx_write_mapped, and may then read by it, with thx_read_mapped. thx_show and thx_next look into
- * a slot: where its bytes lie, and what they say. Both areas, the map and all pages are the
- * caller's memory. The library opens no file, allocates nothing and keeps nothing between two
- * calls.
+ * always together with its page in the base. Where the data file has become shorter, thx_cut drops
+ * the blocks past its end; thx_highest tells up to which block anything is kept. thx_build checks a
+ * whole store and makes a map that tells for each block where its page is. A program that keeps
+ * this map lends it to every write and every cut, by thx_write_mapped and thx_cut_mapped, and may
+ * then read by it, with thx_read_mapped. thx_show and thx_next look into a slot: where its bytes
+ * lie, and what they say. Both areas, the map and all pages are the caller's memory. The library
+ * opens no file, allocates nothing and keeps nothing between two calls.
  *
  *
  * LINKING
@@ -93,13 +94,14 @@
  *
  *   - begin with n / 4 bytes, rounded up, of zeros beside areas that were just formatted, or with
  *     the map that thx_build makes of areas that come from elsewhere, from disk for instance;
- *   - lend it to EVERY write from then on, by thx_write_mapped;
- *   - then it is, after each of these writes, the map that thx_build would make, and
- *     thx_read_mapped answers as thx_read does. A refused write leaves it as it is, and right.
+ *   - lend it to EVERY write from then on, by thx_write_mapped, and to EVERY cut, by
+ *     thx_cut_mapped;
+ *   - then it is, after each of these writes and cuts, the map that thx_build would make, and
+ *     thx_read_mapped answers as thx_read does. A refused one leaves it as it is, and right.
  *
  * Nothing in a map says which store it belongs to or how old it is, and thx_read_mapped trusts it.
- * A single write by thx_write, a thx_format, a map of another store, or areas put back to an
- * earlier state make it wrong, and a read by it is then mostly not refused:
+ * A single write by thx_write, a thx_cut, a thx_format, a map of another store, or areas put back
+ * to an earlier state make it wrong, and a read by it is then mostly not refused:
  *
  *   pair 0   gives the base, though the block was written: yesterday's page, in silence. The slot
  *            is not looked at.
@@ -107,8 +109,39 @@
  *   pair 2   is refused with 6 unless the slot is a sound PATCH slot; with another sound PATCH slot
  *            it is as right as that slot.
  *
- * Where a map may have missed a write, build it anew. Do not keep it in a file that can be older
- * than the areas: opening a store is the time to build it.
+ * Where a map may have missed a write or a cut, build it anew. Do not keep it in a file that can be
+ * older than the areas: opening a store is the time to build it.
+ *
+ *
+ * CUTTING A TABLE SHORT
+ *
+ * When a table is emptied, or its last pages are given back, PostgreSQL's file becomes shorter: it
+ * has k blocks now. thx_cut with this k drops block k and all blocks after it in one go. With a map
+ * that is kept it is thx_cut_mapped.
+ *
+ *   - After a cut each block from k on is EMPTY and reads as its base, whatever it held before: a
+ *     patch, a full page, a slot that was not sound, stray bytes. Blocks below k keep every byte.
+ *   - A block that was cut may be written and read over another base from then on. Only such a
+ *     block may: what is kept of any other was made over the base that it was written with.
+ *   - A cut does not shorten the buffers. n and m stay, and a block from k on can be written again
+ *     when the table grows. To have shorter areas, cut and then lend the first 512 + 512 * k bytes
+ *     of the patch area, the full area with no more than its first k places, and the map as before.
+ *     The library knows no files: in a file that is mapped, what was dropped is zeros and takes its
+ *     room as before. What was zeros before is not written to, so no hole is filled.
+ *   - The base is not cut along. While it still has its pages from k on, a block there reads as
+ *     last night's page and not as zeros, so do not read past the end of the data file. Where the
+ *     base file is cut at k as well, lend a base of length 0 for these blocks, as past the end of
+ *     any base: they read as zeros. Cut the store too, and before any of them is read or written: a
+ *     patch that is left there would be laid over zeros, a page that never was. Never cut the base
+ *     below k, since blocks below k need it.
+ *
+ * thx_highest tells how many blocks there are up to the last one of which anything is kept: one
+ * more than the highest block that is not EMPTY, or 0. After a cut at k it is k or less. THIS IS
+ * NOT ALWAYS THE LENGTH OF POSTGRESQL'S FILE. A page that equals its base is EMPTY, and past the
+ * base's end so is a page of zeros; where the file ends with such pages, thx_highest gives less
+ * than its length. It is the file's length where the file's last page differs from its base and all
+ * that was kept past the file's end has been cut. So keep the length elsewhere, and take
+ * thx_highest for what it is: from that block on there is nothing but the base.
  *
  *
  * ANSWERS
@@ -122,8 +155,8 @@
  *                             n is over 131,072
  *    3  THX_BAD_HEADER        magic, flags, sizes or zero bytes of a header are wrong
  *    4  THX_BAD_VERSION       the version in a header is wrong
- *    5  THX_BAD_BLOCK         the block is not below n
- *    6  THX_BAD_SLOT          the slot is not sound
+ *    5  THX_BAD_BLOCK         the block is not below n (a cut: k is above n)
+ *    6  THX_BAD_SLOT          the slot is not sound (thx_highest: some slot is not)
  *    7  THX_BAD_PAYLOAD       the payload is not sound (thx_next: no entry can be read here)
  *    8  THX_NO_FULL_PAGE      a full page is needed for a block that is not below m
  *    9  THX_SHORT_BUFFER      the payload buffer or the map buffer is too short
@@ -168,11 +201,11 @@
  * Threads. Two calls may run at the same time if no buffer that one of them writes is lent to the
  * other, not even a part of it. So calls that only read the same buffers may: for instance two of
  * thx_read on one store, into two pages. Two of thx_write on one store may not, even for different
- * blocks, nor two of thx_write_mapped with one map: four blocks share a byte of it. The library
- * takes no lock.
+ * blocks, nor two of thx_write_mapped with one map: four blocks share a byte of it. Nor may a cut
+ * beside any other call on its store. The library takes no lock.
  *
- * Numbers may be anything that their type holds: a block or an n that is too large is refused, and
- * thx_next takes any place and any position.
+ * Numbers may be anything that their type holds: a block, a k or an n that is too large is refused,
+ * and thx_next takes any place and any position.
  */
 #ifndef THONXILIKO_H
 #define THONXILIKO_H
@@ -234,6 +267,7 @@ typedef struct { uint32_t number; uint64_t block; uint32_t offset; } thx_built;
 typedef struct { uint32_t number, pair; } thx_pair;
 typedef struct { uint32_t number; uint64_t patch, full; } thx_tallied;
 typedef struct { uint32_t number, found; uint64_t at; int32_t position; uint32_t value; } thx_entry;
+typedef struct { uint32_t number; uint64_t blocks; } thx_extent; /* the highest block + 1, or 0 */
 
 /*
  * Format: make both areas new and empty.
@@ -366,8 +400,8 @@ thx_written thx_write(uint8_t *patch, size_t patch_len, uint8_t *full, size_t fu
 /*
  * Write with a map: keep `page` as the block's page, and the block's pair in `map`.
  *
- * The areas and the answer are those of thx_write. `map` is the store's own, lent to every write:
- * see A MAP THAT IS KEPT.
+ * The areas and the answer are those of thx_write. `map` is the store's own, lent to every write
+ * and every cut: see A MAP THAT IS KEPT.
  * Refuses, in this order: 1 if base_len is not 0 or 8,192 or page_len is not 8,192; 2 if the length
  * of an area is wrong; 9 if map_len is below n / 4, rounded up; 3 or 4 for the headers; 5 if the
  * block is not below n; 8 if the page needs the full area and the block is not below m.
@@ -383,8 +417,9 @@ thx_written thx_write_mapped(uint8_t *patch, size_t patch_len, uint8_t *full, si
 /*
  * Read by the map: fill `page` with a block as its pair in the map says.
  *
- * It trusts the map: with one that missed a write it can give yesterday's page. See A MAP THAT IS
- * KEPT. `base` is the block's page in the base, the same that it was written with.
+ * It trusts the map: with one that missed a write it can give yesterday's page, with one that
+ * missed a cut a page of zeros. See A MAP THAT IS KEPT. `base` is the block's page in the base, the
+ * same that it was written with.
  * Refuses, in this order: 1 if base_len is not 0 or 8,192 or page_len is not 8,192; 2 if the length
  * of an area is wrong; 9 if map_len is below n / 4, rounded up; 3 or 4 for the headers; 5 if the
  * block is not below n; 11 if the block's own pair is 3; and then
@@ -400,6 +435,47 @@ thx_written thx_write_mapped(uint8_t *patch, size_t patch_len, uint8_t *full, si
 thx_reading thx_read_mapped(const uint8_t *patch, size_t patch_len, const uint8_t *full,
                             size_t full_len, const uint8_t *map, size_t map_len, uint64_t block,
                             const uint8_t *base, size_t base_len, uint8_t *page, size_t page_len);
+
+/*
+ * Cut: drop block k and all blocks after it.
+ *
+ * Each of them then reads as its base. See CUTTING A TABLE SHORT.
+ * Refuses, in this order: 2 if the length of an area is wrong; 3 or 4 for the headers; 5 if k is
+ * above n. k may be n: then nothing changes. No slot, payload or place is looked at, so none can be
+ * at fault.
+ * Writes: zeros into the slots of blocks k to n - 1 and, as far as these blocks are below m, into
+ * their places in the full area. Nothing else: both headers and blocks below k keep every byte.
+ * Answers: the number alone.
+ */
+thx_done thx_cut(uint8_t *patch, size_t patch_len, uint8_t *full, size_t full_len, uint64_t k);
+
+/*
+ * Cut with a map: drop block k and all blocks after it, and their pairs in `map`.
+ *
+ * The areas are those of thx_cut. `map` is the store's own, lent to every write and every cut: see
+ * A MAP THAT IS KEPT.
+ * Refuses, in this order: 2 if the length of an area is wrong; 9 if map_len is below n / 4, rounded
+ * up, whatever k is; 3 or 4 for the headers; 5 if k is above n. k may be n: then nothing changes.
+ * No slot, payload, place or pair is looked at, so none can be at fault.
+ * Writes: what thx_cut writes; and 0 into the pairs of blocks k to n - 1. Nothing else of the map
+ * is changed: pairs of blocks below k, unused pairs of the last byte and later bytes stay, a 3
+ * among them too.
+ * Answers: the number alone.
+ */
+thx_done thx_cut_mapped(uint8_t *patch, size_t patch_len, uint8_t *full, size_t full_len,
+                        uint8_t *map, size_t map_len, uint64_t k);
+
+/*
+ * Highest: up to where anything is kept.
+ *
+ * It is not always the length of PostgreSQL's file. See CUTTING A TABLE SHORT.
+ * Refuses, in this order: 2 if patch_len is wrong; 3 or 4 for the patch header; 6 if any slot is
+ * not sound, wherever it stands; no block is named. The full area is not asked for, and payloads
+ * are not looked at.
+ * Writes: nothing.
+ * Answers: blocks, one more than the highest block whose slot is not EMPTY; 0 if all are EMPTY.
+ */
+thx_extent thx_highest(const uint8_t *patch, size_t patch_len);
 
 /*
  * Build: check every block and make the block map.

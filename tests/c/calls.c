@@ -42,10 +42,17 @@ static const struct {
     {"thx_write_mapped", BIT(PATCH) | BIT(FULL) | BIT(MAP) | BIT(BASE) | BIT(PAGE),
      BIT(PATCH) | BIT(FULL) | BIT(MAP)},
     {"thx_read_mapped", BIT(PATCH) | BIT(FULL) | BIT(MAP) | BIT(BASE) | BIT(PAGE), BIT(PAGE)},
+    {"thx_cut", BIT(PATCH) | BIT(FULL), BIT(PATCH) | BIT(FULL)},
+    {"thx_cut_mapped", BIT(PATCH) | BIT(FULL) | BIT(MAP), BIT(PATCH) | BIT(FULL) | BIT(MAP)},
+    {"thx_highest", BIT(PATCH), 0},
 };
 
 int takes(int call, int role) {
     return (calls[call].takes & BIT(role)) != 0;
+}
+
+int cuts(int call) {
+    return call == CUT || call == CUT_MAPPED;
 }
 
 static void set_scene(void) {
@@ -89,8 +96,8 @@ ask sound_ask(int call) {
 
 /* The bytes that a buffer has before the call, but for those made wrong. */
 static const uint8_t *before(const ask *a, int role) {
-    /* A write's areas and map hold the store; other buffers that are written may hold anything. */
-    int keeps = a->call == WRITE || a->call == WRITE_MAPPED;
+    /* For a write and a cut areas and map hold the store; others that are written hold anything. */
+    int keeps = a->call == WRITE || a->call == WRITE_MAPPED || cuts(a->call);
     if ((calls[a->call].writes & BIT(role)) != 0 && !keeps) {
         return old;
     }
@@ -141,6 +148,16 @@ static answer call_on_areas(const ask *a, uint8_t *const at[ROLES]) {
                                         len[MAP], a->block, at[BASE], len[BASE], at[PAGE],
                                         len[PAGE]);
         return give(r.number, r.kind, r.offset, 0, 0);
+    } else if (a->call == CUT) {
+        thx_done r = thx_cut(at[PATCH], len[PATCH], at[FULL], len[FULL], a->block);
+        return give(r.number, 0, 0, 0, 0);
+    } else if (a->call == CUT_MAPPED) {
+        thx_done r = thx_cut_mapped(at[PATCH], len[PATCH], at[FULL], len[FULL], at[MAP], len[MAP],
+                                    a->block);
+        return give(r.number, 0, 0, 0, 0);
+    } else if (a->call == HIGHEST) {
+        thx_extent r = thx_highest(at[PATCH], len[PATCH]);
+        return give(r.number, (int64_t)r.blocks, 0, 0, 0);
     } else {
         thx_built r = thx_build(at[PATCH], len[PATCH], at[FULL], len[FULL], at[MAP], len[MAP]);
         return give(r.number, (int64_t)r.block, r.offset, 0, 0);

@@ -3,7 +3,7 @@
  *
  * Most calls are made on one scene, a sound store of three blocks with pages and a map (calls.c).
  * An ask is a call with its lengths and numbers, perhaps with a few bytes made wrong. What an ask
- * without wrong bytes must give is in rules.c, written from document 01 and Request 02.
+ * without wrong bytes must give is in rules.c, written from document 01 and Requests 02 and 04.
  */
 #ifndef CHECK_H
 #define CHECK_H
@@ -16,7 +16,7 @@ void check(int holds, const char *what, const char *file, int line);
 
 enum {
     FORMAT, COMPARE, APPLY, JUDGE, SHOW, READ, WRITE, BUILD, LOOK_UP, TALLY, NEXT,
-    WRITE_MAPPED, READ_MAPPED, CALLS
+    WRITE_MAPPED, READ_MAPPED, CUT, CUT_MAPPED, HIGHEST, CALLS
 };
 enum { PATCH, FULL, BASE, PAGE, PAYLOAD, MAP, SLOT, ROLES };
 #define BIT(number) (1u << (number))
@@ -32,7 +32,7 @@ typedef struct {
     int call;
     size_t length[ROLES]; /* those of buffers that the call does not take are not used */
     uint64_t n;           /* for Look up and Tally; the others see n in the patch area */
-    uint64_t block;       /* it also chooses Compare's and Write's page and Judge's slot */
+    uint64_t block;       /* a cut's k; it also chooses Compare's and Write's page, Judge's slot */
     uint64_t at;          /* for Next */
     int32_t position;     /* for Next */
     uint8_t *nowhere;     /* the pointer lent for a buffer of length 0 */
@@ -46,8 +46,12 @@ typedef struct {
     int64_t rest[4];
 } answer;
 
-/* calls.c: whether a call takes a buffer; a sound ask; a call made, everything about it checked. */
+/*
+ * calls.c: whether a call takes a buffer; whether it is a cut; a sound ask; a call made, everything
+ * about it checked.
+ */
 int takes(int call, int role);
+int cuts(int call);
 ask sound_ask(int call);
 void try_call(const ask *asked, const answer *wanted);
 
@@ -55,12 +59,15 @@ void try_call(const ask *asked, const answer *wanted);
 answer answer_of(const ask *asked);
 void change(const ask *asked, uint8_t *const bytes[ROLES]);
 
-/* refusals.c, lengths.c, payloads.c and maps.c: tests. */
+/* refusals.c, lengths.c, payloads.c, maps.c and cuts.c: tests. */
 void every_refusal(void);
+void every_fault_left(void);
 void every_length(void);
 void every_number(void);
 void every_step(void);
 void every_payload(void);
 void every_map(void);
+void every_cut(void);
+void every_highest(void);
 
 #endif

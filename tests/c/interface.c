@@ -73,6 +73,7 @@ static void structs(void) {
     CHECK(sizeof(thx_entry) == 24 && offsetof(thx_entry, found) == 4);
     CHECK(offsetof(thx_entry, at) == 8 && offsetof(thx_entry, position) == 16);
     CHECK(offsetof(thx_entry, value) == 20);
+    CHECK(sizeof(thx_extent) == 16 && offsetof(thx_extent, blocks) == 8);
 }
 
 static const uint8_t stream[2] = {0x00, 0x07};
@@ -184,6 +185,38 @@ static void example_kept_map(void) {
     CHECK(again[0] == 7 && memcmp(again + 1, base + 1, sizeof again - 1) == 0);
 }
 
+/* The same store cut short at block 1, and then emptied; the example is left as it was found. */
+static void example_cut(void) {
+    static uint8_t patch_before[sizeof patch], full_before[sizeof full];
+    static uint8_t kept[1] = {0x09};
+    thx_extent extent;
+
+    memcpy(patch_before, patch, sizeof patch);
+    memcpy(full_before, full, sizeof full);
+    extent = thx_highest(patch, sizeof patch);
+    CHECK(extent.number == THX_DONE && extent.blocks == 2);
+    CHECK(thx_cut(patch, sizeof patch, full, sizeof full, 3).number == THX_BAD_BLOCK);
+    CHECK(thx_cut(patch, sizeof patch, full, sizeof full, 2).number == THX_DONE);
+    CHECK(memcmp(patch, patch_before, sizeof patch) == 0);
+    CHECK(memcmp(full, full_before, sizeof full) == 0);
+
+    CHECK(thx_cut_mapped(patch, sizeof patch, full, sizeof full, kept, sizeof kept, 1).number
+          == THX_DONE);
+    CHECK(kept[0] == 0x01 && memcmp(patch, patch_before, 1024) == 0);
+    CHECK(thx_judge(patch + 1024, THX_SLOT_SIZE).kind == THX_KIND_EMPTY);
+    CHECK(memcmp(full, full_before, sizeof full) == 0); /* block 1 had no full page */
+    extent = thx_highest(patch, sizeof patch);
+    CHECK(extent.number == THX_DONE && extent.blocks == 1);
+
+    CHECK(thx_cut(patch, sizeof patch, full, sizeof full, 0).number == THX_DONE);
+    CHECK(memcmp(patch, patch_before, 512) == 0 && memcmp(full, full_before, 4096) == 0);
+    CHECK(full[4096] == 0 && memcmp(full + 4096, full + 4097, sizeof full - 4097) == 0);
+    extent = thx_highest(patch, sizeof patch);
+    CHECK(extent.number == THX_DONE && extent.blocks == 0);
+    memcpy(patch, patch_before, sizeof patch);
+    memcpy(full, full_before, sizeof full);
+}
+
 /* Buffers that a call only reads may be the same or overlap. */
 static void overlap(void) {
     thx_reading reading;
@@ -280,6 +313,31 @@ static void largest_map(uint8_t *area, size_t length, uint8_t *bits) {
           == THX_KIND_EMPTY);
 }
 
+/* The same area cut at its end, before its last block and at its beginning; its highest block. */
+static void largest_cut(uint8_t *area, size_t length, uint8_t *bits) {
+    CHECK(thx_highest(area, length).blocks == 131072);
+    CHECK(thx_cut(area, length, NULL, 0, 131073).number == THX_BAD_BLOCK);
+    CHECK(thx_cut(area, length, NULL, 0, 131072).number == THX_DONE);
+    CHECK(thx_cut_mapped(area, length, NULL, 0, bits, 32767, 131072).number == THX_SHORT_BUFFER);
+    CHECK(thx_cut_mapped(area, length, NULL, 0, bits, 32768, 131073).number == THX_BAD_BLOCK);
+    CHECK(thx_cut_mapped(area, length, NULL, 0, bits, 32768, 131072).number == THX_DONE);
+    CHECK(area[67108864] == 1 && bits[32767] == 0xA0);
+    CHECK(thx_cut_mapped(area, length, NULL, 0, bits, 32768, 131071).number == THX_DONE);
+    CHECK(bits[0] == 0 && memcmp(bits, bits + 1, 32766) == 0 && bits[32767] == 0x20);
+    CHECK(area[67108864] == 0 && memcmp(area + 67108864, area + 67108865, 511) == 0);
+    CHECK(area[67108352] == 1 && thx_highest(area, length).blocks == 131071);
+    area[67109375] = 1; /* the very last byte */
+    CHECK(thx_highest(area, length).number == THX_BAD_SLOT);
+    CHECK(thx_highest(area, length).blocks == 0);
+    CHECK(thx_cut_mapped(area, length, NULL, 0, bits, 32768, 0).number == THX_DONE);
+    CHECK(memcmp(area, "PBKPATCH\2", 9) == 0 && bits[32767] == 0);
+    CHECK(area[512] == 0 && memcmp(area + 512, area + 513, length - 513) == 0);
+    CHECK(thx_highest(area, length).number == THX_DONE);
+    CHECK(thx_highest(area, length).blocks == 0);
+    CHECK(thx_write(area, length, NULL, 0, 131071, NULL, 0, again, 8192).length == 4);
+    CHECK(thx_highest(area, length).blocks == 131072);
+}
+
 /* The same area with a block more is refused by every call that takes it. */
 static void too_large_area(uint8_t *area, size_t length, uint8_t *bits) {
     thx_part part = thx_show(area, length, 131071);
@@ -295,6 +353,10 @@ static void too_large_area(uint8_t *area, size_t length, uint8_t *bits) {
     CHECK(thx_read_mapped(area, length, NULL, 0, bits, 32768, 0, NULL, 0, page, 8192).number
           == THX_BAD_AREA_LENGTH);
     CHECK(thx_format(area, length, NULL, 0).number == THX_BAD_AREA_LENGTH);
+    CHECK(thx_cut(area, length, NULL, 0, 0).number == THX_BAD_AREA_LENGTH);
+    CHECK(thx_cut_mapped(area, length, NULL, 0, bits, 32768, 0).number == THX_BAD_AREA_LENGTH);
+    CHECK(thx_highest(area, length).number == THX_BAD_AREA_LENGTH);
+    CHECK(thx_highest(area, length).blocks == 0);
     CHECK(memcmp(area, "PBKPATCH\2", 9) == 0 && area[67108864] == 1);
 }
 
@@ -309,6 +371,7 @@ static void largest(void) {
     memset(bits, 0xEE, 32768);
     largest_area(area, length, bits);
     largest_map(area, length, bits);
+    largest_cut(area, length, bits);
     too_large_area(area, length + 512, bits);
     free(area);
     free(bits);
@@ -322,15 +385,19 @@ int main(void) {
         example_block();
         example_map();
         example_kept_map();
+        example_cut();
         overlap();
         sizes();
         largest();
         every_refusal();
+        every_fault_left();
         every_length();
         every_number();
         every_step();
         every_payload();
         every_map();
+        every_cut();
+        every_highest();
     }
     printf("%lu checks, %lu failed\n", checks, failures);
     return failures == 0 ? EXIT_SUCCESS : EXIT_FAILURE;

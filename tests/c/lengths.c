@@ -38,7 +38,8 @@ void every_length(void) {
             if (!takes(call, role)) {
                 continue;
             }
-            for (a.block = 0; a.block < 3; a.block++) {
+            /* A cut at 3, which is n, changes nothing and is refused as any other. */
+            for (a.block = 0; a.block < (cuts(call) ? 4u : 3u); a.block++) {
                 sweep(a, role);
                 if (takes(call, MAP) && takes(call, PATCH) && role == PATCH) {
                     ask longer = a; /* enough for every length of the patch area */
@@ -132,7 +133,7 @@ static void blocks_of_a_store(ask a) {
     size_t block, patch, full;
     for (block = 0; block < NUMBERS; block++) {
         for (patch = 0; patch < 5; patch++) {
-            for (full = 0; full < (a.call == SHOW ? 1 : 5); full++) {
+            for (full = 0; full < (takes(a.call, FULL) ? 5 : 1); full++) {
                 a.block = numbers[block];
                 a.length[PATCH] = patches[patch];
                 a.length[FULL] = fulls[full];
@@ -175,6 +176,10 @@ void every_number(void) {
         } else if (call == WRITE_MAPPED || call == READ_MAPPED) {
             blocks_of_a_mapped_store(a);
             a.length[BASE] = 0;
+            blocks_of_a_mapped_store(a);
+        } else if (call == CUT) {
+            blocks_of_a_store(a);
+        } else if (call == CUT_MAPPED) {
             blocks_of_a_mapped_store(a);
         }
     }

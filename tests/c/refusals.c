@@ -24,9 +24,11 @@ typedef struct {
 
 #define MAPPED (BIT(WRITE_MAPPED) | BIT(READ_MAPPED))
 #define PAGES (BIT(COMPARE) | BIT(APPLY) | BIT(READ) | BIT(WRITE) | MAPPED)
-#define AREAS (BIT(READ) | BIT(WRITE) | BIT(BUILD) | MAPPED)
+#define CUTS (BIT(CUT) | BIT(CUT_MAPPED))
+#define AREAS (BIT(READ) | BIT(WRITE) | BIT(BUILD) | MAPPED | CUTS)
+#define PATCHES (AREAS | BIT(SHOW) | BIT(HIGHEST))
 #define BLOCKS (BIT(SHOW) | BIT(READ) | BIT(WRITE) | MAPPED)
-#define SLOTS (BIT(SHOW) | BIT(READ) | BIT(BUILD))
+#define SLOTS (BIT(SHOW) | BIT(READ) | BIT(BUILD) | BIT(HIGHEST))
 #define READS (BIT(READ) | BIT(READ_MAPPED))
 #define MAPS (BIT(LOOK_UP) | BIT(TALLY))
 
@@ -37,19 +39,19 @@ typedef struct {
 static const row rows[] = {
     {PAGES, THX_BAD_PAGE_LENGTH, 1, LENGTH, BASE, 8191, 0, ANY, 0},
     {PAGES, THX_BAD_PAGE_LENGTH, 1, LENGTH, PAGE, 8191, 0, ANY, 0},
-    {AREAS | BIT(FORMAT) | BIT(SHOW), THX_BAD_AREA_LENGTH, 2, LENGTH, PATCH, 2047, 0, ANY, 0},
+    {PATCHES | BIT(FORMAT), THX_BAD_AREA_LENGTH, 2, LENGTH, PATCH, 2047, 0, ANY, 0},
     {AREAS | BIT(FORMAT), THX_BAD_AREA_LENGTH, 2, LENGTH, FULL, 4095, 0, ANY, 0},
     {AREAS | BIT(FORMAT), THX_BAD_AREA_LENGTH, 2, LENGTH, FULL, 36864, 0, ANY, 0}, /* m over n */
     {BIT(JUDGE), THX_BAD_AREA_LENGTH, 2, LENGTH, SLOT, 511, 0, ANY, 0},
     {MAPS, THX_BAD_AREA_LENGTH, 2, COUNT, 0, 131073, 0, ANY, 0},
     {BIT(COMPARE), THX_SHORT_BUFFER, 9, LENGTH, PAYLOAD, 503, 0, ANY, 0},
-    {MAPS | BIT(BUILD) | MAPPED, THX_SHORT_BUFFER, 9, LENGTH, MAP, 0, 0, ANY, 0},
-    {AREAS | BIT(SHOW), THX_BAD_HEADER, 3, BYTE, PATCH, 0, 'b', ANY, 0},
-    {AREAS | BIT(SHOW), THX_BAD_VERSION, 4, BYTE, PATCH, 8, 1, ANY, 0},
-    {AREAS | BIT(SHOW), THX_BAD_HEADER, 3, BYTE, PATCH, 10, 1, ANY, 0},
-    {AREAS | BIT(SHOW), THX_BAD_HEADER, 3, BYTE, PATCH, 13, 0, ANY, 0},
-    {AREAS | BIT(SHOW), THX_BAD_HEADER, 3, BYTE, PATCH, 17, 0, ANY, 0},
-    {AREAS | BIT(SHOW), THX_BAD_HEADER, 3, BYTE, PATCH, 511, 1, ANY, 0},
+    {MAPS | BIT(BUILD) | MAPPED | BIT(CUT_MAPPED), THX_SHORT_BUFFER, 9, LENGTH, MAP, 0, 0, ANY, 0},
+    {PATCHES, THX_BAD_HEADER, 3, BYTE, PATCH, 0, 'b', ANY, 0},
+    {PATCHES, THX_BAD_VERSION, 4, BYTE, PATCH, 8, 1, ANY, 0},
+    {PATCHES, THX_BAD_HEADER, 3, BYTE, PATCH, 10, 1, ANY, 0},
+    {PATCHES, THX_BAD_HEADER, 3, BYTE, PATCH, 13, 0, ANY, 0},
+    {PATCHES, THX_BAD_HEADER, 3, BYTE, PATCH, 17, 0, ANY, 0},
+    {PATCHES, THX_BAD_HEADER, 3, BYTE, PATCH, 511, 1, ANY, 0},
     {AREAS, THX_BAD_HEADER, 3, BYTE, FULL, 7, 'L', ANY, 0},
     {AREAS, THX_BAD_VERSION, 4, BYTE, FULL, 8, 2, ANY, 0},
     {AREAS, THX_BAD_HEADER, 3, BYTE, FULL, 11, 1, ANY, 0},
@@ -58,6 +60,7 @@ static const row rows[] = {
     {AREAS, THX_BAD_HEADER, 3, BYTE, FULL, 4095, 1, ANY, 0},
     {BLOCKS, THX_BAD_BLOCK, 5, BLOCK, 0, 0, 0, 5, 0}, /* a large page */
     {BIT(LOOK_UP) | MAPPED, THX_BAD_BLOCK, 5, BLOCK, 0, 0, 0, 3, 0},
+    {CUTS, THX_BAD_BLOCK, 5, BLOCK, 0, 0, 0, 4, 0}, /* k above n; k = 3 is none */
     {BIT(READ_MAPPED), THX_BAD_PAIR, 11, BYTE, MAP, 0, 0x07, 0, 0},
     {BIT(READ_MAPPED), THX_BAD_PAIR, 11, BYTE, MAP, 0, 0x0E, 1, 0},
     {BIT(READ_MAPPED), THX_BAD_PAIR, 11, BYTE, MAP, 0, 0x36, 2, 0},
@@ -178,6 +181,31 @@ void every_refusal(void) {
                     if ((rows[lower].calls & BIT(call)) != 0) {
                         try_both(call, &rows[upper], &rows[lower]);
                     }
+                }
+            }
+        }
+    }
+}
+
+/*
+ * What a call does not look at is no fault. A cut is done whatever the slots, payloads, places and
+ * pairs are, in the blocks that it drops and in those that it keeps; highest is done whatever the
+ * payloads are.
+ */
+void every_fault_left(void) {
+    static const int calls[] = {CUT, CUT_MAPPED, HIGHEST};
+    size_t call, at;
+    for (call = 0; call < 3; call++) {
+        for (at = 0; at < ROWS; at++) {
+            const row *r = &rows[at];
+            int byte = r->sort == BYTE || r->sort == SHORT_JUMP;
+            if (byte && takes(calls[call], r->role) && (r->calls & BIT(calls[call])) == 0) {
+                ask a = sound_ask(calls[call]);
+                spoil(&a, r);
+                for (a.block = 0; a.block <= 3; a.block++) {
+                    answer wanted = answer_of(&a);
+                    CHECK(wanted.number == THX_DONE);
+                    try_call(&a, &wanted);
                 }
             }
         }

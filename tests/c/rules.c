@@ -137,6 +137,10 @@ static uint32_t later_refusal(const ask *a) {
     if (has_block && a->block >= blocks(a)) {
         return THX_BAD_BLOCK;
     }
+    /* A cut at n is none, but no fault. */
+    if (cuts(a->call) && a->block > blocks(a)) {
+        return THX_BAD_BLOCK;
+    }
     /* Where the map says PATCH the slot must be one. */
     if (a->call == READ_MAPPED && pair_of(a->block) == THX_PAIR_PATCH
         && slot_kind(a->block) != THX_KIND_PATCH) {
@@ -190,6 +194,9 @@ static void set_members(const ask *a, int64_t rest[4]) {
     } else if (a->call == TALLY) {
         rest[0] = (int64_t)(a->n + 3) / 4;
         rest[1] = (int64_t)(a->n + 2) / 4;
+    } else if (a->call == HIGHEST) {
+        /* Blocks 0 and 1 are not EMPTY, every later one is. */
+        rest[0] = blocks(a) < 2 ? (int64_t)blocks(a) : 2;
     } else if (a->call == NEXT && !at_end(a)) {
         rest[0] = 1;
         rest[1] = (int64_t)a->at + 2;
@@ -276,6 +283,21 @@ static void pair_bytes(const ask *a, uint8_t *const bytes[ROLES]) {
     *byte = (uint8_t)((*byte & others[a->block % 4]) | own[page_difference(a)->kind][a->block % 4]);
 }
 
+/* Slots, places and pairs of blocks k and up, block by block; other pairs of the map stay. */
+static void cut_bytes(const ask *a, uint8_t *const bytes[ROLES]) {
+    static const uint8_t others[4] = {0xFC, 0xF3, 0xCF, 0x3F};
+    uint64_t block;
+    for (block = a->block; block < blocks(a); block++) {
+        memset(bytes[PATCH] + 512 + 512 * block, 0, 512);
+        if (block < places(a)) {
+            memset(bytes[FULL] + 4096 + 8192 * block, 0, 8192);
+        }
+        if (a->call == CUT_MAPPED) {
+            bytes[MAP][block / 4] = (uint8_t)(bytes[MAP][block / 4] & others[block % 4]);
+        }
+    }
+}
+
 void change(const ask *a, uint8_t *const bytes[ROLES]) {
     if (a->call == FORMAT) {
         format_bytes(a, bytes);
@@ -288,6 +310,8 @@ void change(const ask *a, uint8_t *const bytes[ROLES]) {
     } else if (a->call == WRITE_MAPPED) {
         write_bytes(a, bytes);
         pair_bytes(a, bytes);
+    } else if (cuts(a->call)) {
+        cut_bytes(a, bytes);
     } else if (a->call == BUILD) {
         memset(bytes[MAP], 0, (blocks(a) + 3) / 4);
         if (blocks(a) > 0) {

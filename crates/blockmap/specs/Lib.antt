@@ -6,6 +6,7 @@ pub mod Pack
 pub mod PackLaws
 pub mod SetPair
 pub mod SetLaws
+pub mod ClearLaws
 pub mod Calls
 pub mod CallLaws
 pub mod Given

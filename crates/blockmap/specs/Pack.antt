@@ -1,4 +1,4 @@
--- Making a map: the pair of a kind, four pairs in a byte, the map of n blocks with given pairs, and one pair set.
+-- Making a map: the pair of a kind, four pairs in a byte, the map of n blocks with given pairs, one pair set, and some pairs cleared.
 use Prim.Native.Nat.{ℕ, zero, suc, _+_, _*_, _/_, _%_}
 use mathlib.Core.Bool.{cond}
 use mathlib.Core.List.{List, [], _∷_, _++_}
@@ -48,3 +48,10 @@ withPair x k v =
 -- a map with the pair of block b set to v; one that does not reach to block b stays as it is
 unfoldable pub setPair : List ℕ → ℕ → ℕ → List ℕ
 setPair map b v = set map (b / 4) (withPair (getD map (b / 4) 0) (b % 4) v)
+
+-- Some pairs cleared
+
+-- a map with the pairs of `count` blocks from block b on set to 0
+unfoldable pub clearPairs : List ℕ → ℕ → ℕ → List ℕ
+clearPairs map b zero = map
+clearPairs map b (suc count) = setPair (clearPairs map b count) (b + count) 0

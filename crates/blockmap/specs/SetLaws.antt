@@ -98,7 +98,7 @@ module _ (map : List ℕ) (b v : ℕ) where
   unfolding setPair
   set-length = length-set map (b / 4) (withPair (getD map (b / 4) 0) (b % 4) v)
 
-  set-other-byte : (i : ℕ) → (i ≡ b / 4 → ⊥) → getD (setPair map b v) i 0 ≡ getD map i 0
+  pub set-other-byte : (i : ℕ) → (i ≡ b / 4 → ⊥) → getD (setPair map b v) i 0 ≡ getD map i 0
   unfolding setPair
   set-other-byte i h = getD-set-other map (b / 4) i (withPair (getD map (b / 4) 0) (b % 4) v) 0 h
 
@@ -107,7 +107,7 @@ module _ (map : List ℕ) (b v : ℕ) where
   set-short h = set-out map (b / 4) (withPair (getD map (b / 4) 0) (b % 4) v) h
 
   module _ (reaches : b / 4 < length map) where
-    set-own-byte : getD (setPair map b v) (b / 4) 0 ≡ withPair (getD map (b / 4) 0) (b % 4) v
+    pub set-own-byte : getD (setPair map b v) (b / 4) 0 ≡ withPair (getD map (b / 4) 0) (b % 4) v
     unfolding setPair
     set-own-byte = getD-set-same map (b / 4) (withPair (getD map (b / 4) 0) (b % 4) v) 0 reaches
 

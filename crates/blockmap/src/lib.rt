@@ -5,11 +5,14 @@ use layout::Kind;
 use layout::Layout;
 use layout::Refusal;
 ghost use mathlib.Core.Path.{_≡_};
+ghost use mathlib.Core.Bool.{cond};
 ghost use Prim.Native.Nat.{_+_, _-_, _*_, _/_, _%_, _^_};
+ghost use lib.Dec.{leb};
+ghost use lib.ListN.{length};
 ghost use Rattle.layout.specs.Sizes.{pageSize};
 ghost use Rattle.layout.specs.Numbers.{kindNumber};
 ghost use Rattle.blockmap.specs.Pairs.{mapBytes, someUsed};
-ghost use Rattle.blockmap.specs.Pack.{byteOf, pairOf, kindOf, withPair, setPair};
+ghost use Rattle.blockmap.specs.Pack.{byteOf, pairOf, kindOf, withPair, setPair, clearPairs};
 ghost use Rattle.blockmap.specs.Calls.{LookUp, Tally};
 
 // The pairs of the three kinds, and the one that no block may have.
@@ -100,6 +103,36 @@ pub fn set_pair(map: &mut [u8], block: usize, pair: u8)
         return;
     }
     map[at] = with_pair(map[at], block, pair);
+}
+
+// The pairs of blocks `from` and up, below `to`, become 0, one by one.
+fn clear_each(map: &mut [u8], from: usize, to: usize)
+    ensures { λ _. ⌜ now (map .exit) ≡ clearPairs (now (map .entry)) from (to - from) ⌝ }
+{
+    let mut block = from;
+    while block < to {
+        set_pair(map, block, EMPTY);
+        block += 1;
+    }
+}
+
+// The same, whole bytes at one go: one by one only in a byte that other blocks have pairs in. A map of fewer than `to` blocks stays whole.
+pub fn clear_pairs(map: &mut [u8], from: usize, to: usize)
+    ensures { λ _. ⌜ now (map .exit) ≡ cond (leb (mapBytes to) (length (now (map .entry))))
+        (clearPairs (now (map .entry)) from (to - from)) (now (map .entry)) ⌝ }
+{
+    if map.len() < map_bytes(to) {
+        return;
+    }
+    let first = map_bytes(from);
+    let last = to / 4;
+    if last <= first {
+        clear_each(map, from, to);
+        return;
+    }
+    clear_each(map, from, 4 * first);
+    span::fill(&mut map[first..last]);
+    clear_each(map, 4 * last, to);
 }
 
 // The pairs of a byte from a block's own on, this one in the lowest bits.

@@ -1,6 +1,8 @@
 // What the program prints of its calls' answers.
 use building::Built;
 use cases::say;
+use cutting::Extent;
+use cutting::Shortened;
 use reading::Reading;
 use store::Formatted;
 use writing::Written;
@@ -54,6 +56,29 @@ pub(crate) fn built(answer: Built) {
             say::refused(refusal);
             say::number(block as u64);
             say::number(offset as u64);
+        }
+    }
+}
+
+pub(crate) fn shortened(answer: Shortened) {
+    match answer {
+        Shortened::Done => {
+            say::number(0);
+        }
+        Shortened::Refused(r) => {
+            say::refused(r);
+        }
+    }
+}
+
+pub(crate) fn extent(answer: Extent) {
+    match answer {
+        Extent::Done { blocks } => {
+            say::number(0);
+            say::number(blocks as u64);
+        }
+        Extent::Refused(r) => {
+            say::refused(r);
         }
     }
 }

@@ -29,13 +29,20 @@ const MAPPED: u8 = b'm';
 
 const KEEP: u8 = b'k';
 
-// Room for a byte more than five blocks or two full pages have.
-const PATCH_ROOM: usize = Layout::PATCH_HEAD + 5 * Layout::SLOT + 1;
+// Cut, and Cut with the map.
+const CUT: u8 = b'c';
+
+const TRIM: u8 = b't';
+
+const HIGHEST: u8 = b'h';
+
+// Room for a byte more than nine blocks or two full pages have.
+const PATCH_ROOM: usize = Layout::PATCH_HEAD + 9 * Layout::SLOT + 1;
 
 const FULL_ROOM: usize = Layout::FULL_HEAD + 2 * Layout::PAGE + 1;
 
-// Room for two bytes more than the map of five blocks has.
-const MAP_ROOM: usize = 4;
+// Room for two bytes more than the map of nine blocks has.
+const MAP_ROOM: usize = 5;
 
 // show | name | patch | full | block. The full area is not lent.
 fn show(line: &[u8], patch: &[u8]) {
@@ -135,6 +142,16 @@ fn write(call: u8, line: &[u8], patch: &mut [u8], full: &mut [u8], map: &mut [u8
     ));
 }
 
+// cut | name | patch | full | k, and trim with three more, of which the first two are empty, | | | map
+fn cut(call: u8, line: &[u8], patch: &mut [u8], full: &mut [u8], map: &mut [u8]) {
+    let k = fields::number(field(line, 4));
+    if call == TRIM {
+        answers::shortened(cutting::mapped::cut_mapped(patch, full, map, k));
+        return;
+    }
+    answers::shortened(cutting::cut(patch, full, k));
+}
+
 // The calls that change the areas, of which format | name | patch | full takes nothing else. It answers whether this was one.
 fn store(call: u8, line: &[u8], patch: &mut [u8], full: &mut [u8], map: &mut [u8]) -> bool {
     if call == FORMAT {
@@ -143,6 +160,10 @@ fn store(call: u8, line: &[u8], patch: &mut [u8], full: &mut [u8], map: &mut [u8
     }
     if call == WRITE || call == KEEP {
         write(call, line, patch, full, map);
+        return true;
+    }
+    if call == CUT || call == TRIM {
+        cut(call, line, patch, full, map);
         return true;
     }
     false
@@ -155,7 +176,7 @@ fn copied(lent: &[u8]) -> [u8; FULL_ROOM] {
     bytes
 }
 
-// Makes such a call, and tells what it changed. Only one of them is lent the map.
+// Makes such a call, and tells what it changed. Only two of them are lent the map.
 fn change(call: u8, line: &[u8], patch: &mut [u8], full: &mut [u8], map: &mut [u8]) {
     let patch_was = copied(patch);
     let full_was = copied(full);
@@ -164,12 +185,12 @@ fn change(call: u8, line: &[u8], patch: &mut [u8], full: &mut [u8], map: &mut [u
         delta(b"patch", &patch_was, patch);
         delta(b"full", &full_was, full);
     }
-    if call == KEEP {
+    if call == KEEP || call == TRIM {
         delta(b"map", &map_was, map);
     }
 }
 
-// The calls that change no area.
+// The calls that change no area, of which highest | name | patch takes nothing else. It is not lent the full area.
 fn look(call: u8, line: &[u8], patch: &[u8], full: &[u8], map: &[u8]) {
     if call == SHOW {
         show(line, patch);
@@ -179,6 +200,9 @@ fn look(call: u8, line: &[u8], patch: &[u8], full: &[u8], map: &[u8]) {
     }
     if call == BUILD {
         build(line, patch, full);
+    }
+    if call == HIGHEST {
+        answers::extent(cutting::highest::highest(patch));
     }
 }
 

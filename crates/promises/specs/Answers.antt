@@ -11,6 +11,12 @@ use Rattle.store.specs.declared.Judged.{Judged}
 use Rattle.store.specs.declared.Judged.the-variants.{Done as JudgedDone, Refused as JudgedRefused}
 use Rattle.reading.specs.declared.Reading.{Reading}
 use Rattle.reading.specs.declared.Reading.the-variants.{Done as ReadingDone, Refused as ReadingRefused}
+use Rattle.cutting.specs.Cut.{shortenedNumber}
+use Rattle.cutting.specs.Highest.{HighestNumbers, extentNumbers}
+use Rattle.cutting.specs.declared.Shortened.{Shortened}
+use Rattle.cutting.specs.declared.Shortened.the-variants.{Done as ShortenedDone, Refused as ShortenedRefused}
+use Rattle.cutting.specs.declared.Extent.{Extent}
+use Rattle.cutting.specs.declared.Extent.the-variants.{Done as ExtentDone, Refused as ExtentRefused}
 use Rattle.writing.specs.declared.Written.{Written}
 use Rattle.writing.specs.declared.Written.the-variants.{Done as WrittenDone, Refused as WrittenRefused}
 
@@ -38,3 +44,15 @@ written-one (WrittenDone k n) (WrittenDone j m) e = λ i. WrittenDone (kind-one 
 written-one (WrittenDone k n) (WrittenRefused r) e = absurd (refusal-some r (sym (ap (λ (x : WriteNumbers). x .number) e)))
 written-one (WrittenRefused r) (WrittenDone k n) e = absurd (refusal-some r (ap (λ (x : WriteNumbers). x .number) e))
 written-one (WrittenRefused r) (WrittenRefused q) e = ap WrittenRefused (refusal-one r q (ap (λ (x : WriteNumbers). x .number) e))
+
+pub shortened-one : (a b : Shortened) → shortenedNumber a ≡ shortenedNumber b → a ≡ b
+shortened-one ShortenedDone ShortenedDone e = refl
+shortened-one ShortenedDone (ShortenedRefused r) e = absurd (refusal-some r (sym e))
+shortened-one (ShortenedRefused r) ShortenedDone e = absurd (refusal-some r e)
+shortened-one (ShortenedRefused r) (ShortenedRefused q) e = ap ShortenedRefused (refusal-one r q e)
+
+pub extent-one : (a b : Extent) → extentNumbers a ≡ extentNumbers b → a ≡ b
+extent-one (ExtentDone m) (ExtentDone n) e = ap ExtentDone (ap (λ (x : HighestNumbers). x .blocks) e)
+extent-one (ExtentDone m) (ExtentRefused r) e = absurd (refusal-some r (sym (ap (λ (x : HighestNumbers). x .number) e)))
+extent-one (ExtentRefused r) (ExtentDone n) e = absurd (refusal-some r (ap (λ (x : HighestNumbers). x .number) e))
+extent-one (ExtentRefused r) (ExtentRefused q) e = ap ExtentRefused (refusal-one r q (ap (λ (x : HighestNumbers). x .number) e))

@@ -4,7 +4,8 @@
 -- That every call takes anything and ends is what the prover checks: no call has a `requires`. The rest stands here, over the predicates
 -- that the contracts cite: each number is given exactly when its condition holds and no earlier one does; and where the answer's number
 -- is not 0, every lent byte is as it was, and the other numbers of the answer are 0, "except that Build gives the block with 6, 7, 8 and
--- 10", and Apply, both reads and Build the payload offset with 7. Judge, Look up and Tally are lent nothing to write.
+-- 10", and Apply, both reads and Build the payload offset with 7. Judge, Highest, Look up and Tally are lent nothing to write; Cut answers
+-- its number alone.
 use Prim.Native.Nat.{ℕ, _≤_}
 use native.Mathlib.Omega.{arith}
 use mathlib.Core.Path.{_≡_, refl, sym, ap, _∙_, subst}
@@ -42,6 +43,13 @@ use Rattle.reading.specs.Mapped.{readMappedRows, ReadMapped}
 use Rattle.writing.specs.Write.{WriteNumbers, writeRows, writtenNumbers, Write}
 use Rattle.writing.specs.Mapped.{writeMappedRows, WriteMapped}
 use Rattle.building.specs.Build.{faultRows, blockFault, BuildNumbers, builtNumbers, Build}
+use Rattle.cutting.specs.Cut.{cutRows, shortenedNumber, Cut}
+use Rattle.cutting.specs.Mapped.{cutMappedRows, CutMapped}
+use Rattle.cutting.specs.Highest.{highestRows, extentNumbers, Highest}
+use Rattle.cutting.specs.Given.{cut-exactly, cut-mapped-exactly, highest-exactly}
+use Rattle.cutting.specs.declared.Shortened.{Shortened}
+use Rattle.cutting.specs.declared.Extent.{Extent}
+use Rattle.cutting.specs.declared.Extent.the-variants.{Done as ExtentDone, Refused as ExtentRefused}
 use Rattle.store.specs.Given.{format-exactly, judge-exactly, show-exactly, show-some}
 use Rattle.reading.specs.Given.{read-exactly, read-told, read-mapped-exactly, read-mapped-told}
 use Rattle.writing.specs.Given.{write-exactly, write-mapped-exactly}
@@ -56,7 +64,8 @@ use Rattle.writing.specs.declared.Written.the-variants.{Done as WrittenDone, Re
 use Rattle.building.specs.declared.Built.{Built}
 use Rattle.promises.specs.Words.{OfBlock}
 use Rattle.promises.specs.Kept.{format-kept, compare-kept, apply-kept, show-kept, read-kept, write-kept, build-kept}
-use Rattle.promises.specs.Kept.{write-mapped-kept, read-mapped-kept}
+use Rattle.promises.specs.Kept.{write-mapped-kept, read-mapped-kept, cut-mapped-kept}
+use Rattle.promises.specs.CutLaws.{cut-kept}
 
 -- a refusal is a number from the table
 pub from-the-table : (r : Refusal) → (1 ≤ refusalNumber r) × (refusalNumber r ≤ 11)
@@ -124,6 +133,19 @@ module _ (P : ℕ) where
       → Exactly (writeMappedRows P patch full map b base page) (writtenNumbers a .number)
   write-mapped-refuses patch full map b base page a p f m x = rw (x .numbers) (write-mapped-exactly P patch full map b base page)
 
+  -- "2, 9, headers, 5 for K above n"
+  pub cut-refuses : (patch full : List ℕ) (K : ℕ) (a : Shortened) (p f : List ℕ) → Cut P patch full K a p f
+      → Exactly (cutRows P [] patch full K) (shortenedNumber a)
+  cut-refuses patch full K a p f x = rw (x .numbers) (cut-exactly P patch full K)
+
+  pub cut-mapped-refuses : (patch full map : List ℕ) (K : ℕ) (a : Shortened) (p f m : List ℕ) → CutMapped P patch full map K a p f m
+      → Exactly (cutMappedRows P patch full map K) (shortenedNumber a)
+  cut-mapped-refuses patch full map K a p f m x = rw (x .numbers) (cut-mapped-exactly P patch full map K)
+
+  -- "2, its header's, then 6 if any slot is unsound"
+  pub highest-refuses : (patch : List ℕ) (a : Extent) → Highest P patch a → Exactly (highestRows P patch) (extentNumbers a .number)
+  highest-refuses patch a x = rw (x .numbers) (highest-exactly P patch)
+
   -- Build's rows are those of the frame and then each block's, in rising order. Which block it gives stands in `BuildGives`, by the
   -- number of each block
   pub build-refuses : (patch full map : List ℕ) (a : Built) (after : List ℕ) → Build P patch full map a after
@@ -180,6 +202,18 @@ module _ (P : ℕ) where
       → WriteMapped P patch full map b base page a p f m → (writtenNumbers a .number ≡ 0 → ⊥) → (p ≡ patch) × (f ≡ full) × (m ≡ map)
   write-mapped-keeps patch full map b base page a p f m x h =
       let k = write-mapped-kept P patch full map b base page (λ e. h (ap (λ (n : WriteNumbers). n .number) (x .numbers) ∙ e)) in
+      (x .patch-bytes ∙ k .0, x .full-bytes ∙ k .1, x .map-bytes ∙ k .2)
+
+  pub cut-keeps : (patch full : List ℕ) (K : ℕ) (a : Shortened) (p f : List ℕ) → Cut P patch full K a p f → (shortenedNumber a ≡ 0 → ⊥)
+      → (p ≡ patch) × (f ≡ full)
+  cut-keeps patch full K a p f x h =
+      let k = cut-kept P patch full K (λ e. h (x .numbers ∙ e)) in
+      (x .patch-bytes ∙ k .0, x .full-bytes ∙ k .1)
+
+  pub cut-mapped-keeps : (patch full map : List ℕ) (K : ℕ) (a : Shortened) (p f m : List ℕ) → CutMapped P patch full map K a p f m
+      → (shortenedNumber a ≡ 0 → ⊥) → (p ≡ patch) × (f ≡ full) × (m ≡ map)
+  cut-mapped-keeps patch full map K a p f m x h =
+      let k = cut-mapped-kept P patch full map K (λ e. h (x .numbers ∙ e)) in
       (x .patch-bytes ∙ k .0, x .full-bytes ∙ k .1, x .map-bytes ∙ k .2)
 
   pub build-keeps : (patch full map : List ℕ) (a : Built) (after : List ℕ) → Build P patch full map a after
@@ -242,6 +276,11 @@ pub write-zeros : (a : Written) → (writtenNumbers a .number ≡ 0 → ⊥)
     → writtenNumbers a ≡ record { number = writtenNumbers a .number; kind = 0; length = 0 }
 write-zeros (WrittenDone k n) h = absurd (h refl)
 write-zeros (WrittenRefused r) h = refl
+
+pub highest-zeros : (a : Extent) → (extentNumbers a .number ≡ 0 → ⊥)
+    → extentNumbers a ≡ record { number = extentNumbers a .number; blocks = 0 }
+highest-zeros (ExtentDone b) h = absurd (h refl)
+highest-zeros (ExtentRefused r) h = refl
 
 pub look-up-zeros : (a : Looked) → (lookedNumbers a .number ≡ 0 → ⊥)
     → lookedNumbers a ≡ record { number = lookedNumbers a .number; pair = 0 }

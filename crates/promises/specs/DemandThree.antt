@@ -3,14 +3,18 @@
 -- write, in any order of blocks. Two runs over the same bases and lengths leave equal bytes exactly when each block reads the same after
 -- both."
 --
+-- "In demand 3 an accepted cut, lent both areas whole and the run's map if it has one, wipes earlier writes to the blocks it covers, and
+-- only the blocks it covers may have another base after it; two runs are compared where their bases agree at the end."
+--
 -- The words are in `RunWords`: `after P s os` are both areas after the run os from s, and `accepted P s os` those of its operations that
--- were accepted when their turn came. An operation is a write, `write w`. Nothing is assumed of a run: its blocks, bases and pages are any,
--- of any lengths.
+-- were accepted when their turn came. An operation is a write, `write w`, or a cut at K, `wipe K`. Nothing is assumed of a run: its blocks,
+-- bases and pages are any, of any lengths, and its cuts are at any number, K = 0, K = n and K above n among them. A write stands at a block
+-- where it is the last accepted operation that has to do with it: `lastTo b (accepted P s os) ≡ some (write w)`.
 --
 -- "Demand 3 now includes the map: after any run from fresh areas and a zero map, lent to every write of the run, it equals the built one."
 -- The second half is about such runs; its words are in `MapWords`: `afterWith P x os` are both areas and the map after the run, and
--- `acceptedWith P x os` the accepted operations. Later bytes of the map are any, and a map too short for its store is in the run too: every
--- write is then refused.
+-- `acceptedWith P x os` the accepted operations. Every cut is lent the map too. Later bytes of the map are any, and a map too short for its
+-- store is in the run too: every operation is then refused.
 use Prim.Native.Nat.{ℕ, _≤_, _<_}
 use mathlib.Core.Path.{_≡_, sym, ap, _∙_, subst}
 use mathlib.Core.Logic.{_↔_}
@@ -24,22 +28,26 @@ use Rattle.stream.specs.Calls.{pageOf}
 use Rattle.building.specs.Build.{BuildOutcome, buildOutcome, buildDone}
 use Rattle.promises.specs.Words.{blocks, PagesFit}
 use Rattle.promises.specs.Runs.{NoRepeats, write}
-use Rattle.promises.specs.RunWords.{Areas, readAt, Lent, Operation, after, accepted, lastTo, JustLasts, decision, Decided, KeepsBases}
-use Rattle.promises.specs.RunWords.{OverBases, FreshAreas}
+use Rattle.promises.specs.RunWords.{Areas, readAt, Lent, Cut, Operation, after, accepted, lastTo, JustLasts, decision, Decided}
+use Rattle.promises.specs.RunWords.{FollowsBases, KeepsBases, OverBaseAt, OverBases, ChangedAt, FreshAreas}
 use Rattle.promises.specs.FreshLaws.{fresh-one}
-use Rattle.promises.specs.RunLaws.{last-decided, keeps-over, lasts-leave-same, lasts-list, reads-last, reads-base, build-accepts}
-use Rattle.promises.specs.RunLaws.{two-runs}
+use Rattle.promises.specs.RunLaws.{last-decided, keeps-over, follows-over, lasts-leave-same, lasts-list, reads-last, reads-base}
+use Rattle.promises.specs.RunLaws.{build-accepts, two-blocks, runs-agreeing}
+use Rattle.promises.specs.HighLaws.{run-highest-done, run-highest}
+use Rattle.store.specs.Block.{slotOf, placeOf}
+use Rattle.cutting.specs.Highest.{highestNumbers}
+use Rattle.cutting.specs.Reach.{OneMore}
 use Rattle.reading.specs.Read.{readDone}
 use Rattle.building.specs.BuildWords.{PairsOf}
-use Rattle.promises.specs.MapWords.{Mapped, mapRoom, Long, buildInto, readByMap, mapped, afterWith, acceptedWith, JustLastsWith}
-use Rattle.promises.specs.MapWords.{KeepsBasesWith, OverBasesWith, FreshWith, SameRoom, Alike}
+use Rattle.promises.specs.MapWords.{Mapped, mapRoom, Long, buildInto, readByMap, mapped, cutMapped, afterWith, acceptedWith}
+use Rattle.promises.specs.MapWords.{JustLastsWith, FollowsBasesWith, KeepsBasesWith, OverBasesWith, FreshWith, SameRoom, Alike}
 use Rattle.promises.specs.MapRunLaws.{run-is, accepted-is, built-at-end, built-changes-nothing, length-kept, later-kept, reads-by-map}
-use Rattle.promises.specs.MapRunLaws.{pairs-at-end, short-run, short-accepts, short-nine, lasts-leave-with, lasts-list-with}
-use Rattle.promises.specs.MapRunLaws.{lasts-alike, two-runs-with, keeps-over-with}
+use Rattle.promises.specs.MapRunLaws.{pairs-at-end, short-run, short-accepts, short-nine, short-cut-nine, lasts-leave-with}
+use Rattle.promises.specs.MapRunLaws.{lasts-list-with, lasts-alike, two-runs-with, keeps-over-with, follows-over-with}
 
 module _ (s : Areas) (fresh : FreshAreas pageSize s) (os : List Operation) where
-  -- (a) "only each block's last accepted write, in any order of blocks": every list of just those is accepted whole and leaves the same
-  -- bytes, with no hypothesis on bases
+  -- (a) "only each block's last accepted write, in any order of blocks", where no later accepted cut covers it: every list of just those is
+  -- accepted whole and leaves the same bytes, with no hypothesis on bases
   pub lasts-leave-the-same : (ls : List Lent) → JustLasts pageSize s os ls
       → (accepted pageSize s (map write ls) ≡ map write ls) × (after pageSize s (map write ls) ≡ after pageSize s os)
   lasts-leave-the-same ls l = lasts-leave-same pageSize s fresh os ls l
@@ -57,8 +65,9 @@ module _ (s : Areas) (fresh : FreshAreas pageSize s) (os : List Operation) where
   pub lasts-exist : (ls : List Lent) × JustLasts pageSize s os ls × NoRepeats (λ (w : Lent). w .block) ls
   lasts-exist = lasts-list pageSize s fresh os
 
-  -- (c) Each block below n reads, with number 0, as its last accepted write's page, over any base page that this write was decided over,
-  -- or as its base where no write stands. A write is decided over a base page if its kind and its payload are Compare's over it;
+  -- (c) Each block below n reads, with number 0, as the page of the write that stands there, over any base page that this write was decided
+  -- over, or as its base where no write stands: where there was none, or a cut came after it. A write is decided over a base page if its
+  -- kind and its payload are Compare's over it;
   pub reads-as-last : (b : ℕ) → b < blocks (s .patch) → (w : Lent) → lastTo b (accepted pageSize s os) ≡ some (write w)
       → (base page : List ℕ) → PagesFit pageSize base page → Decided pageSize (pageOf pageSize base) w
       → readAt pageSize (after pageSize s os) b base page ≡ readDone (decision pageSize w .kind) (w .page)
@@ -75,12 +84,20 @@ module _ (s : Areas) (fresh : FreshAreas pageSize s) (os : List Operation) where
       → readAt pageSize (after pageSize s os) b base page ≡ readDone 0 (pageOf pageSize base)
   reads-as-base b n e base page f = reads-base pageSize s fresh (lit≤ tt) os b n base page f e
 
+  -- Highest accepts, and gives one more than the highest block at which a write stands whose page differs from its base, or 0
+  pub highest-done : highestNumbers pageSize (after pageSize s os .patch) .number ≡ 0
+  highest-done = run-highest-done pageSize s fresh (lit≤ tt) os
+
+  pub highest-changed : (bases : ℕ → List ℕ) → OverBases pageSize bases s os
+      → OneMore (ChangedAt pageSize bases s os) (blocks (s .patch)) (highestNumbers pageSize (after pageSize s os .patch) .blocks)
+  highest-changed bases over = run-highest pageSize s fresh (lit≤ tt) os bases over
+
   -- and Build accepts
   pub builds : (map : List ℕ) → mapBytes (blocks (after pageSize s os .patch)) ≤ length map
       → buildOutcome pageSize (after pageSize s os .patch) (after pageSize s os .full) map .number ≡ 0
   builds map long = ap (λ (o : BuildOutcome). o .number) (build-accepts pageSize s fresh (lit≤ tt) os map long)
 
--- (b) Two runs from fresh areas of the same lengths, over the same bases
+-- (b) Two runs from fresh areas of the same lengths, where their bases agree at the end
 
 module _ (s t : Areas) (s-fresh : FreshAreas pageSize s) (t-fresh : FreshAreas pageSize t)
     (patch-lengths : length (s .patch) ≡ length (t .patch)) (full-lengths : length (s .full) ≡ length (t .full))
@@ -91,16 +108,37 @@ module _ (s t : Areas) (s-fresh : FreshAreas pageSize s) (t-fresh : FreshAreas p
       → readAt pageSize (after pageSize s os) b base page ≡ readAt pageSize (after pageSize t os′) b base page
   same-bytes-read-same e b base page = ap (λ (x : Areas). readAt pageSize x b base page) e
 
-  -- and they are equal exactly when each block below n reads as the same page over its base. Of the bases no more is needed than that the
-  -- write that stands at a block at the end was decided over that block's base page,
-  pub same-bytes-iff : (bases into : ℕ → List ℕ) → ((b : ℕ) → b < blocks (s .patch) → PagesFit pageSize (bases b) (into b))
-      → OverBases pageSize bases s os → OverBases pageSize bases t os′
+  -- and they are equal exactly when each block below n reads as the same page over its base. `bases` are those at the end of the one run,
+  -- `bases′` at the end of the other; they agree as pages. Of the bases no more is needed than that the write that stands at a block at the
+  -- end was decided over the block's base page then (`OverBases`),
+  pub same-bytes-iff : (bases bases′ into : ℕ → List ℕ)
+      → ((b : ℕ) → b < blocks (s .patch) → PagesFit pageSize (bases b) (into b))
+      → ((b : ℕ) → b < blocks (s .patch) → PagesFit pageSize (bases′ b) (into b))
+      → ((b : ℕ) → b < blocks (s .patch) → pageOf pageSize (bases b) ≡ pageOf pageSize (bases′ b))
+      → OverBases pageSize bases s os → OverBases pageSize bases′ t os′
       → (after pageSize s os ≡ after pageSize t os′)
       ↔ ((b : ℕ) → b < blocks (s .patch) → readAt pageSize (after pageSize s os) b (bases b) (into b) .page
-      ≡ readAt pageSize (after pageSize t os′) b (bases b) (into b) .page)
-  same-bytes-iff bases into fits = two-runs pageSize (lit≤ tt) s t s-fresh t-fresh patch-lengths full-lengths bases into fits os os′
+      ≡ readAt pageSize (after pageSize t os′) b (bases′ b) (into b) .page)
+  same-bytes-iff bases bases′ into fits fits′ agree =
+      runs-agreeing pageSize (lit≤ tt) s t s-fresh t-fresh patch-lengths full-lengths bases bases′ into fits fits′ agree os os′
 
--- which is so of every run that has "each block always with the same base page"
+  -- and block by block: where the base pages of one block agree at the end, whatever those of the others are, its slot and its place are
+  -- the same exactly when it reads the same
+  pub same-block-iff : (b : ℕ) → b < blocks (s .patch) → (base base′ into : List ℕ) → PagesFit pageSize base into
+      → PagesFit pageSize base′ into → pageOf pageSize base ≡ pageOf pageSize base′
+      → OverBaseAt pageSize base s os b → OverBaseAt pageSize base′ t os′ b
+      → ((slotOf (after pageSize s os .patch) b ≡ slotOf (after pageSize t os′ .patch) b)
+      × (placeOf pageSize (after pageSize s os .full) b ≡ placeOf pageSize (after pageSize t os′ .full) b))
+      ↔ (readAt pageSize (after pageSize s os) b base into .page ≡ readAt pageSize (after pageSize t os′) b base′ into .page)
+  same-block-iff b n base base′ into f g agree =
+      two-blocks pageSize (lit≤ tt) s t s-fresh t-fresh patch-lengths full-lengths b n base base′ into f g agree os os′
+
+-- which is so of every run in which "only the blocks it covers may have another base after it": at its end, over the bases that it ends with
+pub changed-bases-enough : (s : Areas) (os : List Operation) (start end : ℕ → List ℕ) → FollowsBases pageSize start s os end
+    → OverBases pageSize end s os
+changed-bases-enough s os start end h = follows-over pageSize s os start end h
+
+-- and of every run that has "each block always with the same base page"
 pub same-base-enough : (s : Areas) (os : List Operation) (bases : ℕ → List ℕ) → KeepsBases pageSize bases s os
     → OverBases pageSize bases s os
 same-base-enough s os bases h = keeps-over pageSize s os bases h
@@ -141,7 +179,7 @@ module _ (x : Mapped) (fresh : FreshWith pageSize x) (os : List Operation) where
         reads-by-map pageSize x fresh long (lit≤ tt) os b base page
         ∙ ap (λ (t : Areas). readAt pageSize t b base page) (sym (same-with-map .1))
 
-    -- so it gives each block's last accepted write's page, over any base page that this write was decided over
+    -- so it gives the page of the write that stands at a block, over any base page that this write was decided over
     pub map-reads-as-last : (b : ℕ) → b < blocks (x .areas .patch) → (w : Lent) → lastTo b (acceptedWith pageSize x os) ≡ some (write w)
         → (base page : List ℕ) → PagesFit pageSize base page → Decided pageSize (pageOf pageSize base) w
         → readByMap pageSize (afterWith pageSize x os) b base page ≡ readDone (decision pageSize w .kind) (w .page)
@@ -158,7 +196,7 @@ module _ (x : Mapped) (fresh : FreshWith pageSize x) (os : List Operation) where
         reads-by-map pageSize x fresh long (lit≤ tt) os b base page
         ∙ reads-as-base (x .areas) (fresh .fresh) os b n (λ w q. e w (ap (lastTo b) (same-with-map .0) ∙ q)) base page f
 
-  -- a map too short for its store: no write is accepted, none changes a byte, and one whose pages fit gives 9
+  -- a map too short for its store: no operation is accepted, none changes a byte, and a cut, and a write whose pages fit, gives 9
   module _ (short : length (x .map) < mapRoom (x .areas)) where
     pub short-map-keeps : (acceptedWith pageSize x os ≡ []) × (afterWith pageSize x os ≡ x)
     short-map-keeps = (short-accepts pageSize x fresh short os, short-run pageSize x fresh short os)
@@ -166,7 +204,10 @@ module _ (x : Mapped) (fresh : FreshWith pageSize x) (os : List Operation) where
     pub short-map-gives : (w : Lent) → PagesFit pageSize (w .base) (w .page) → mapped pageSize x w .written .number ≡ 9
     short-map-gives = short-nine pageSize x fresh short
 
-  -- (a) all three buffers are those of each block's last accepted write, in any order
+    pub short-map-cut-gives : (K : Cut) → cutMapped pageSize x K .areas .number ≡ 9
+    short-map-cut-gives = short-cut-nine pageSize x fresh short
+
+  -- (a) all three buffers are those of each block's last accepted write that no later accepted cut covers, in any order
   pub lasts-leave-the-same-map : (ls : List Lent) → JustLastsWith pageSize x os ls
       → (acceptedWith pageSize x (map write ls) ≡ map write ls) × (afterWith pageSize x (map write ls) ≡ afterWith pageSize x os)
   lasts-leave-the-same-map ls l = lasts-leave-with pageSize x fresh os ls l
@@ -182,22 +223,29 @@ module _ (x : Mapped) (fresh : FreshWith pageSize x) (os : List Operation) where
       → (acceptedWith pageSize y (map write ls) ≡ map write ls) × Alike (afterWith pageSize x os) (afterWith pageSize y (map write ls))
   fresh-lasts-leave-the-same-map y y-fresh p f rooms ls l = lasts-alike pageSize (lit≤ tt) x y fresh y-fresh p f rooms os ls l
 
--- (b) two runs with maps leave the same bytes in both areas, and in their maps those that count, exactly when each block below n reads as
--- the same page over its base
+-- (b) two runs with maps, whose bases agree at the end, leave the same bytes in both areas, and in their maps those that count, exactly when
+-- each block below n reads as the same page over its base
 module _ (x y : Mapped) (x-fresh : FreshWith pageSize x) (y-fresh : FreshWith pageSize y)
     (patch-lengths : length (x .areas .patch) ≡ length (y .areas .patch))
     (full-lengths : length (x .areas .full) ≡ length (y .areas .full)) (rooms : SameRoom (x .areas) (x .map) (y .map))
     (os os′ : List Operation) where
-  pub same-bytes-with-maps-iff : (bases into : ℕ → List ℕ)
+  pub same-bytes-with-maps-iff : (bases bases′ into : ℕ → List ℕ)
       → ((b : ℕ) → b < blocks (x .areas .patch) → PagesFit pageSize (bases b) (into b))
-      → OverBasesWith pageSize bases x os → OverBasesWith pageSize bases y os′
+      → ((b : ℕ) → b < blocks (x .areas .patch) → PagesFit pageSize (bases′ b) (into b))
+      → ((b : ℕ) → b < blocks (x .areas .patch) → pageOf pageSize (bases b) ≡ pageOf pageSize (bases′ b))
+      → OverBasesWith pageSize bases x os → OverBasesWith pageSize bases′ y os′
       → Alike (afterWith pageSize x os) (afterWith pageSize y os′)
       ↔ ((b : ℕ) → b < blocks (x .areas .patch) → readAt pageSize (afterWith pageSize x os .areas) b (bases b) (into b) .page
-      ≡ readAt pageSize (afterWith pageSize y os′ .areas) b (bases b) (into b) .page)
-  same-bytes-with-maps-iff bases into fits over over′ =
-      two-runs-with pageSize (lit≤ tt) x y x-fresh y-fresh patch-lengths full-lengths rooms bases into fits os os′ over over′
+      ≡ readAt pageSize (afterWith pageSize y os′ .areas) b (bases′ b) (into b) .page)
+  same-bytes-with-maps-iff bases bases′ into fits fits′ agree over over′ =
+      two-runs-with pageSize (lit≤ tt) x y x-fresh y-fresh patch-lengths full-lengths rooms bases bases′ into fits fits′ agree os os′ over over′
 
--- which is so of every run that has "each block always with the same base page"
+-- which is so of every run in which "only the blocks it covers may have another base after it"
+pub changed-bases-enough-with-map : (x : Mapped) → FreshWith pageSize x → (os : List Operation) (start end : ℕ → List ℕ)
+    → FollowsBasesWith pageSize start x os end → OverBasesWith pageSize end x os
+changed-bases-enough-with-map x fresh os start end h = follows-over-with pageSize x fresh os start end h
+
+-- and of every run that has "each block always with the same base page"
 pub same-base-enough-with-map : (x : Mapped) → FreshWith pageSize x → (os : List Operation) (bases : ℕ → List ℕ)
     → KeepsBasesWith pageSize bases x os → OverBasesWith pageSize bases x os
 same-base-enough-with-map x fresh os bases h = keeps-over-with pageSize x fresh os bases h

@@ -3,9 +3,10 @@
 -- block. Reading back over the same base gives the written page; every sound slot from elsewhere reads as the layout says, unless its
 -- payload is unsound or its full page missing." With an unsound payload comes "the payload offset at which the first unsound entry
 -- starts". "A 16-bit jump below 255 makes the payload unsound ... two sound payloads that list the same positions and values are the same
--- bytes."
+-- bytes." Cut drops "blocks K and up ... in one go", and Highest "gives one more than the highest non-EMPTY block, or 0".
 --
--- `writeOutcome`, `readOutcome` and `Show` are what the contracts of Write, Read and Show cite; the other words are in `Words`. Any lists
+-- `writeOutcome`, `readOutcome`, `Show`, `cutOutcome` and `highestNumbers` are what the contracts of Write, Read, Show, Cut and Highest cite;
+-- the other words are in `Words` and `CutWords`. Any lists
 -- are areas, bases and pages here, and any number is a block.
 use Prim.Native.Nat.{ℕ, _+_, _*_, _≤_, _<_}
 use mathlib.Core.Path.{_≡_}
@@ -34,7 +35,16 @@ use Rattle.blockmap.specs.SetPair.{PairSet}
 use Rattle.reading.specs.Mapped.{readMappedOutcome}
 use Rattle.writing.specs.Mapped.{MappedOutcome, writeMappedOutcome}
 use Rattle.store.specs.Show.{Show}
-use Rattle.promises.specs.Words.{blocks, places, FrameFits, PatchOf, SoundSlot, PatchFits, ShowsNothing, Large, streamOf, Stored}
+use Rattle.blockmap.specs.SetPair.{PairsCleared}
+use Rattle.cutting.specs.Cut.{CutOutcome, cutOutcome}
+use Rattle.cutting.specs.Mapped.{MappedCut, cutMappedOutcome}
+use Rattle.cutting.specs.Highest.{HighestNumbers, highestNumbers}
+use Rattle.cutting.specs.Reach.{OneMore, LeastFree}
+use Rattle.cutting.specs.ReachLaws.{one-least}
+use Rattle.promises.specs.CutWords.{CutGives, CutMappedGives, Dropped, HighestGives, NonEmpty}
+use Rattle.promises.specs.CutTables.{cut-table, cut-accepted, mapped-as-cut, cut-mapped-table, highest-table}
+use Rattle.promises.specs.CutLaws.{cut-drops, dropped-one, cut-nothing, dropped-reads, kept-reads, cut-clears, highest-is}
+use Rattle.promises.specs.Words.{blocks, places, PagesFit, FrameFits, PatchOf, SoundSlot, PatchFits, ShowsNothing, Large, streamOf, Stored}
 use Rattle.promises.specs.Words.{WriteGives, ReadGives, MapFits, WriteMappedGives, MapAt, ReadMappedGives, PairFor}
 use Rattle.promises.specs.Tables.{write-table, read-table}
 use Rattle.promises.specs.StoreLaws.{write-stored}
@@ -241,3 +251,69 @@ module _ (patch full map : List ℕ) (b : ℕ) (base page : List ℕ) where
 
     pub pair-3 : pairAt map b ≡ reservedPair → readBy ≡ readRefused 11 0 page
     pair-3 = by-map-3 pageSize patch full map b base page at
+
+-- "After emptying a table the desk wants blocks K and up dropped in one go: their slots, full pages and pairs in a lent map become zero, blocks
+-- below K keep every byte. ... Refusals: 2, 9, headers, 5 for K above n (K equal to n changes nothing)"
+module _ (patch full : List ℕ) (K : ℕ) where
+  abbrev pub cut : CutOutcome
+  cut = cutOutcome pageSize patch full K
+
+  -- every number that Cut gives, and just when
+  pub cut-gives : (k : ℕ) → (cut .number ≡ k) ↔ CutGives pageSize patch full K k
+  cut-gives = cut-table pageSize patch full K
+
+  module _ (done : cut .number ≡ 0) where
+    -- slots and places of blocks K and up are zero; headers, lengths and the blocks below K are as they were
+    pub drops : Dropped pageSize patch full K (cut .patch) (cut .full)
+    drops = cut-drops pageSize patch full K done
+
+    -- and no other areas are those
+    pub drops-only : (p f : List ℕ) → Dropped pageSize patch full K p f → (p ≡ cut .patch) × (f ≡ cut .full)
+    drops-only p f d = dropped-one pageSize patch full K (cut-accepted pageSize patch full K done .0 .lengths) p f (cut .patch) (cut .full) d drops
+
+    -- K equal to n changes nothing
+    pub drops-nothing : K ≡ blocks patch → (cut .patch ≡ patch) × (cut .full ≡ full)
+    drops-nothing = cut-nothing pageSize patch full K done
+
+    -- each block from K on reads as its base, whatever it held
+    pub dropped-as-base : (b : ℕ) (base page : List ℕ) → PagesFit pageSize base page → K ≤ b → b < blocks patch
+        → readOutcome pageSize (cut .patch) (cut .full) b base page ≡ readDone 0 (pageOf pageSize base)
+    dropped-as-base = dropped-reads pageSize patch full K done
+
+    -- and each block below K as before
+    pub below-as-before : (b : ℕ) (base page : List ℕ) → b < K
+        → readOutcome pageSize (cut .patch) (cut .full) b base page ≡ readOutcome pageSize patch full b base page
+    below-as-before = kept-reads pageSize patch full K done
+
+-- with a lent map
+module _ (patch full map : List ℕ) (K : ℕ) where
+  abbrev pub cutWith : MappedCut
+  cutWith = cutMappedOutcome pageSize patch full map K
+
+  pub cut-mapped-gives : (k : ℕ) → (cutWith .areas .number ≡ k) ↔ CutMappedGives pageSize patch full map K k
+  cut-mapped-gives = cut-mapped-table pageSize patch full map K
+
+  -- with a map that fits it answers and drops as Cut does, refused or not
+  pub cuts-as-cut : MapFits patch map → cutWith .areas ≡ cut patch full K
+  cuts-as-cut = mapped-as-cut pageSize patch full map K
+
+  -- the pairs of blocks K to n − 1 are 0; every other pair, used or not, and every byte that has none of them is as it was
+  pub clears-pairs : cutWith .areas .number ≡ 0 → PairsCleared map K (blocks patch) (cutWith .map)
+  clears-pairs = cut-clears pageSize patch full map K
+
+-- "A further call gives one more than the highest non-EMPTY block, or 0 ... takes the patch area alone and gives 2, its header's, then 6 if any
+-- slot is unsound"
+module _ (patch : List ℕ) where
+  abbrev pub highest : HighestNumbers
+  highest = highestNumbers pageSize patch
+
+  pub highest-gives : (k : ℕ) → (highest .number ≡ k) ↔ HighestGives pageSize patch k
+  highest-gives = highest-table pageSize patch
+
+  module _ (done : highest .number ≡ 0) where
+    pub one-more : OneMore (NonEmpty patch) (blocks patch) (highest .blocks)
+    one-more = highest-is pageSize patch done
+
+    -- the least number such that every block from it on is EMPTY
+    pub least : LeastFree (NonEmpty patch) (blocks patch) (highest .blocks)
+    least = one-least (NonEmpty patch) (blocks patch) (highest .blocks) one-more

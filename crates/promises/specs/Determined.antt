@@ -24,6 +24,11 @@ use Rattle.reading.specs.Read.{Read}
 use Rattle.writing.specs.Write.{Write}
 use Rattle.reading.specs.Mapped.{ReadMapped}
 use Rattle.writing.specs.Mapped.{WriteMapped}
+use Rattle.cutting.specs.Cut.{Cut}
+use Rattle.cutting.specs.Mapped.{CutMapped}
+use Rattle.cutting.specs.Highest.{Highest}
+use Rattle.cutting.specs.declared.Shortened.{Shortened}
+use Rattle.cutting.specs.declared.Extent.{Extent}
 use Rattle.building.specs.Build.{Build}
 use Rattle.building.specs.BuildMeaning.{build-one}
 use Rattle.building.specs.declared.Built.{Built}
@@ -31,7 +36,7 @@ use Rattle.store.specs.declared.Formatted.{Formatted}
 use Rattle.store.specs.declared.Judged.{Judged}
 use Rattle.reading.specs.declared.Reading.{Reading}
 use Rattle.writing.specs.declared.Written.{Written}
-use Rattle.promises.specs.Answers.{formatted-one, judged-one, reading-one, written-one}
+use Rattle.promises.specs.Answers.{formatted-one, judged-one, reading-one, written-one, shortened-one, extent-one}
 
 module _ (P : ℕ) where
   pub one-format : (patch full : List ℕ) (a b : Formatted) (p q f g : List ℕ) → Format P patch full a p f → Format P patch full b q g
@@ -81,6 +86,23 @@ module _ (P : ℕ) where
     x .full-bytes ∙ sym (y .full-bytes),
     x .map-bytes ∙ sym (y .map-bytes),
   )
+
+  pub one-cut : (patch full : List ℕ) (K : ℕ) (a b : Shortened) (p q f g : List ℕ) → Cut P patch full K a p f → Cut P patch full K b q g
+      → (a ≡ b) × (p ≡ q) × (f ≡ g)
+  one-cut patch full K a b p q f g x y =
+      (shortened-one a b (x .numbers ∙ sym (y .numbers)), x .patch-bytes ∙ sym (y .patch-bytes), x .full-bytes ∙ sym (y .full-bytes))
+
+  pub one-cut-mapped : (patch full map : List ℕ) (K : ℕ) (a b : Shortened) (p q f g l m : List ℕ)
+      → CutMapped P patch full map K a p f l → CutMapped P patch full map K b q g m → (a ≡ b) × (p ≡ q) × (f ≡ g) × (l ≡ m)
+  one-cut-mapped patch full map K a b p q f g l m x y = (
+    shortened-one a b (x .numbers ∙ sym (y .numbers)),
+    x .patch-bytes ∙ sym (y .patch-bytes),
+    x .full-bytes ∙ sym (y .full-bytes),
+    x .map-bytes ∙ sym (y .map-bytes),
+  )
+
+  pub one-highest : (patch : List ℕ) (a b : Extent) → Highest P patch a → Highest P patch b → a ≡ b
+  one-highest patch a b x y = extent-one a b (x .numbers ∙ sym (y .numbers))
 
   pub one-build : (patch full map : List ℕ) (a b : Built) (p q : List ℕ) → Build P patch full map a p → Build P patch full map b q
       → (a ≡ b) × (p ≡ q)

@@ -28,6 +28,9 @@ use Rattle.reading.specs.Mapped.{readMappedRows, readMappedOutcome}
 use Rattle.writing.specs.Write.{WriteOutcome, writeRefused, writeOutcome}
 use Rattle.writing.specs.Mapped.{MappedOutcome, writeMappedRows, writeMappedOutcome}
 use Rattle.writing.specs.Given.{write-mapped-number}
+use Rattle.cutting.specs.Cut.{CutOutcome}
+use Rattle.cutting.specs.Mapped.{cutMappedOutcome}
+use Rattle.cutting.specs.CutLaws.{cut-not, map-not}
 use Rattle.building.specs.Build.{placeRows, blockFault, buildFault, BuildOutcome, buildRows, builtMap, buildOutcome, buildDone}
 use Rattle.building.specs.Build.{buildRefused}
 use Rattle.store.specs.declared.Place.{Place}
@@ -108,6 +111,15 @@ unfolding readMappedOutcome
 read-mapped-kept P patch full map b base page h =
     kept (λ (o : ReadOutcome). o .number) (λ (o : ReadOutcome). o .page) _ _ page refl (λ k. refl)
     (firstOf (readMappedRows P patch full map b base page)) h
+
+-- Cut with a lent map; Cut without one is `CutLaws.cut-kept`
+pub cut-mapped-kept : (P : ℕ) (patch full map : List ℕ) (K : ℕ) → (cutMappedOutcome P patch full map K .areas .number ≡ 0 → ⊥)
+    → (cutMappedOutcome P patch full map K .areas .patch ≡ patch) × (cutMappedOutcome P patch full map K .areas .full ≡ full)
+    × (cutMappedOutcome P patch full map K .map ≡ map)
+unfolding cutMappedOutcome
+cut-mapped-kept P patch full map K h =
+    let e = cut-not P _ patch full K h in
+    (ap (λ (o : CutOutcome). o .patch) e, ap (λ (o : CutOutcome). o .full) e, map-not P patch full map K h)
 
 -- Build, and the numbers with which it gives a block
 

@@ -2,14 +2,16 @@ pub mod Runs
 pub mod LastLaws
 pub mod StandingLaws
 pub mod SameLaws
-pub mod RunsCut
 pub mod Words
+pub mod CutWords
 pub mod SlotLaws
 pub mod Cells
 pub mod FrameLaws
 pub mod Tables
 pub mod StoreLaws
 pub mod ReadLaws
+pub mod CutTables
+pub mod CutLaws
 pub mod WriteLaws
 pub mod SpellingLaws
 pub mod Kept
@@ -27,6 +29,7 @@ pub mod RunReadLaws
 pub mod FreshLaws
 pub mod RunBuild
 pub mod RunLaws
+pub mod HighLaws
 pub mod Beside
 pub mod MapWords
 pub mod MapStore
@@ -45,3 +48,5 @@ pub mod Sample
 pub mod Wrong
 pub mod RunsWrong
 pub mod MapsWrong
+pub mod CutsWrong
+pub mod RunsTried

@@ -1,19 +1,23 @@
 -- A store from elsewhere, and the map that Build made of it. The request speaks of runs from fresh areas; a shop opens a store, builds its
--- map, and then lends it to every write. So it is stated here too: from any areas that Build accepts, with the map that it left, any run of
--- writes that are lent the map ends with areas that Build accepts and with the map that it makes of them, and reads by it are Read's.
+-- map, and then lends it to every write and cut. So it is stated here too: from any areas that Build accepts, with the map that it left, any run of
+-- writes and cuts that are lent the map ends with areas that Build accepts and with the map that it makes of them, and reads by it are Read's.
 use Prim.Native.Nat.{ℕ, _≤_, _<_}
 use mathlib.Core.Path.{_≡_, refl, sym, ap, _∙_}
 use mathlib.Core.Bool.{Bool, true, false}
 use mathlib.Core.List.{List, [], _∷_}
 use lib.Dec.{eqb, lit≤}
+use native.Mathlib.Omega.{arith}
+use native.Mathlib.Decide.{decLt}
 use lib.ListN.{length}
 use borrow.Author.Tests.{le-leb, eqb-true, eqb-false}
 use Rattle.layout.specs.Sizes.{pageSize}
 use Rattle.layout.specs.Groups.{ordered}
 use Rattle.layout.specs.FirstFaultLaws.{none-below}
-use Rattle.store.specs.Block.{slotRows, fullRows, payloadRows}
+use Rattle.slots.specs.Slots.{slotNumbers}
+use Rattle.slots.specs.Meaning.{empty-numbers}
+use Rattle.store.specs.Block.{slotOf, placeOf, slotRows, fullRows, payloadRows}
 use Rattle.building.specs.Build.{placeRows, blockFault, BuildOutcome, buildDone}
-use Rattle.building.specs.BuildLaws.{build-zero, build-done}
+use Rattle.building.specs.BuildLaws.{no-strays, block-empty, build-zero, build-done}
 use Rattle.building.specs.BuildWords.{SoundFrame, PairsOf}
 use Rattle.building.specs.BuildMeaningLaws.{frame-iff, pairs-are}
 use Rattle.building.specs.declared.Built.the-variants.{Done}
@@ -21,9 +25,9 @@ use Rattle.promises.specs.Words.{blocks, LengthsFit, HeadersFit, Stored}
 use Rattle.promises.specs.FrameLaws.{lengths-moved, headers-moved}
 use Rattle.promises.specs.StoreLaws.{write-not, write-stored}
 use Rattle.promises.specs.Runs.{run, write, wipe, left-cell}
-use Rattle.promises.specs.RunWords.{Areas, readAt, Lent, Operation, outcome, taken, next, after, accepted}
+use Rattle.promises.specs.RunWords.{Areas, readAt, Lent, Cut, Operation, outcome, taken, next, cutTaken, cutNext, after, accepted}
 use Rattle.promises.specs.RunStore.{cellAt, store}
-use Rattle.promises.specs.RunStoreLaws.{accepted-write, cell-here, store-laws}
+use Rattle.promises.specs.RunStoreLaws.{accepted-write, cell-here, cut-not-taken, drops, store-laws}
 use Rattle.promises.specs.RunReads.{Held}
 use Rattle.promises.specs.RunReadLaws.{left-held, held-fine}
 use Rattle.promises.specs.RunBuild.{builds}
@@ -31,15 +35,21 @@ use Rattle.promises.specs.StandingLaws.{run-frame}
 use Rattle.promises.specs.Beside.{run-with, taking-with}
 use Rattle.promises.specs.MapWords.{Mapped, mapRoom, Long, buildInto, readByMap, afterWith, acceptedWith}
 use Rattle.promises.specs.MapStore.{with, laid, beside}
-use Rattle.promises.specs.MapStoreLaws.{room-kept, beside-laws}
+use Rattle.promises.specs.MapStoreLaws.{laid-long, room-kept, beside-laws}
 use Rattle.promises.specs.MapReading.{map-reads-as-read}
-use Rattle.promises.specs.MapRunLaws.{laid-part, laid-twice, laid-long}
+use Rattle.promises.specs.MapRunLaws.{laid-part, laid-twice}
 
 -- areas in which Build finds no fault
 record Fine (P : ℕ) (s : Areas) : Type 0 where
   pub lengths : LengthsFit P (s .patch) (s .full)
   pub headers : HeadersFit P (s .patch) (s .full)
   pub sound : (b : ℕ) → b < blocks (s .patch) → blockFault P (s .patch) (s .full) b ≡ 0
+
+-- a block's fault is a matter of its slot, its place and m
+same-block : (P : ℕ) (patch full patch′ full′ : List ℕ) (b : ℕ) → slotOf patch′ b ≡ slotOf patch b → length full′ ≡ length full
+    → placeOf P full′ b ≡ placeOf P full b → blockFault P patch′ full′ b ≡ blockFault P patch full b
+unfolding blockFault ordered slotRows fullRows payloadRows placeRows
+same-block P patch full patch′ full′ b e f g = rw (e, f, g)
 
 -- A write leaves none
 
@@ -56,8 +66,8 @@ module _ (P : ℕ) (small : P ≤ 65536) (s : Areas) (w : Lent) (fine : Fine P s
         refl))
 
     other : (b : ℕ) → (b ≡ w .block → ⊥) → blockFault P (next P s w .patch) (next P s w .full) b ≡ blockFault P (s .patch) (s .full) b
-    unfolding blockFault ordered slotRows fullRows payloadRows placeRows
-    other b d = rw (done .other-slots b d, done .frame .full-length, done .other-places b d)
+    other b d = same-block P (s .patch) (s .full) (next P s w .patch) (next P s w .full) b (done .other-slots b d) (done .frame .full-length)
+        (done .other-places b d)
 
     sound-next : (b : ℕ) → b < blocks (next P s w .patch) → blockFault P (next P s w .patch) (next P s w .full) b ≡ 0
     sound-next b h = go (eqb b (w .block)) refl
@@ -83,11 +93,38 @@ module _ (P : ℕ) (small : P ≤ 65536) (s : Areas) (w : Lent) (fine : Fine P s
           let kept = write-not P (s .patch) (s .full) (w .block) (w .base) (w .page) (eqb-false (outcome P s w .number) 0 e) in
           rw kept fine
 
+-- and neither does a cut: what it drops is EMPTY, and its place is clean
+fine-cut : (P : ℕ) (s : Areas) (K : Cut) → Fine P s → Fine P (cutNext P s K)
+fine-cut P s K fine = go (cutTaken P s K) refl
+  where
+    sound-cut : cutTaken P s K ≡ true → (b : ℕ) → b < blocks (s .patch) → blockFault P (cutNext P s K .patch) (cutNext P s K .full) b ≡ 0
+    sound-cut e b h =
+        let d = drops P s K e in
+        elim (decLt b K) [
+          | yes l ↦
+              same-block P (s .patch) (s .full) (cutNext P s K .patch) (cutNext P s K .full) b (d .same-slots b l) (d .frame .full-length)
+              (d .same-places b l)
+              ∙ fine .sound b h
+          | no l ↦
+              block-empty P (cutNext P s K .patch) (cutNext P s K .full) b
+              (ap slotNumbers (d .no-slots b (omega arith) h) ∙ empty-numbers)
+              ∙ no-strays P (cutNext P s K .full) b (λ m. d .no-places b (omega arith) (rw (d .frame .full-length) at m))
+        ]
+
+    go : (t : Bool) → cutTaken P s K ≡ t → Fine P (cutNext P s K)
+    go true e =
+        record {
+          lengths = lengths-moved P _ _ _ _ (drops P s K e .frame) (fine .lengths);
+          headers = headers-moved P _ _ _ _ (drops P s K e .frame) (fine .headers);
+          sound = λ b h. sound-cut e b (rw (drops P s K e .frame .patch-length) at h);
+        }
+    go false e = rw (cut-not-taken P s K e) fine
+
 fine-after : (P : ℕ) → P ≤ 65536 → (s : Areas) → Fine P s → (os : List Operation) → Fine P (after P s os)
 unfolding run
 fine-after P small s fine [] = fine
 fine-after P small s fine (write w ∷ os) = fine-after P small (next P s w) (fine-next P small s w fine) os
-fine-after P small s fine (wipe c ∷ os) = absurd c
+fine-after P small s fine (wipe K ∷ os) = fine-after P small (cutNext P s K) (fine-cut P s K fine) os
 
 -- What Build accepts
 

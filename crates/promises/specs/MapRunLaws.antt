@@ -9,7 +9,6 @@ use mathlib.Core.Option.{Option·none-ne-some}
 use mathlib.Core.List.{List, [], _∷_, map, List·Memᴰ·head, List·Memᴰ·not-nil}
 use lib.ListN.{length, getD}
 use borrow.Author.Tests.{le-leb, lt-leb}
-use Rattle.span.specs.Bytes.{zeros}
 use Rattle.span.specs.Laws.{ext, part-splice, splice-is}
 use Rattle.layout.specs.Lengths.{blocksIn}
 use Rattle.slots.specs.Slots.{SlotNumbers, slotNumbers}
@@ -19,8 +18,9 @@ use Rattle.blockmap.specs.Pack.{pairOf}
 use Rattle.blockmap.specs.PackLaws.{packed-zero}
 use Rattle.stream.specs.Calls.{pageOf}
 use Rattle.store.specs.Block.{slotOf}
+use Rattle.reading.specs.Read.{ReadOutcome}
 use Rattle.writing.specs.Mapped.{MappedOutcome}
-use Rattle.building.specs.Build.{BuildOutcome, builtMap, buildDone, Build}
+use Rattle.building.specs.Build.{BuildOutcome, builtMap, buildDone}
 use Rattle.building.specs.MapLaws.{built-length, laid-later, laid-length}
 use Rattle.building.specs.BuildWords.{PairsOf}
 use Rattle.building.specs.BuildMeaningLaws.{pairs-are}
@@ -28,17 +28,19 @@ use Rattle.building.specs.declared.Built.the-variants.{Done}
 use Rattle.promises.specs.Words.{blocks, PagesFit}
 use Rattle.promises.specs.Decisions.{Cell}
 use Rattle.promises.specs.Runs.{run, taking, lastSuch, NoRepeats, write}
-use Rattle.promises.specs.RunWords.{Areas, readAt, Lent, Operation, after, accepted, lastTo, JustLasts, Decided, OverBases}
+use Rattle.promises.specs.RunWords.{Areas, readAt, Lent, Cut, Operation, after, accepted, lastTo, JustLasts, Decided, OverBases}
 use Rattle.promises.specs.RunStore.{store}
 use Rattle.promises.specs.RunStoreLaws.{store-laws}
 use Rattle.promises.specs.FreshLaws.{fresh-lengths, fresh-cell, fresh-one}
 use Rattle.promises.specs.MapTables.{write-short}
-use Rattle.promises.specs.RunLaws.{lasts-leave-same, lasts-list, kept, build-accepts, two-runs, keeps-over}
+use Rattle.promises.specs.Tables.{read-by-page}
+use Rattle.promises.specs.CutTables.{cut-short}
+use Rattle.promises.specs.RunLaws.{lasts-leave-same, lasts-list, kept, build-accepts, runs-agreeing, keeps-over, follows-over}
 use Rattle.promises.specs.Beside.{run-with, taking-with, run-without-room, taking-without-room}
 use Rattle.promises.specs.MapWords.{Mapped, mapRoom, Long, mapPart, buildInto, readByMap, mapped, afterWith, acceptedWith}
-use Rattle.promises.specs.MapWords.{JustLastsWith, KeepsBasesWith, OverBasesWith, FreshWith, SameRoom, Alike}
+use Rattle.promises.specs.MapWords.{cutMapped, JustLastsWith, FollowsBasesWith, KeepsBasesWith, OverBasesWith, FreshWith, SameRoom, Alike}
 use Rattle.promises.specs.MapStore.{with, laid, beside}
-use Rattle.promises.specs.MapStoreLaws.{room-kept, beside-laws}
+use Rattle.promises.specs.MapStoreLaws.{laid-long, room-kept, beside-laws}
 use Rattle.promises.specs.MapReading.{laid-over, map-reads-as-read}
 
 -- A map with the built one laid over it
@@ -54,9 +56,6 @@ module _ (s : Areas) (map : List ℕ) (long : Long s map) where
 
   pub laid-twice : laid s (laid s map) ≡ laid s map
   laid-twice = sym (laid-over (laid s map) (builtMap (s .patch)) (mapRoom s) (built-length (s .patch)) laid-part .1)
-
-  pub laid-long : Long s (laid s map)
-  laid-long = omega (arith, laid-length map (builtMap (s .patch)) room-for, long)
 
 -- zeros are the built map of fresh areas
 fresh-laid : (P : ℕ) (x : Mapped) → FreshWith P x → Long (x .areas) (x .map) → x .map ≡ laid (x .areas) (x .map)
@@ -164,6 +163,9 @@ module _ (P : ℕ) (x : Mapped) (h : FreshWith P x) where
         (write-short P (x .areas .patch) (x .areas .full) (x .map) (w .block) (w .base) (w .page) f
         (fresh-lengths P (x .areas) (h .fresh)) short)
 
+    pub short-cut-nine : (K : Cut) → cutMapped P x K .areas .number ≡ 9
+    short-cut-nine K = cut-short P (x .areas .patch) (x .areas .full) (x .map) K (fresh-lengths P (x .areas) (h .fresh)) short
+
     short-lasts : (os : List Operation) (ls : List Lent) → JustLastsWith P x os ls → ls ≡ []
     unfolding lastTo lastSuch
     short-lasts os [] l = refl
@@ -214,6 +216,16 @@ module _ (P : ℕ) (x : Mapped) (h : FreshWith P x) where
           keeps-over P (x .areas) os bases (λ v i. k v (rw (accepted-is long os) i)) b n w (rw (accepted-is long os) at e)
 
       without : length (x .map) < mapRoom (x .areas) → Decided P (pageOf P (bases b)) w
+      without short = absurd (Option·none-ne-some _ (rw (short-accepts short os) at e))
+
+  pub follows-over-with : (os : List Operation) (start end : ℕ → List ℕ) → FollowsBasesWith P start x os end → OverBasesWith P end x os
+  unfolding lastTo lastSuch
+  follows-over-with os start end k b n w e = ⊎-elim with-room without either
+    where
+      with-room : Long (x .areas) (x .map) → Decided P (pageOf P (end b)) w
+      with-room long = follows-over P (x .areas) os start end (rw (accepted-is long os) at k) b n w (rw (accepted-is long os) at e)
+
+      without : length (x .map) < mapRoom (x .areas) → Decided P (pageOf P (end b)) w
       without short = absurd (Option·none-ne-some _ (rw (short-accepts short os) at e))
 
 -- (b) Two runs
@@ -276,29 +288,39 @@ module _ (P : ℕ) (small : P ≤ 65536) (x y : Mapped) (h : FreshWith P x) (k :
             sides),
       )
 
-  pub two-runs-with : (bases into : ℕ → List ℕ) → ((b : ℕ) → b < blocks (x .areas .patch) → PagesFit P (bases b) (into b))
-      → (os os′ : List Operation) → OverBasesWith P bases x os → OverBasesWith P bases y os′
+  pub two-runs-with : (bases bases′ into : ℕ → List ℕ)
+      → ((b : ℕ) → b < blocks (x .areas .patch) → PagesFit P (bases b) (into b))
+      → ((b : ℕ) → b < blocks (x .areas .patch) → PagesFit P (bases′ b) (into b))
+      → ((b : ℕ) → b < blocks (x .areas .patch) → pageOf P (bases b) ≡ pageOf P (bases′ b))
+      → (os os′ : List Operation) → OverBasesWith P bases x os → OverBasesWith P bases′ y os′
       → Alike (afterWith P x os) (afterWith P y os′)
       ↔ ((b : ℕ) → b < blocks (x .areas .patch)
-      → readAt P (afterWith P x os .areas) b (bases b) (into b) .page ≡ readAt P (afterWith P y os′ .areas) b (bases b) (into b) .page)
-  two-runs-with bases into fits os os′ over over′ = (
-    λ a b n. ap (λ (t : Areas). readAt P t b (bases b) (into b) .page) (a .areas),
+      → readAt P (afterWith P x os .areas) b (bases b) (into b) .page ≡ readAt P (afterWith P y os′ .areas) b (bases′ b) (into b) .page)
+  two-runs-with bases bases′ into fits fits′ agree os os′ over over′ = (
+    λ a b n. ap (λ (t : Areas). readAt P t b (bases b) (into b) .page) (a .areas) ∙ over-other (afterWith P y os′ .areas) b n,
     λ r. alike-areas os os′ (⊎-elim (with-room r) without sides),
   )
     where
+      over-other : (t : Areas) (b : ℕ) → b < blocks (x .areas .patch)
+          → readAt P t b (bases b) (into b) .page ≡ readAt P t b (bases′ b) (into b) .page
+      over-other t b n =
+          ap (λ (o : ReadOutcome). o .page)
+          (read-by-page P (t .patch) (t .full) b (bases b) (bases′ b) (into b) (fits b n) (fits′ b n) (agree b n))
+
       with-room : ((b : ℕ) → b < blocks (x .areas .patch)
-          → readAt P (afterWith P x os .areas) b (bases b) (into b) .page ≡ readAt P (afterWith P y os′ .areas) b (bases b) (into b) .page)
+          → readAt P (afterWith P x os .areas) b (bases b) (into b) .page ≡ readAt P (afterWith P y os′ .areas) b (bases′ b) (into b) .page)
           → Long (x .areas) (x .map) × Long (y .areas) (y .map) → afterWith P x os .areas ≡ afterWith P y os′ .areas
       with-room r l =
           let p : afterWith P x os .areas ≡ after P (x .areas) os = ap (λ (z : Mapped). z .areas) (run-is P x h (l .0) os) in
           let q : afterWith P y os′ .areas ≡ after P (y .areas) os′ = ap (λ (z : Mapped). z .areas) (run-is P y k (l .1) os′) in
           let o : OverBases P bases (x .areas) os = rw (accepted-is P x h (l .0) os) at over in
-          let o′ : OverBases P bases (y .areas) os′ = rw (accepted-is P y k (l .1) os′) at over′ in
+          let o′ : OverBases P bases′ (y .areas) os′ = rw (accepted-is P y k (l .1) os′) at over′ in
           p
-          ∙ two-runs P small (x .areas) (y .areas) (h .fresh) (k .fresh) patch-lengths full-lengths bases into fits os os′ o o′ .1
+          ∙ runs-agreeing P small (x .areas) (y .areas) (h .fresh) (k .fresh) patch-lengths full-lengths bases bases′ into fits fits′ agree os
+          os′ o o′ .1
           (λ b n.
           ap (λ (t : Areas). readAt P t b (bases b) (into b) .page) (sym p) ∙ r b n
-          ∙ ap (λ (t : Areas). readAt P t b (bases b) (into b) .page) q)
+          ∙ ap (λ (t : Areas). readAt P t b (bases′ b) (into b) .page) q)
           ∙ sym q
 
       without : (length (x .map) < mapRoom (x .areas)) × (length (y .map) < mapRoom (y .areas)) × (length (x .map) ≡ length (y .map))

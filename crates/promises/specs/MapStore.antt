@@ -8,7 +8,7 @@ use Rattle.building.specs.Build.{builtMap}
 use Rattle.promises.specs.RunWords.{Areas}
 use Rattle.promises.specs.RunStore.{store}
 use Rattle.promises.specs.Beside.{Beside}
-use Rattle.promises.specs.MapWords.{Mapped, mapRoom, mapped, takesWithBy, doesWithBy}
+use Rattle.promises.specs.MapWords.{Mapped, mapRoom, mapped, cutMapped, takesWithBy, doesWithBy}
 
 abbrev pub with : Areas → List ℕ → Mapped
 with s map = record { areas = s; map = map }
@@ -23,7 +23,7 @@ beside P = record {
   Both = Mapped;
   both = with;
   fits = λ f map. leb (mapRoom f) (length map);
-  takesWith = takesWithBy (mapped P);
-  stepWith = doesWithBy (mapped P);
+  takesWith = takesWithBy (mapped P) (cutMapped P);
+  stepWith = doesWithBy (mapped P) (cutMapped P);
   built = laid;
 }

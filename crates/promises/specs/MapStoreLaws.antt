@@ -1,38 +1,51 @@
--- A write that is lent the built map leaves the built map.
-use Prim.Native.Nat.{ℕ, _/_, _<_}
+-- A write or a cut that is lent the built map leaves the built map.
+use Prim.Native.Nat.{ℕ, _+_, _-_, _*_, _/_, _≤_, _<_}
 use native.Mathlib.Omega.{arith}
 use mathlib.Core.Path.{_≡_, refl, sym, ap, _∙_}
 use mathlib.Core.Bool.{Bool, true, false, cond}
 use mathlib.Core.List.{List}
 use lib.Dec.{eqb, leb}
 use lib.ListN.{length}
-use borrow.Author.Tests.{leb-true, leb-false, ne-eqb, eqb-true, eqb-false}
+use borrow.Author.Tests.{leb-true, leb-false, le-leb, lt-leb, ne-eqb, eqb-true, eqb-false}
+use native.Mathlib.Decide.{decLt}
 use Rattle.span.specs.Bytes.{splice}
 use Rattle.layout.specs.Sizes.{patchHead}
 use Rattle.layout.specs.Lengths.{blocksIn}
-use Rattle.slots.specs.Slots.{slotNumbers}
+use Rattle.slots.specs.Slots.{SlotNumbers, slotNumbers}
+use Rattle.slots.specs.Meaning.{empty-numbers}
 use Rattle.blockmap.specs.Pairs.{mapBytes}
-use Rattle.blockmap.specs.Pack.{pairOf, packed, setPair}
+use Rattle.blockmap.specs.Pack.{pairOf, packed, setPair, clearPairs}
 use Rattle.blockmap.specs.PackLaws.{packed-same}
 use Rattle.blockmap.specs.SetLaws.{putAt, set-laid, set-packed}
+use Rattle.blockmap.specs.ClearLaws.{noneFrom, clear-laid, clear-packed}
 use Rattle.store.specs.Block.{slotOf}
 use Rattle.writing.specs.Write.{WriteOutcome}
 use Rattle.writing.specs.Mapped.{MappedOutcome, keptBy}
 use Rattle.writing.specs.MappedLaws.{mapped-accepted, mapped-refused}
+use Rattle.cutting.specs.Cut.{CutOutcome}
+use Rattle.cutting.specs.CutLaws.{map-done, map-not}
 use Rattle.building.specs.Build.{builtMap}
 use Rattle.building.specs.MapLaws.{laid-length, built-length}
 use Rattle.promises.specs.Words.{blocks, Stored}
-use Rattle.promises.specs.Cells.{emptied-length}
+use Rattle.span.specs.EmptiedLaws.{emptied-length}
 use Rattle.promises.specs.StoreLaws.{write-not, Accepted, accepted, write-stored}
-use Rattle.promises.specs.Kept.{write-mapped-kept}
+use Rattle.promises.specs.Kept.{write-mapped-kept, cut-mapped-kept}
 use Rattle.promises.specs.MapTables.{reaches, fitting, stored-numbers}
+use Rattle.promises.specs.CutTables.{cut-accepted, mapped-as-cut, cut-fitting}
 use Rattle.promises.specs.Runs.{write, wipe}
-use Rattle.promises.specs.RunWords.{Areas, Lent, outcome, taken, next}
+use Rattle.promises.specs.RunWords.{Areas, Lent, Cut, outcome, cutting, taken, next, cutTaken, cutNext}
 use Rattle.promises.specs.RunStore.{store}
-use Rattle.promises.specs.RunStoreLaws.{accepted-write}
+use Rattle.promises.specs.RunStoreLaws.{accepted-write, accepted-cut, cut-not-taken, drops}
 use Rattle.promises.specs.Beside.{BesideLaws}
-use Rattle.promises.specs.MapWords.{Mapped, mapRoom, Long, mapped, takesWithBy, doesWithBy}
+use Rattle.promises.specs.MapWords.{Mapped, mapRoom, Long, mapped, cutMapped, takesWithBy, doesWithBy}
 use Rattle.promises.specs.MapStore.{with, laid, beside}
+
+-- a map that is long enough is so with the built one laid over it
+pub laid-long : (s : Areas) (map : List ℕ) → Long s map → Long s (laid s map)
+laid-long s map long =
+    let l : length (laid s map) ≡ length map =
+    laid-length map (builtMap (s .patch)) (let q = built-length (s .patch) in omega (arith, q, long)) in
+    omega (arith, l, long)
 
 -- The built map after a write
 
@@ -75,27 +88,21 @@ module _ (P : ℕ) (s : Areas) (w : Lent) (e : taken P s w ≡ true) where
 
 module _ (P : ℕ) (s : Areas) (map : List ℕ) (w : Lent) where
   module _ (long : Long s map) where
-    fits-laid : Long s (laid s map)
-    fits-laid =
-        let l : length (laid s map) ≡ length map =
-        laid-length map (builtMap (s .patch)) (let q = built-length (s .patch) in omega (arith, q, long)) in
-        omega (arith, l, long)
-
     with-accepted : taken P s w ≡ true → mapped P (with s (laid s map)) w ≡ keptBy (outcome P s w) (laid s map) (w .block)
-    with-accepted e = mapped-accepted P (s .patch) (s .full) (laid s map) (w .block) (w .base) (w .page) fits-laid (accepted-write P s w e)
+    with-accepted e = mapped-accepted P (s .patch) (s .full) (laid s map) (w .block) (w .base) (w .page) (laid-long s map long) (accepted-write P s w e)
 
     with-refused : taken P s w ≡ false → mapped P (with s (laid s map)) w ≡ record { written = outcome P s w; map = laid s map }
-    with-refused e = mapped-refused P (s .patch) (s .full) (laid s map) (w .block) (w .base) (w .page) fits-laid
+    with-refused e = mapped-refused P (s .patch) (s .full) (laid s map) (w .block) (w .base) (w .page) (laid-long s map long)
         (eqb-false (outcome P s w .number) 0 e)
 
-    same-taken : takesWithBy (mapped P) (with s (laid s map)) (write w) ≡ taken P s w
+    same-taken : takesWithBy (mapped P) (cutMapped P) (with s (laid s map)) (write w) ≡ taken P s w
     same-taken = go (taken P s w) refl
       where
-        go : (t : Bool) → taken P s w ≡ t → takesWithBy (mapped P) (with s (laid s map)) (write w) ≡ taken P s w
+        go : (t : Bool) → taken P s w ≡ t → takesWithBy (mapped P) (cutMapped P) (with s (laid s map)) (write w) ≡ taken P s w
         go true e = ap (λ (o : MappedOutcome). eqb (o .written .number) 0) (with-accepted e)
         go false e = ap (λ (o : MappedOutcome). eqb (o .written .number) 0) (with-refused e)
 
-    moved : doesWithBy (mapped P) (with s (laid s map)) (write w) ≡ with (next P s w) (laid (next P s w) map)
+    moved : doesWithBy (mapped P) (cutMapped P) (with s (laid s map)) (write w) ≡ with (next P s w) (laid (next P s w) map)
     moved = go (taken P s w) refl
       where
         left : MappedOutcome → Mapped
@@ -108,7 +115,7 @@ module _ (P : ℕ) (s : Areas) (map : List ℕ) (w : Lent) where
             reaches (blocks (s .patch)) (w .block) (length (builtMap (s .patch))) (omega arith) b
 
         go : (t : Bool) → taken P s w ≡ t
-            → doesWithBy (mapped P) (with s (laid s map)) (write w) ≡ with (next P s w) (laid (next P s w) map)
+            → doesWithBy (mapped P) (cutMapped P) (with s (laid s map)) (write w) ≡ with (next P s w) (laid (next P s w) map)
         go true e =
             ap left (with-accepted e)
             ∙ ap (with (next P s w))
@@ -124,12 +131,86 @@ module _ (P : ℕ) (s : Areas) (map : List ℕ) (w : Lent) where
     refuses : mapped P (with s map) w .written .number ≡ 0 → ⊥
     refuses e = omega (arith, short, fitting P (s .patch) (s .full) map (w .block) (w .base) (w .page) e)
 
-    pub not-taken-short : takesWithBy (mapped P) (with s map) (write w) ≡ false
+    pub not-taken-short : takesWithBy (mapped P) (cutMapped P) (with s map) (write w) ≡ false
     not-taken-short = ne-eqb (mapped P (with s map) w .written .number) 0 refuses
 
-    pub nothing-short : doesWithBy (mapped P) (with s map) (write w) ≡ with s map
+    pub nothing-short : doesWithBy (mapped P) (cutMapped P) (with s map) (write w) ≡ with s map
     nothing-short =
         let k = write-mapped-kept P (s .patch) (s .full) map (w .block) (w .base) (w .page) refuses in
+        λ i. with (record { patch = k .0 i; full = k .1 i }) (k .2 i)
+
+-- The built map after a cut: the one before it, with the pairs of the blocks that were dropped cleared
+
+built-cut : (P : ℕ) (s : Areas) (K : Cut) → cutTaken P s K ≡ true
+    → clearPairs (builtMap (s .patch)) K (blocks (s .patch) - K) ≡ builtMap (cutNext P s K .patch)
+unfolding builtMap pairOf
+built-cut P s K e =
+    clear-packed before n K most
+    ∙ packed-same (noneFrom before K) after n pair
+    ∙ ap (λ (l : ℕ). packed after (blocksIn l)) (sym (drops P s K e .frame .patch-length))
+  where
+    n : ℕ
+    n = blocks (s .patch)
+
+    most : K ≤ blocks (s .patch)
+    most = cut-accepted P (s .patch) (s .full) K (accepted-cut P s K e) .1
+
+    before : ℕ → ℕ
+    before c = pairOf (slotNumbers (slotOf (s .patch) c) .kind)
+
+    after : ℕ → ℕ
+    after c = pairOf (slotNumbers (slotOf (cutNext P s K .patch) c) .kind)
+
+    pair : (c : ℕ) → c < blocks (s .patch) → noneFrom before K c ≡ after c
+    pair c h =
+        elim (decLt c K) [
+          | yes l ↦
+              (rw (lt-leb K c l)) ∙ ap (λ (x : List ℕ). pairOf (slotNumbers x .kind)) (sym (drops P s K e .same-slots c l))
+          | no l ↦
+              (rw (le-leb K c (omega arith)))
+              ∙ sym (ap (λ (x : List ℕ). pairOf (slotNumbers x .kind)) (drops P s K e .no-slots c (omega arith) h)
+              ∙ ap (λ (x : SlotNumbers). pairOf (x .kind)) empty-numbers)
+        ]
+
+-- One cut
+
+module _ (P : ℕ) (s : Areas) (map : List ℕ) (K : Cut) where
+  module _ (long : Long s map) where
+    cut-same : cutMapped P (with s (laid s map)) K .areas ≡ cutting P s K
+    cut-same = mapped-as-cut P (s .patch) (s .full) (laid s map) K (laid-long s map long)
+
+    cut-same-taken : takesWithBy (mapped P) (cutMapped P) (with s (laid s map)) (wipe K) ≡ cutTaken P s K
+    cut-same-taken = ap (λ (o : CutOutcome). eqb (o .number) 0) cut-same
+
+    cut-map : (t : Bool) → cutTaken P s K ≡ t → cutMapped P (with s (laid s map)) K .map ≡ laid (cutNext P s K) map
+    unfolding mapBytes
+    cut-map true e =
+        let done : cutMapped P (with s (laid s map)) K .areas .number ≡ 0 = ap (λ (o : CutOutcome). o .number) cut-same
+        ∙ accepted-cut P s K e in
+        let l : length (builtMap (s .patch)) ≡ mapBytes (blocks (s .patch)) = built-length (s .patch) in
+        let most : K ≤ blocks (s .patch) = cut-accepted P (s .patch) (s .full) K (accepted-cut P s K e) .1 in
+        let reach : K + (blocks (s .patch) - K) ≤ 4 * length (builtMap (s .patch)) = omega (arith, l, most) in
+        map-done P (s .patch) (s .full) (laid s map) K done
+        ∙ clear-laid map (builtMap (s .patch)) K (blocks (s .patch) - K) reach
+        ∙ ap (λ (x : List ℕ). splice map 0 x) (built-cut P s K e)
+    cut-map false e =
+        map-not P (s .patch) (s .full) (laid s map) K
+        (λ q. eqb-false (cutting P s K .number) 0 e (sym (ap (λ (o : CutOutcome). o .number) cut-same) ∙ q))
+        ∙ ap (λ (t : Areas). laid t map) (sym (cut-not-taken P s K e))
+
+    cut-moved : doesWithBy (mapped P) (cutMapped P) (with s (laid s map)) (wipe K) ≡ with (cutNext P s K) (laid (cutNext P s K) map)
+    cut-moved = λ i. with (record { patch = cut-same i .patch; full = cut-same i .full }) (cut-map (cutTaken P s K) refl i)
+
+  module _ (short : length map < mapRoom s) where
+    cut-refuses : cutMapped P (with s map) K .areas .number ≡ 0 → ⊥
+    cut-refuses e = omega (arith, short, cut-fitting P (s .patch) (s .full) map K e)
+
+    cut-short-taken : takesWithBy (mapped P) (cutMapped P) (with s map) (wipe K) ≡ false
+    cut-short-taken = ne-eqb (cutMapped P (with s map) K .areas .number) 0 cut-refuses
+
+    cut-short-nothing : doesWithBy (mapped P) (cutMapped P) (with s map) (wipe K) ≡ with s map
+    cut-short-nothing =
+        let k = cut-mapped-kept P (s .patch) (s .full) map K cut-refuses in
         λ i. with (record { patch = k .0 i; full = k .1 i }) (k .2 i)
 
 -- The laws of `Beside`
@@ -146,12 +227,22 @@ fits-short P s map e = rw (room-kept P s) at (leb-false (mapRoom (store P .frame
 pub beside-laws : (P : ℕ) → BesideLaws (store P) (beside P)
 beside-laws P =
     record {
-      moves = λ s map o. elim o [ write w ↦ λ e. moved P s map w (fits-long P s map e) | wipe c ↦ absurd c ];
-      takes-same = λ s map o. elim o [ write w ↦ λ e. same-taken P s map w (fits-long P s map e) | wipe c ↦ absurd c ];
+      moves =
+          λ s map o.
+          elim o [
+            | write w ↦ λ e. moved P s map w (fits-long P s map e)
+            | wipe K ↦ λ e. cut-moved P s map K (fits-long P s map e)
+          ];
+      takes-same =
+          λ s map o.
+          elim o [
+            | write w ↦ λ e. same-taken P s map w (fits-long P s map e)
+            | wipe K ↦ λ e. cut-same-taken P s map K (fits-long P s map e)
+          ];
       no-room =
           λ s map o.
           elim o [
             | write w ↦ λ e. (not-taken-short P s map w (fits-short P s map e), nothing-short P s map w (fits-short P s map e))
-            | wipe c ↦ absurd c
+            | wipe K ↦ λ e. (cut-short-taken P s map K (fits-short P s map e), cut-short-nothing P s map K (fits-short P s map e))
           ];
     }

@@ -14,10 +14,11 @@ use Rattle.stream.specs.Calls.{pageOf}
 use Rattle.reading.specs.Read.{ReadOutcome}
 use Rattle.reading.specs.Mapped.{readMappedOutcome}
 use Rattle.writing.specs.Mapped.{MappedOutcome, writeMappedOutcome}
+use Rattle.cutting.specs.Mapped.{MappedCut, cutMappedOutcome}
 use Rattle.building.specs.Build.{BuildOutcome, buildOutcome}
 use Rattle.promises.specs.Words.{blocks}
 use Rattle.promises.specs.Runs.{run, taking, write, wipe}
-use Rattle.promises.specs.RunWords.{Areas, Lent, Operation, lastTo, Decided, FreshAreas}
+use Rattle.promises.specs.RunWords.{Areas, Lent, Cut, Operation, lastTo, Follows, Decided, FreshAreas}
 
 -- both areas, and the map that is lent with them
 pub record Mapped : Type 0 where
@@ -42,7 +43,8 @@ buildInto P s map = buildOutcome P (s .patch) (s .full) map
 abbrev pub readByMap : ℕ → Mapped → ℕ → List ℕ → List ℕ → ReadOutcome
 readByMap P x b base page = readMappedOutcome P (x .areas .patch) (x .areas .full) (x .map) b base page
 
--- Programs: what comes of a write on both areas and a map. The right one is `mapped P`; `MapsWrong` has others.
+-- Programs: what comes of a write, and of a cut, on both areas and a map. The right ones are `mapped P` and `cutMapped P`; `MapsWrong` and
+-- `CutsWrong` have others.
 
 abbrev pub MappedProgram : Type 0
 MappedProgram = Mapped → Lent → MappedOutcome
@@ -50,40 +52,53 @@ MappedProgram = Mapped → Lent → MappedOutcome
 abbrev pub mapped : ℕ → MappedProgram
 mapped P x w = writeMappedOutcome P (x .areas .patch) (x .areas .full) (x .map) (w .block) (w .base) (w .page)
 
-abbrev pub takesWithBy : MappedProgram → Mapped → Operation → Bool
-takesWithBy program x (write w) = eqb (program x w .written .number) 0
-takesWithBy program x (wipe c) = absurd c
+abbrev pub MappedCutProgram : Type 0
+MappedCutProgram = Mapped → Cut → MappedCut
 
-abbrev pub doesWithBy : MappedProgram → Mapped → Operation → Mapped
-doesWithBy program x (write w) = record {
-  areas = record { patch = program x w .written .patch; full = program x w .written .full };
-  map = program x w .map;
+abbrev pub cutMapped : ℕ → MappedCutProgram
+cutMapped P x K = cutMappedOutcome P (x .areas .patch) (x .areas .full) (x .map) K
+
+abbrev pub takesWithBy : MappedProgram → MappedCutProgram → Mapped → Operation → Bool
+takesWithBy writes drops x (write w) = eqb (writes x w .written .number) 0
+takesWithBy writes drops x (wipe K) = eqb (drops x K .areas .number) 0
+
+abbrev pub doesWithBy : MappedProgram → MappedCutProgram → Mapped → Operation → Mapped
+doesWithBy writes drops x (write w) = record {
+  areas = record { patch = writes x w .written .patch; full = writes x w .written .full };
+  map = writes x w .map;
 }
-doesWithBy program x (wipe c) = absurd c
+doesWithBy writes drops x (wipe K) = record {
+  areas = record { patch = drops x K .areas .patch; full = drops x K .areas .full };
+  map = drops x K .map;
+}
 
 -- all three after a run, and those of its operations that were accepted when their turn came
-abbrev pub afterWithBy : MappedProgram → Mapped → List Operation → Mapped
-afterWithBy program x os = run (doesWithBy program) x os
+abbrev pub afterWithBy : MappedProgram → MappedCutProgram → Mapped → List Operation → Mapped
+afterWithBy writes drops x os = run (doesWithBy writes drops) x os
 
-abbrev pub acceptedWithBy : MappedProgram → Mapped → List Operation → List Operation
-acceptedWithBy program x os = taking (takesWithBy program) (doesWithBy program) x os
+abbrev pub acceptedWithBy : MappedProgram → MappedCutProgram → Mapped → List Operation → List Operation
+acceptedWithBy writes drops x os = taking (takesWithBy writes drops) (doesWithBy writes drops) x os
 
 abbrev pub afterWith : ℕ → Mapped → List Operation → Mapped
-afterWith P x os = afterWithBy (mapped P) x os
+afterWith P x os = afterWithBy (mapped P) (cutMapped P) x os
 
 abbrev pub acceptedWith : ℕ → Mapped → List Operation → List Operation
-acceptedWith P x os = acceptedWithBy (mapped P) x os
+acceptedWith P x os = acceptedWithBy (mapped P) (cutMapped P) x os
 
--- ls holds each block's last accepted write and nothing else, in any order
+-- ls holds each block's last accepted write that no later accepted cut covers, and nothing else, in any order
 abbrev pub JustLastsWith : ℕ → Mapped → List Operation → List Lent → Type 0
 JustLastsWith P x os ls = (w : Lent) → List·Memᴰ w ls ↔ (lastTo (w .block) (acceptedWith P x os) ≡ some (write w))
+
+-- "only the blocks it covers may have another base after it"
+abbrev pub FollowsBasesWith : ℕ → (ℕ → List ℕ) → Mapped → List Operation → (ℕ → List ℕ) → Type 0
+FollowsBasesWith P start x os end = Follows P start (acceptedWith P x os) end
 
 -- "each block always with the same base page"
 abbrev pub KeepsBasesWith : ℕ → (ℕ → List ℕ) → Mapped → List Operation → Type 0
 KeepsBasesWith P bases x os =
     (w : Lent) → List·Memᴰ (write w) (acceptedWith P x os) → pageOf P (w .base) ≡ pageOf P (bases (w .block))
 
--- what is needed of it: the write that stands at a block at the end was decided over the block's base page
+-- what is needed of either: the write that stands at a block at the end was decided over the block's base page then
 abbrev pub OverBasesWith : ℕ → (ℕ → List ℕ) → Mapped → List Operation → Type 0
 OverBasesWith P bases x os =
     (b : ℕ) → b < blocks (x .areas .patch) → (w : Lent) → lastTo b (acceptedWith P x os) ≡ some (write w) → Decided P (pageOf P (bases b)) w

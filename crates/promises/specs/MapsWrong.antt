@@ -1,5 +1,5 @@
 -- Wrong programs about a lent map, each shut out by the request's own words and a proved input: the two blocks of `Sample` and a map of one
--- byte. `MapBuilt` is demand 3's sentence on the map for the runs of a given program, `GoesByMap` the request's words on reads.
+-- byte. `MapBuilt` is demand 3's sentence on the map for the runs of given programs, `GoesByMap` the request's words on reads.
 use Prim.Native.Nat.{ℕ, zero, suc, _/_, _%_, _≤_, _<_}
 use native.Mathlib.Omega.{arith}
 use mathlib.Core.Path.{_≡_, refl, sym, ap, _∙_, subst}
@@ -29,7 +29,8 @@ use Rattle.promises.specs.RunWords.{Areas, readAt, Lent, Operation, outc
 use Rattle.promises.specs.FreshLaws.{fresh-cell}
 use Rattle.promises.specs.RunLaws.{run-fits}
 use Rattle.promises.specs.WriteLaws.{reads-back}
-use Rattle.promises.specs.MapWords.{Mapped, Long, buildInto, readByMap, MappedProgram, mapped, doesWithBy, afterWithBy, FreshWith}
+use Rattle.promises.specs.MapWords.{Mapped, Long, buildInto, readByMap, MappedProgram, mapped, MappedCutProgram, cutMapped}
+use Rattle.promises.specs.MapWords.{doesWithBy, afterWithBy, FreshWith}
 use Rattle.promises.specs.MapStore.{with}
 use Rattle.promises.specs.MapTables.{by-map-0, by-map-1, by-map-2-other, by-map-3}
 use Rattle.promises.specs.DemandThree.{kept-is-built}
@@ -38,12 +39,12 @@ use Rattle.promises.specs.Sample.{to, puts}
 
 -- Writes. "after any run from fresh areas and a zero map, lent to every write of the run, it equals the built one"
 
-abbrev pub MapBuilt : MappedProgram → Type 0
-MapBuilt program =
+abbrev pub MapBuilt : MappedProgram → MappedCutProgram → Type 0
+MapBuilt writes drops =
     (x : Mapped) → FreshWith pageSize x → Long (x .areas) (x .map) → (os : List Operation)
-    → buildInto pageSize (afterWithBy program x os .areas) (x .map) ≡ buildDone (afterWithBy program x os .map)
+    → buildInto pageSize (afterWithBy writes drops x os .areas) (x .map) ≡ buildDone (afterWithBy writes drops x os .map)
 
-pub right-map-built : MapBuilt (mapped pageSize)
+pub right-map-built : MapBuilt (mapped pageSize) (cutMapped pageSize)
 right-map-built x fresh long os = kept-is-built x fresh os long
 
 -- one that makes another map of what the right one leaves
@@ -82,33 +83,33 @@ T x = next pageSize sample (to 0 x)
 abbrev pub start : Mapped
 start = with sample (0 ∷ [])
 
-start-fresh : FreshWith pageSize start
+pub start-fresh : FreshWith pageSize start
 start-fresh = record { fresh = sample-fresh; zero = λ i h. none i }
   where
     none : (i : ℕ) → getD {A = ℕ} (0 ∷ []) i 0 ≡ 0
     none zero = refl
     none (suc i) = refl
 
-one-byte : (os : List Operation) (map : List ℕ) → length map ≡ 1 → MapFits (after pageSize sample os .patch) map
+pub one-byte : (os : List Operation) (map : List ℕ) → length map ≡ 1 → MapFits (after pageSize sample os .patch) map
 unfolding mapBytes
 one-byte os map e = rw (two-blocks os, e) (lit≤ tt)
 
 -- what the right one leaves of `one` written to a block
-one-kind : (os : List Operation) (b : ℕ) → b < 2 → outcome pageSize (after pageSize sample os) (to b one) .kind ≡ 1
+pub one-kind : (os : List Operation) (b : ℕ) → b < 2 → outcome pageSize (after pageSize sample os) (to b one) .kind ≡ 1
 unfolding decidedKind decidedStream kindFor
 one-kind os b h =
     ap (λ (o : WriteOutcome). o .kind)
     (write-done pageSize (after pageSize sample os .patch) (after pageSize sample os .full) b [] one (takes os (to b one) h one-fits))
     ∙ ap (λ (l : List ℕ). kindFor (length l)) stream-one
 
-wrote : (os : List Operation) (v b : ℕ) → b < 2 → mapped pageSize (with (after pageSize sample os) (v ∷ [])) (to b one)
+pub wrote : (os : List Operation) (v b : ℕ) → b < 2 → mapped pageSize (with (after pageSize sample os) (v ∷ [])) (to b one)
     ≡ keptBy (outcome pageSize (after pageSize sample os) (to b one)) (v ∷ []) b
 wrote os v b h =
     mapped-accepted pageSize (after pageSize sample os .patch) (after pageSize sample os .full) (v ∷ []) b [] one
     (one-byte os (v ∷ []) refl) (takes os (to b one) h one-fits)
 
 -- after one write of a program that leaves the right areas, its map is the right one
-module _ (makes : Mapped → Lent → MappedOutcome → List ℕ) (claim : MapBuilt (leaving makes)) where
+module _ (makes : Mapped → Lent → MappedOutcome → List ℕ) (claim : MapBuilt (leaving makes) (cutMapped pageSize)) where
   after-one : (w : Lent) → makes start w (mapped pageSize start w) ≡ mapped pageSize start w .map
   unfolding run
   after-one w =
@@ -116,7 +117,7 @@ module _ (makes : Mapped → Lent → MappedOutcome → List ℕ) (claim : MapBu
       (sym (claim start start-fresh (one-byte [] (0 ∷ []) refl) (write w ∷ []))
       ∙ right-map-built start start-fresh (one-byte [] (0 ∷ []) refl) (write w ∷ []))
 
-pub not-kind-for-pair : MapBuilt kindForPair → ⊥
+pub not-kind-for-pair : MapBuilt kindForPair (cutMapped pageSize) → ⊥
 unfolding kindForPair run setPair withPair byteOf pairOf
 not-kind-for-pair claim =
     let e = after-one kindMap claim (to 0 one) in
@@ -138,7 +139,7 @@ refused =
     wrong (inl e) = omega arith
     wrong (inr e) = omega arith
 
-pub not-though-refused : MapBuilt thoughRefused → ⊥
+pub not-though-refused : MapBuilt thoughRefused (cutMapped pageSize) → ⊥
 unfolding thoughRefused run setPair withPair byteOf unfit
 not-though-refused claim =
     let e = after-one refusedMap claim unfit in
@@ -149,25 +150,25 @@ not-though-refused claim =
     omega arith
 
 -- after one write more the pair of block 0 is lost: byte 8, where Build makes 10
-pub not-whole-byte : MapBuilt wholeByte → ⊥
+pub not-whole-byte : MapBuilt wholeByte (cutMapped pageSize) → ⊥
 unfolding run wholeByte setPair withPair byteOf pairOf
 not-whole-byte claim =
     let os : List Operation = puts 0 one ∷ puts 1 one ∷ [] in
     let long : Long sample (0 ∷ []) = one-byte [] (0 ∷ []) refl in
     let end : Areas = next pageSize (T one) (to 1 one) in
     let more : List Operation = puts 0 one ∷ [] in
-    let wrong-first : doesWithBy wholeByte start (puts 0 one) ≡ with (T one) (2 ∷ []) =
+    let wrong-first : doesWithBy wholeByte (cutMapped pageSize) start (puts 0 one) ≡ with (T one) (2 ∷ []) =
     rw (wrote [] 0 0 (lit< tt), takes [] (to 0 one) (lit< tt) one-fits, one-kind [] 0 (lit< tt)) refl in
-    let wrong-then : doesWithBy wholeByte (with (T one) (2 ∷ [])) (puts 1 one) ≡ with end (8 ∷ []) =
+    let wrong-then : doesWithBy wholeByte (cutMapped pageSize) (with (T one) (2 ∷ [])) (puts 1 one) ≡ with end (8 ∷ []) =
     rw (wrote more 2 1 (lit< tt), takes more (to 1 one) (lit< tt) one-fits, one-kind more 1 (lit< tt)) refl in
-    let wrong : afterWithBy wholeByte start os ≡ with end (8 ∷ []) =
-    ap (λ (x : Mapped). doesWithBy wholeByte x (puts 1 one)) wrong-first ∙ wrong-then in
-    let first : doesWithBy (mapped pageSize) start (puts 0 one) ≡ with (T one) (2 ∷ []) =
+    let wrong : afterWithBy wholeByte (cutMapped pageSize) start os ≡ with end (8 ∷ []) =
+    ap (λ (x : Mapped). doesWithBy wholeByte (cutMapped pageSize) x (puts 1 one)) wrong-first ∙ wrong-then in
+    let first : doesWithBy (mapped pageSize) (cutMapped pageSize) start (puts 0 one) ≡ with (T one) (2 ∷ []) =
     rw (wrote [] 0 0 (lit< tt), one-kind [] 0 (lit< tt)) refl in
-    let then : doesWithBy (mapped pageSize) (with (T one) (2 ∷ [])) (puts 1 one) ≡ with end (10 ∷ []) =
+    let then : doesWithBy (mapped pageSize) (cutMapped pageSize) (with (T one) (2 ∷ [])) (puts 1 one) ≡ with end (10 ∷ []) =
     rw (wrote more 2 1 (lit< tt), one-kind more 1 (lit< tt)) refl in
-    let right : afterWithBy (mapped pageSize) start os ≡ with end (10 ∷ []) =
-    ap (λ (x : Mapped). doesWithBy (mapped pageSize) x (puts 1 one)) first ∙ then in
+    let right : afterWithBy (mapped pageSize) (cutMapped pageSize) start os ≡ with end (10 ∷ []) =
+    ap (λ (x : Mapped). doesWithBy (mapped pageSize) (cutMapped pageSize) x (puts 1 one)) first ∙ then in
     let e : buildInto pageSize end (0 ∷ []) ≡ buildDone (8 ∷ []) =
     subst (λ (x : Mapped). buildInto pageSize (x .areas) (0 ∷ []) ≡ buildDone (x .map)) wrong (claim start start-fresh long os) in
     let f : buildInto pageSize end (0 ∷ []) ≡ buildDone (10 ∷ []) =

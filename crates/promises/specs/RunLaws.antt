@@ -1,32 +1,41 @@
 -- Demand 3 over any page size to 65,536, from what is proved of runs in general.
-use Prim.Native.Nat.{ℕ, _≤_, _<_}
+use Prim.Native.Nat.{ℕ, _*_, _≤_, _<_}
+use native.Mathlib.Omega.{arith}
+use native.Mathlib.Nat.{mul-le-mul-left}
+use native.Mathlib.Decide.{decLt}
 use mathlib.Core.Path.{_≡_, refl, sym, ap, _∙_, subst}
-use mathlib.Core.Logic.{inl, _↔_}
+use mathlib.Core.Bool.{true, cond}
+use mathlib.Core.Logic.{_⊎_, inl, inr, _↔_}
 use mathlib.Core.Option.{some}
-use mathlib.Core.List.{List, [], map}
+use mathlib.Core.List.{List, [], _∷_, map, List·Memᴰ, List·Memᴰ·head, List·Memᴰ·tail}
+use lib.Dec.{ltb}
 use lib.ListN.{length}
-use Rattle.span.specs.Bytes.{zeros, splice}
-use Rattle.span.specs.Laws.{zeros-length}
-use Rattle.layout.specs.Sizes.{patchHead, fullHead}
+use borrow.Author.Tests.{lt-ltb, leb-false}
+use Rattle.span.specs.Bytes.{zeros, part, splice}
+use Rattle.span.specs.Laws.{zeros-length, part-past}
+use Rattle.span.specs.EmptiedLaws.{emptied-length, emptied-same}
+use Rattle.layout.specs.Sizes.{patchHead, fullHead, pageAt}
+use Rattle.layout.specs.Lengths.{blocksIn, pagesIn}
 use Rattle.slots.specs.Slots.{SlotNumbers}
 use Rattle.slots.specs.Meaning.{empty-numbers}
 use Rattle.blockmap.specs.Pairs.{mapBytes}
 use Rattle.stream.specs.Calls.{pageOf}
+use Rattle.store.specs.Block.{slotOf, placeOf}
 use Rattle.reading.specs.Read.{ReadOutcome, readDone}
 use Rattle.building.specs.Build.{buildOutcome, builtMap, buildDone}
-use Rattle.promises.specs.Words.{blocks, PagesFit, FrameFits, SameFrame}
-use Rattle.promises.specs.Cells.{emptied-length, emptied-same}
+use Rattle.promises.specs.Words.{blocks, places, PagesFit, LengthsFit, FrameFits, SameFrame}
+use Rattle.promises.specs.Tables.{read-by-page}
 use Rattle.promises.specs.StoreLaws.{base-page-length}
 use Rattle.promises.specs.RunBuild.{builds}
-use Rattle.promises.specs.Decisions.{cellFor, blankCell, pageIn}
+use Rattle.promises.specs.Decisions.{Cell, cellFor, blankCell, pageIn}
 use Rattle.promises.specs.DecisionLaws.{blank-page, compared-fit, fit-kind}
-use Rattle.promises.specs.Runs.{NoRepeats, write, Fresh, standing, Lasts, lasts, OverAt, Over, ReadSame}
+use Rattle.promises.specs.Runs.{NoRepeats, write, wipe, Fresh, standing, Lasts, lasts, OverAt, Over, Bases, ReadSame}
 use Rattle.promises.specs.LastLaws.{last-in}
-use Rattle.promises.specs.StandingLaws.{stands, lasts-are, lasts-apart, run-frame, standing-is, run-left, write-left, blank-left}
-use Rattle.promises.specs.StandingLaws.{lasts-leave}
-use Rattle.promises.specs.SameLaws.{same-iff-read-same}
-use Rattle.promises.specs.RunWords.{Areas, readAt, Lent, Operation, after, accepted, lastTo, JustLasts, decision, Decided, KeepsBases}
-use Rattle.promises.specs.RunWords.{OverBases, FreshAreas}
+use Rattle.promises.specs.StandingLaws.{stands, lasts-are, lasts-apart, run-frame, standing-is, taking-accepts, run-left, write-left}
+use Rattle.promises.specs.StandingLaws.{blank-left, lasts-leave}
+use Rattle.promises.specs.SameLaws.{bases-over, same-at, same-iff-read-same}
+use Rattle.promises.specs.RunWords.{Areas, readAt, Lent, Operation, taken, after, accepted, lastTo, JustLasts, decision, Decided}
+use Rattle.promises.specs.RunWords.{Follows, FollowsBases, KeepsBases, OverBaseAt, OverBases, FreshAreas}
 use Rattle.promises.specs.RunStore.{cellAt, frameOf, store}
 use Rattle.promises.specs.RunStoreLaws.{good-frame, store-laws}
 use Rattle.promises.specs.RunReads.{reading, readIn, Held}
@@ -36,7 +45,7 @@ use Rattle.promises.specs.FreshLaws.{fresh-lengths, fresh-headers, fresh
 -- The words of demand 3 are those of `Runs`
 
 module _ (P : ℕ) (s : Areas) (os : List Operation) where
-  last-is : (b : ℕ) → standing (store P) (frameOf s) b os ≡ lastTo b (accepted P s os)
+  pub last-is : (b : ℕ) → standing (store P) (frameOf s) b os ≡ lastTo b (accepted P s os)
   unfolding lastTo
   last-is b = standing-is (store P) (store-laws P) b s os
 
@@ -59,8 +68,50 @@ module _ (P : ℕ) (s : Areas) (os : List Operation) where
   unfolding Over OverAt
   over-bases bases h b n w e = h b (rw (emptied-length patchHead (s .patch)) at n) w (sym (last-is b) ∙ e)
 
+-- "only the blocks it covers may have another base after it" is enough: in the words of `Runs`, over the pages that the bases stand for
+
+follows-pages : (P : ℕ) (f : Areas) (start end : ℕ → List ℕ) (os : List Operation)
+    → ((w : Lent) → List·Memᴰ (write w) os → taken P f w ≡ true) → Follows P start os end
+    → Bases (store P) (reading P) f (λ b. pageOf P (start b)) os (λ b. pageOf P (end b))
+follows-pages P f start end [] t h = h
+follows-pages P f start end (write w ∷ os) t h = (
+  rw (h .0) at (decided-over P f w (t w (List·Memᴰ·head refl))),
+  follows-pages P f start end os (λ v i. t v (List·Memᴰ·tail i)) (h .1),
+)
+follows-pages P f start end (wipe K ∷ os) t h = (
+  λ b. pageOf P (h .0 b),
+  λ b q. h .1 b (leb-false K b q),
+  follows-pages P f (h .0) end os (λ v i. t v (List·Memᴰ·tail i)) (h .2),
+)
+
+pub follows-over : (P : ℕ) (s : Areas) (os : List Operation) (start end : ℕ → List ℕ) → FollowsBases P start s os end
+    → OverBases P end s os
+unfolding Over OverAt
+follows-over P s os start end h b n w e =
+    bases-over (store P) (reading P) (store-laws P) s (λ c. pageOf P (start c)) (λ c. pageOf P (end c)) os
+    (follows-pages P (frameOf s) start end (accepted P s os)
+    (λ v i. taking-accepts (store P) (store-laws P) s os (write v) i) h)
+    b (rw (emptied-length patchHead (s .patch)) n) w (last-is P s os b ∙ e)
+
+-- a base that stands for the same page will do
+pub over-same : (P : ℕ) (s : Areas) (os : List Operation) (b : ℕ) (base base′ : List ℕ) → pageOf P base ≡ pageOf P base′
+    → OverBaseAt P base s os b → OverBaseAt P base′ s os b
+over-same P s os b base base′ e o w q = rw e at (o w q)
+
+-- a block not below m has no place
+place-past : (P : ℕ) (patch full : List ℕ) → LengthsFit P patch full → (b : ℕ) → places P full ≤ b → placeOf P full b ≡ []
+unfolding placeOf
+place-past P patch full fits b h = go (fits .full-length)
+  where
+    go : (length full ≡ 0) ⊎ ((length full ≡ pageAt P (places P full)) × (places P full ≤ blocks patch)) → part (pageAt P b) P full ≡ []
+    go (inl z) = part-past (pageAt P b) P full (omega arith)
+    go (inr l) =
+        let m : P * places P full ≤ P * b = mul-le-mul-left P h in
+        let e : length full ≡ pageAt P (places P full) = l .0 in
+        part-past (pageAt P b) P full (omega arith)
+
 module _ (P : ℕ) (s : Areas) (h : FreshAreas P s) where
-  fresh : Fresh (store P) s
+  pub fresh : Fresh (store P) s
   fresh =
       record {
         good = good-frame P s .0 (fresh-lengths P s h, fresh-headers P s h);
@@ -93,17 +144,17 @@ module _ (P : ℕ) (s : Areas) (h : FreshAreas P s) where
         record { pages = f; lengths = g .0; headers = g .1 }
 
   module _ (small : P ≤ 65536) (os : List Operation) (b : ℕ) (below : b < blocks (s .patch)) where
-    in-frame : b < blocks (frameOf s .patch)
+    pub in-frame : b < blocks (frameOf s .patch)
     in-frame = rw (emptied-length patchHead (s .patch)) below
 
-    held : Held P (after P s os .full) b (cellAt P (after P s os) b)
+    pub held : Held P (after P s os .full) b (cellAt P (after P s os) b)
     held =
         left-held P small (after P s os) b _
         (rw (run-frame (store P) (store-laws P) s os) (run-left (store P) (store-laws P) s fresh os b in-frame))
 
     module _ (base page : List ℕ) (f : PagesFit P base page) where
       -- Read gives what `Runs` reads of the cell, whatever the base
-      read-is : readAt P (after P s os) b base page ≡ readIn P (pageOf P base) (cellAt P (after P s os) b)
+      pub read-is : readAt P (after P s os) b base page ≡ readIn P (pageOf P base) (cellAt P (after P s os) b)
       read-is = held-reads P (after P s os) b (rw (kept os .patch-length) below) held base page (run-fits os base page f)
 
       -- (c)
@@ -137,6 +188,59 @@ module _ (P : ℕ) (s : Areas) (h : FreshAreas P s) where
       held-fine P (after P s os) b n (held small os b (rw (kept os .patch-length) at n)))
       (f .lengths) (f .headers) map long
 
+  -- (b) block by block
+  module _ (small : P ≤ 65536) (b : ℕ) (below : b < blocks (s .patch)) (base into : List ℕ) (f : PagesFit P base into)
+      (os os′ : List Operation) where
+    cells-iff : (cellAt P (after P s os) b ≡ cellAt P (after P s os′) b)
+        ↔ ((slotOf (after P s os .patch) b ≡ slotOf (after P s os′ .patch) b)
+        × (placeOf P (after P s os .full) b ≡ placeOf P (after P s os′ .full) b))
+    cells-iff = (
+      λ e. (ap (λ (c : Cell). c .slot) e, place e),
+      λ e. λ i. record { slot = e .0 i; place = cond (ltb b (places-same i)) (e .1 i) (zeros P) },
+    )
+      where
+        m : ℕ
+        m = places P (s .full)
+
+        kept-places : (os : List Operation) → places P (after P s os .full) ≡ places P (s .full)
+        kept-places os = ap (pagesIn P) (kept os .full-length)
+
+        places-same : places P (after P s os .full) ≡ places P (after P s os′ .full)
+        places-same = kept-places os ∙ sym (kept-places os′)
+
+        fits : (os : List Operation) → LengthsFit P (after P s os .patch) (after P s os .full)
+        fits os = run-fits os base into f .lengths
+
+        place : cellAt P (after P s os) b ≡ cellAt P (after P s os′) b
+            → placeOf P (after P s os .full) b ≡ placeOf P (after P s os′ .full) b
+        place e =
+            elim (decLt b (places P (s .full))) [
+              | yes l ↦
+                  rw (
+                    lt-ltb b (places P (after P s os .full)) (rw (kept-places os) l),
+                    lt-ltb b (places P (after P s os′ .full)) (rw (kept-places os′) l),
+                  ) at (ap (λ (c : Cell). c .place) e)
+              | no l ↦
+                  place-past P (after P s os .patch) (after P s os .full) (fits os) b (rw (kept-places os) (omega arith))
+                  ∙ sym (place-past P (after P s os′ .patch) (after P s os′ .full) (fits os′) b (rw (kept-places os′) (omega arith)))
+            ]
+
+    block-same : OverBaseAt P base s os b → OverBaseAt P base s os′ b
+        → ((slotOf (after P s os .patch) b ≡ slotOf (after P s os′ .patch) b)
+        × (placeOf P (after P s os .full) b ≡ placeOf P (after P s os′ .full) b))
+        ↔ (readAt P (after P s os) b base into .page ≡ readAt P (after P s os′) b base into .page)
+    unfolding OverAt
+    block-same over over′ =
+        let same = same-at (store P) (reading P) (store-laws P) (reading-laws P small) s fresh b
+        (rw (emptied-length patchHead (s .patch)) below) (pageOf P base) (base-page-length P base into f) os os′
+        (λ w e. over w (sym (last-is P s os b) ∙ e)) (λ w e. over′ w (sym (last-is P s os′ b) ∙ e)) in (
+          λ e. page-is os ∙ same .0 (cells-iff .1 e) ∙ sym (page-is os′),
+          λ e. cells-iff .0 (same .1 (sym (page-is os) ∙ e ∙ page-is os′)),
+        )
+      where
+        page-is : (us : List Operation) → readAt P (after P s us) b base into .page ≡ pageIn P (pageOf P base) (cellAt P (after P s us) b)
+        page-is us = ap (λ (o : ReadOutcome). o .page) (read-is small us b below base into f)
+
   -- (b)
   same-iff : P ≤ 65536 → (bases into : ℕ → List ℕ) → ((b : ℕ) → b < blocks (s .patch) → PagesFit P (bases b) (into b))
       → (os os′ : List Operation) → OverBases P bases s os → OverBases P bases s os′
@@ -159,7 +263,36 @@ module _ (P : ℕ) (s : Areas) (h : FreshAreas P s) where
           → readAt P (after P s os) b (bases b) (into b) .page ≡ pageIn P (pageOf P (bases b)) (cellAt P (after P s os) b)
       page-is os b n = ap (λ (o : ReadOutcome). o .page) (read-is small os b n (bases b) (into b) (fits b n))
 
-pub two-runs : (P : ℕ) → P ≤ 65536 → (s t : Areas) → FreshAreas P s → FreshAreas P t → length (s .patch) ≡ length (t .patch)
+-- (b) of two runs from fresh areas of the same lengths, at a block whose base pages agree at the end
+pub two-blocks : (P : ℕ) → P ≤ 65536 → (s t : Areas) → FreshAreas P s → FreshAreas P t → length (s .patch) ≡ length (t .patch)
+    → length (s .full) ≡ length (t .full)
+    → (b : ℕ) → b < blocks (s .patch) → (base base′ into : List ℕ) → PagesFit P base into → PagesFit P base′ into
+    → pageOf P base ≡ pageOf P base′
+    → (os os′ : List Operation) → OverBaseAt P base s os b → OverBaseAt P base′ t os′ b
+    → ((slotOf (after P s os .patch) b ≡ slotOf (after P t os′ .patch) b)
+    × (placeOf P (after P s os .full) b ≡ placeOf P (after P t os′ .full) b))
+    ↔ (readAt P (after P s os) b base into .page ≡ readAt P (after P t os′) b base′ into .page)
+two-blocks P small s t h k p f b below base base′ into fit fit′ agree os os′ over over′ =
+    subst
+    (λ (x : Areas).
+    OverBaseAt P base′ x os′ b
+    → ((slotOf (after P s os .patch) b ≡ slotOf (after P x os′ .patch) b)
+    × (placeOf P (after P s os .full) b ≡ placeOf P (after P x os′ .full) b))
+    ↔ (readAt P (after P s os) b base into .page ≡ readAt P (after P x os′) b base′ into .page))
+    (fresh-one P s t h k p f) one over′
+  where
+    one : OverBaseAt P base′ s os′ b
+        → ((slotOf (after P s os .patch) b ≡ slotOf (after P s os′ .patch) b)
+        × (placeOf P (after P s os .full) b ≡ placeOf P (after P s os′ .full) b))
+        ↔ (readAt P (after P s os) b base into .page ≡ readAt P (after P s os′) b base′ into .page)
+    one o =
+        let q = block-same P s h small b below base into fit os os′ over (over-same P s os′ b base′ base (sym agree) o) in
+        let r : readAt P (after P s os′) b base into .page ≡ readAt P (after P s os′) b base′ into .page =
+        ap (λ (o : ReadOutcome). o .page)
+        (read-by-page P (after P s os′ .patch) (after P s os′ .full) b base base′ into fit fit′ agree) in
+        (λ e. q .0 e ∙ r, λ e. q .1 (e ∙ sym r))
+
+two-runs : (P : ℕ) → P ≤ 65536 → (s t : Areas) → FreshAreas P s → FreshAreas P t → length (s .patch) ≡ length (t .patch)
     → length (s .full) ≡ length (t .full)
     → (bases into : ℕ → List ℕ) → ((b : ℕ) → b < blocks (s .patch) → PagesFit P (bases b) (into b))
     → (os os′ : List Operation) → OverBases P bases s os → OverBases P bases t os′
@@ -174,3 +307,34 @@ two-runs P small s t h k p f bases into fits os os′ =
     ↔ ((b : ℕ) → b < blocks (s .patch)
     → readAt P (after P s os) b (bases b) (into b) .page ≡ readAt P (after P x os′) b (bases b) (into b) .page))
     (fresh-one P s t h k p f) (same-iff P s h small bases into fits os os′)
+
+-- "two runs are compared where their bases agree at the end"
+pub runs-agreeing : (P : ℕ) → P ≤ 65536 → (s t : Areas) → FreshAreas P s → FreshAreas P t → length (s .patch) ≡ length (t .patch)
+    → length (s .full) ≡ length (t .full)
+    → (bases bases′ into : ℕ → List ℕ) → ((b : ℕ) → b < blocks (s .patch) → PagesFit P (bases b) (into b))
+    → ((b : ℕ) → b < blocks (s .patch) → PagesFit P (bases′ b) (into b))
+    → ((b : ℕ) → b < blocks (s .patch) → pageOf P (bases b) ≡ pageOf P (bases′ b))
+    → (os os′ : List Operation) → OverBases P bases s os → OverBases P bases′ t os′
+    → (after P s os ≡ after P t os′)
+    ↔ ((b : ℕ) → b < blocks (s .patch)
+    → readAt P (after P s os) b (bases b) (into b) .page ≡ readAt P (after P t os′) b (bases′ b) (into b) .page)
+runs-agreeing P small s t h k p f bases bases′ into fits fits′ agree os os′ over over′ = (
+  λ e b n. same .0 e b n ∙ alike b n,
+  λ r. same .1 (λ b n. r b n ∙ sym (alike b n)),
+)
+  where
+    n-same : blocks (t .patch) ≡ blocks (s .patch)
+    n-same = ap blocksIn (sym p)
+
+    same : (after P s os ≡ after P t os′)
+        ↔ ((b : ℕ) → b < blocks (s .patch)
+        → readAt P (after P s os) b (bases b) (into b) .page ≡ readAt P (after P t os′) b (bases b) (into b) .page)
+    same =
+        two-runs P small s t h k p f bases into fits os os′ over
+        (λ b n. over-same P t os′ b (bases′ b) (bases b) (sym (agree b (rw n-same at n))) (over′ b n))
+
+    alike : (b : ℕ) → b < blocks (s .patch)
+        → readAt P (after P t os′) b (bases b) (into b) .page ≡ readAt P (after P t os′) b (bases′ b) (into b) .page
+    alike b n =
+        ap (λ (o : ReadOutcome). o .page)
+        (read-by-page P (after P t os′ .patch) (after P t os′ .full) b (bases b) (bases′ b) (into b) (fits b n) (fits′ b n) (agree b n))

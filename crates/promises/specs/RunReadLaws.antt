@@ -20,7 +20,7 @@ use Rattle.building.specs.Build.{blockFault}
 use Rattle.building.specs.BuildLaws.{no-strays, block-empty, block-patch, block-full}
 use Rattle.promises.specs.Words.{blocks, places, FrameFits, streamOf}
 use Rattle.promises.specs.SlotLaws.{patch-of, image-empty, image-patch, image-full}
-use Rattle.promises.specs.Cells.{emptied-length}
+use Rattle.span.specs.EmptiedLaws.{emptied-length}
 use Rattle.promises.specs.StoreLaws.{base-page-length, Accepted, accepted}
 use Rattle.promises.specs.ReadLaws.{reads-empty, reads-patch, reads-full}
 use Rattle.promises.specs.Decisions.{Cell, Fit, pageIn}

@@ -2,14 +2,13 @@
 use Prim.Native.Nat.{ℕ}
 use mathlib.Core.Bool.{cond}
 use lib.Dec.{ltb}
-use Rattle.span.specs.Bytes.{zeros}
+use Rattle.span.specs.Bytes.{zeros, emptied}
 use Rattle.layout.specs.Sizes.{patchHead, fullHead}
 use Rattle.store.specs.Block.{slotOf, placeOf}
 use Rattle.promises.specs.Words.{blocks, places, LengthsFit, HeadersFit}
-use Rattle.promises.specs.Cells.{emptied}
 use Rattle.promises.specs.Decisions.{Cell, cellFor, blankCell}
 use Rattle.promises.specs.Runs.{Store}
-use Rattle.promises.specs.RunWords.{Areas, Lent, Cut, cuts, outcome, takesBy, doesBy, decision}
+use Rattle.promises.specs.RunWords.{Areas, Lent, Cut, cuts, outcome, cutting, takesBy, doesBy, decision}
 
 abbrev pub cellAt : ℕ → Areas → ℕ → Cell
 cellAt P s b = record { slot = slotOf (s .patch) b; place = cond (ltb b (places P (s .full))) (placeOf P (s .full) b) (zeros P) }
@@ -32,8 +31,8 @@ store P = record {
   cell = λ w. cellFor P (decision P w);
   blank = blankCell P;
   covers = λ f c b. cuts c b;
-  takes = takesBy (outcome P);
-  step = doesBy (outcome P);
-  accepts = takesBy (outcome P);
+  takes = takesBy (outcome P) (cutting P);
+  step = doesBy (outcome P) (cutting P);
+  accepts = takesBy (outcome P) (cutting P);
   Good = λ f. LengthsFit P (f .patch) (f .full) × HeadersFit P (f .patch) (f .full);
 }

@@ -4,26 +4,41 @@ use native.Mathlib.Omega.{arith}
 use mathlib.Core.Path.{_≡_, refl, sym, ap, _∙_}
 use mathlib.Core.Bool.{Bool, true, false, _&&_, cond}
 use mathlib.Core.Logic.{_↔_, _⊎_, inl, inr}
+use mathlib.Core.List.{[]}
 use lib.Dec.{eqb, leb, ltb}
 use lib.ListN.{length}
-use borrow.Author.Tests.{lt-ltb, ltb-true, ltb-false, eqb-true, eqb-false}
-use Rattle.span.specs.Bytes.{zeros, part}
+use borrow.Author.Tests.{lt-ltb, ltb-true, ltb-false, leb-true, leb-false, eqb-true, eqb-false}
+use Rattle.span.specs.Bytes.{zeros, part, emptied}
 use Rattle.span.specs.Laws.{part-none}
+use Rattle.span.specs.EmptiedLaws.{emptied-length, emptied-part, emptied-same}
 use Rattle.layout.specs.Sizes.{patchHead, fullHead, slotSize, pageAt}
 use Rattle.layout.specs.Refusals.{orElse}
 use Rattle.store.specs.Block.{slotOf, placeOf}
 use Rattle.writing.specs.Write.{decidedKind, WriteOutcome}
 use Rattle.writing.specs.Given.{write-number}
+use Rattle.cutting.specs.CutLaws.{cut-number}
 use Rattle.promises.specs.Words.{blocks, places, LengthsFit, HeadersFit, SameFrame, Stored}
 use Rattle.promises.specs.FrameLaws.{frameNumber, frame-emptied, lengths-moved, headers-moved}
 use Rattle.promises.specs.Tables.{write-rows}
-use Rattle.promises.specs.Cells.{cells-ext, emptied, emptied-length, emptied-part, emptied-same}
+use Rattle.promises.specs.Cells.{cells-ext}
 use Rattle.promises.specs.StoreLaws.{write-done, write-not, Accepted, accepted, write-stored, imageOf, contentOf, carried-slot}
 use Rattle.promises.specs.StoreLaws.{carried-place, content-none}
-use Rattle.promises.specs.Decisions.{Cell, cellFor}
+use Rattle.promises.specs.CutWords.{Dropped}
+use Rattle.promises.specs.CutTables.{areasNumber, cut-by-frame}
+use Rattle.promises.specs.CutLaws.{cut-drops, cut-kept}
+use Rattle.promises.specs.Decisions.{Cell, cellFor, blankCell}
 use Rattle.promises.specs.Runs.{write, wipe, Laws}
-use Rattle.promises.specs.RunWords.{Areas, Lent, outcome, taken, next, decision}
+use Rattle.promises.specs.RunWords.{Areas, Lent, Cut, outcome, cutting, taken, next, cutTaken, cutNext, decision}
 use Rattle.promises.specs.RunStore.{cellAt, frameOf, store}
+
+-- areas of the same lengths and headers have one frame
+frame-is : (s t : Areas) → SameFrame (s .patch) (s .full) (t .patch) (t .full) → frameOf t ≡ frameOf s
+frame-is s t f = λ i. record {
+  patch = emptied-same patchHead (t .patch) (s .patch) .1 (f .patch-length, f .patch-header) i;
+  full = emptied-same fullHead (t .full) (s .full) .1 (f .full-length, f .full-header) i;
+}
+
+-- A write
 
 -- a refusal is a matter of the frame and the call
 taken-frame : (P : ℕ) (s : Areas) (w : Lent) → taken P (frameOf s) w ≡ taken P s w
@@ -98,14 +113,53 @@ module _ (P : ℕ) (s : Areas) (w : Lent) where
   frame-next = go (taken P s w) refl
     where
       go : (t : Bool) → taken P s w ≡ t → frameOf (next P s w) ≡ frameOf s
-      go true e =
-          let f = done e .frame in
-          λ i.
-          record {
-            patch = emptied-same patchHead (outcome P s w .patch) (s .patch) .1 (f .patch-length, f .patch-header) i;
-            full = emptied-same fullHead (outcome P s w .full) (s .full) .1 (f .full-length, f .full-header) i;
-          }
+      go true e = frame-is s (next P s w) (done e .frame)
       go false e = ap frameOf (not-taken e)
+
+-- A cut
+
+cut-taken-frame : (P : ℕ) (s : Areas) (K : Cut) → cutTaken P (frameOf s) K ≡ cutTaken P s K
+cut-taken-frame P s K = ap (λ (k : ℕ). eqb k 0) (number (frameOf s) ∙ same ∙ sym (number s))
+  where
+    number : (t : Areas) → cutting P t K .number ≡ orElse (areasNumber P (t .patch) (t .full)) (cond (ltb (blocks (t .patch)) K) 5 0)
+    number t = cut-number P [] (t .patch) (t .full) K ∙ cut-by-frame P (t .patch) (t .full) K
+
+    same : orElse (areasNumber P (emptied patchHead (s .patch)) (emptied fullHead (s .full)))
+        (cond (ltb (blocks (emptied patchHead (s .patch))) K) 5 0)
+        ≡ orElse (areasNumber P (s .patch) (s .full)) (cond (ltb (blocks (s .patch)) K) 5 0)
+    same = rw (frame-emptied P (s .patch) (s .full) [] (zeros P), emptied-length patchHead (s .patch))
+
+module _ (P : ℕ) (s : Areas) (K : Cut) where
+  pub accepted-cut : cutTaken P s K ≡ true → cutting P s K .number ≡ 0
+  accepted-cut e = eqb-true (cutting P s K .number) 0 e
+
+  pub cut-not-taken : cutTaken P s K ≡ false → cutNext P s K ≡ s
+  cut-not-taken e =
+      let k = cut-kept P (s .patch) (s .full) K (eqb-false (cutting P s K .number) 0 e) in
+      λ i. record { patch = k .0 i; full = k .1 i }
+
+  module _ (e : cutTaken P s K ≡ true) where
+    pub drops : Dropped P (s .patch) (s .full) K (cutNext P s K .patch) (cutNext P s K .full)
+    drops = cut-drops P (s .patch) (s .full) K (accepted-cut e)
+
+    pub cell-dropped : (b : ℕ) → b < blocks (s .patch) → K ≤ b → cellAt P (cutNext P s K) b ≡ blankCell P
+    cell-dropped b n h =
+        λ i. record { slot = drops .no-slots b h n i; place = place (ltb b (places P (s .full))) refl i }
+      where
+        place : (t : Bool) → ltb b (places P (s .full)) ≡ t
+            → cond (ltb b (places P (cutNext P s K .full))) (placeOf P (cutNext P s K .full) b) (zeros P) ≡ zeros P
+        place true q = rw (drops .frame .full-length, q) (drops .no-places b h (ltb-true b (places P (s .full)) q))
+        place false q = rw (drops .frame .full-length, q)
+
+    pub cell-kept : (b : ℕ) → b < K → cellAt P (cutNext P s K) b ≡ cellAt P s b
+    cell-kept b h = rw (drops .same-slots b h, drops .frame .full-length, drops .same-places b h)
+
+  cut-frame-next : frameOf (cutNext P s K) ≡ frameOf s
+  cut-frame-next = go (cutTaken P s K) refl
+    where
+      go : (t : Bool) → cutTaken P s K ≡ t → frameOf (cutNext P s K) ≡ frameOf s
+      go true e = frame-is s (cutNext P s K) (drops e .frame)
+      go false e = ap frameOf (cut-not-taken e)
 
 -- the frame is good just where the areas are
 pub good-frame : (P : ℕ) (s : Areas)
@@ -161,13 +215,20 @@ module _ (P : ℕ) (s t : Areas) (fits : LengthsFit P (s .patch) (s .full)) (e :
 pub store-laws : (P : ℕ) → Laws (store P)
 store-laws P =
     record {
-      frame-kept = λ s o. elim o [ write w ↦ frame-next P s w | wipe c ↦ absurd c ];
-      by-frame = λ s o. elim o [ write w ↦ sym (taken-frame P s w) | wipe c ↦ absurd c ];
-      refused = λ s o. elim o [ write w ↦ λ e. not-taken P s w (sym (taken-frame P s w) ∙ e) | wipe c ↦ absurd c ];
+      frame-kept = λ s o. elim o [ write w ↦ frame-next P s w | wipe K ↦ cut-frame-next P s K ];
+      by-frame = λ s o. elim o [ write w ↦ sym (taken-frame P s w) | wipe K ↦ sym (cut-taken-frame P s K) ];
+      refused =
+          λ s o.
+          elim o [
+            | write w ↦ λ e. not-taken P s w (sym (taken-frame P s w) ∙ e)
+            | wipe K ↦ λ e. cut-not-taken P s K (sym (cut-taken-frame P s K) ∙ e)
+          ];
       write-here = λ s w b e h q. ap (cellAt P (next P s w)) (sym q) ∙ cell-here P s w (sym (taken-frame P s w) ∙ e);
       write-elsewhere = λ s w b e h d. cell-other P s w (sym (taken-frame P s w) ∙ e) b (λ q. d (sym q));
-      wiped = λ s c. absurd c;
-      not-wiped = λ s c. absurd c;
+      wiped =
+          λ s K b e h q. cell-dropped P s K (sym (cut-taken-frame P s K) ∙ e) b (rw (emptied-length patchHead (s .patch)) at h)
+          (leb-true K b q);
+      not-wiped = λ s K b e h q. cell-kept P s K (sym (cut-taken-frame P s K) ∙ e) b (leb-false K b q);
       ext =
           λ s t good e h.
           let fits : LengthsFit P (s .patch) (s .full) = good-frame P s .1 good .0 in

@@ -4,7 +4,7 @@
 -- cut of a table, which drops all blocks from some number on; a store that has no such call has the empty type for them.
 --
 -- What is proved of runs is in `LastLaws` (lists), `StandingLaws` (what a run leaves) and `SameLaws` (how it reads, and when two runs
--- leave the same); `RunsCut` tries it on a store that has cuts.
+-- leave the same). `RunStore` makes such a store of both areas, whose wipes are cuts.
 use Prim.Native.Nat.{ℕ, _<_}
 use mathlib.Core.Path.{_≡_}
 use mathlib.Core.Logic.{_↔_}

@@ -1,4 +1,4 @@
--- What `Wrong` and `RunsWrong` are tried on: fresh areas of two blocks and two places, and pages of 8,192 bytes.
+-- What `Wrong`, `RunsWrong`, `CutsWrong` and `RunsTried` are tried on: fresh areas of two blocks and two places, and pages of 8,192 bytes.
 use Prim.Native.Nat.{ℕ, _-_, _≤_, _<_}
 use native.Mathlib.Omega.{arith}
 use mathlib.Core.Path.{_≡_, refl, sym, ap, _∙_}
@@ -30,7 +30,9 @@ use Rattle.promises.specs.Tables.{write-table}
 use Rattle.promises.specs.WriteLaws.{reads-back}
 use Rattle.promises.specs.Decisions.{Cell, cellFor}
 use Rattle.promises.specs.Runs.{run, taking, lastSuch, write}
-use Rattle.promises.specs.RunWords.{Areas, readAt, Lent, Operation, outcome, after, accepted, next, lastTo, decision, FreshAreas}
+use Rattle.promises.specs.CutWords.{AreasFit, CutGives}
+use Rattle.promises.specs.CutTables.{cut-table}
+use Rattle.promises.specs.RunWords.{Areas, readAt, Lent, Operation, outcome, cutting, after, accepted, next, lastTo, decision, FreshAreas}
 use Rattle.promises.specs.RunStore.{cellAt}
 use Rattle.promises.specs.RunStoreLaws.{cell-here}
 use Rattle.promises.specs.RunLaws.{kept, run-fits, reads-base}
@@ -86,6 +88,22 @@ module _ (os : List Operation) where
   refuses w h f =
       write-table pageSize (after pageSize sample os .patch) (after pageSize sample os .full) (w .block) (w .base) (w .page) 5 .1
       (WriteGives.block (run-fits pageSize sample sample-fresh os (w .base) (w .page) f) (rw two-blocks h))
+
+  -- a cut at 0, 1 or 2 is accepted, and one above is refused with 5
+  pub areas-fit : AreasFit pageSize (after pageSize sample os .patch) (after pageSize sample os .full)
+  areas-fit =
+      let f = run-fits pageSize sample sample-fresh os [] (zeros pageSize) (record { base-length = inl refl; page-length = zeros-length pageSize }) in
+      record { lengths = f .lengths; headers = f .headers }
+
+  pub cut-takes : (K : ℕ) → K ≤ 2 → cutting pageSize (after pageSize sample os) K .number ≡ 0
+  cut-takes K h =
+      cut-table pageSize (after pageSize sample os .patch) (after pageSize sample os .full) K 0 .1
+      (CutGives.done areas-fit (rw two-blocks h))
+
+  pub cut-refuses : (K : ℕ) → 2 < K → cutting pageSize (after pageSize sample os) K .number ≡ 5
+  cut-refuses K h =
+      cut-table pageSize (after pageSize sample os .patch) (after pageSize sample os .full) K 5 .1
+      (CutGives.above areas-fit (rw two-blocks h))
 
 -- The pages
 

@@ -5,7 +5,7 @@ use mathlib.Core.Path.{_≡_, refl, sym, ap, _∙_}
 use mathlib.Core.Logic.{_↔_, _⊎_, inl, inr}
 use mathlib.Core.Bool.{Bool, true, false, _&&_, cond}
 use mathlib.Core.Option.{Option, none, some, Option·map, Option·none-ne-some}
-use mathlib.Core.List.{List, [], _∷_, map, List·Memᴰ, List·Memᴰ·head, List·Memᴰ·tail, List·Memᴰ·not-nil}
+use mathlib.Core.List.{List, [], _∷_, map, List·Memᴰ, List·Memᴰ·head, List·Memᴰ·tail, List·Memᴰ·not-nil, List·Memᴰ·cases-cons}
 use lib.Dec.{eqb}
 use borrow.Author.Tests.{eqb-true, eqb-false, eq-eqb}
 use Rattle.span.specs.Laws.{and-left, and-right}
@@ -109,6 +109,20 @@ module _ (S : Store) where
             ≡ lastSuch (concerns block (covers (frame s)) b) (cond t (o ∷ rest) rest)
         go true e = ap (later (concerns block (covers (frame s)) b o) o) e
         go false e = skip (standing S (frame s) b os) ∙ e
+
+    -- an operation that was taken is one that the frame accepts
+    pub taking-accepts : (s : State) (os : Ops S) (o : Op Write Wipe) → List·Memᴰ o (taking takes step s os) → accepts (frame s) o ≡ true
+    unfolding taking
+    taking-accepts s [] o i = absurd (List·Memᴰ·not-nil i)
+    taking-accepts s (v ∷ os) o i = go (takes s v) refl i (λ j. rw (L .frame-kept s v) at (taking-accepts (step s v) os o j))
+      where
+        rest : Ops S
+        rest = taking takes step (step s v) os
+
+        go : (t : Bool) → takes s v ≡ t → List·Memᴰ o (cond t (v ∷ rest) rest) → (List·Memᴰ o rest → accepts (frame s) o ≡ true)
+            → accepts (frame s) o ≡ true
+        go true e j later = elim (List·Memᴰ·cases-cons j) [ inl q ↦ rw q (sym (L .by-frame s v) ∙ e) | inr k ↦ later k ]
+        go false e j later = later j
 
     step-at : (s : State) (o : Op Write Wipe) (b : ℕ) → b < blocks (frame s)
         → at (step s o) b ≡ leaves S (at s b) (later (touches S (frame s) b o) o none)

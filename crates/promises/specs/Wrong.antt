@@ -33,14 +33,14 @@ use Rattle.promises.specs.Decisions.{Cell}
 use Rattle.promises.specs.Runs.{run, taking, later, lastSuch, write, concerns}
 use Rattle.promises.specs.LastLaws.{last-in}
 use Rattle.promises.specs.StandingLaws.{same-write}
-use Rattle.promises.specs.RunWords.{Areas, readAt, Lent, cuts, Operation, Program, outcome, afterBy, acceptedBy, after, next, lastTo}
-use Rattle.promises.specs.RunWords.{JustLastsBy, Decided, FreshAreas}
+use Rattle.promises.specs.RunWords.{Areas, readAt, Lent, cuts, Operation, Program, CutProgram, outcome, cutting, afterBy, acceptedBy, after, next}
+use Rattle.promises.specs.RunWords.{lastTo, JustLastsBy, Decided, FreshAreas}
 use Rattle.promises.specs.RunStore.{cellAt}
 use Rattle.promises.specs.RunStoreLaws.{cell-here}
 use Rattle.promises.specs.RunReadLaws.{decided-over}
 use Rattle.promises.specs.FreshLaws.{fresh-lengths, fresh-headers, fresh-cell}
 use Rattle.promises.specs.RunLaws.{kept, run-fits}
-use Rattle.promises.specs.DemandThree.{lasts-leave-the-same, reads-as-last}
+use Rattle.promises.specs.DemandThree.{lasts-leave-the-same, reads-as-last, reads-as-base}
 use Rattle.promises.specs.Sample.{sample, sample-fresh, two-blocks, two-places, takes, refuses, page, same-bytes, one, two, many}
 use Rattle.promises.specs.Sample.{one-fits, two-fits, stream-one, stream-two, stream-next, to, puts, slot-of, place-ones}
 use Rattle.promises.specs.Sample.{reads, reads-zeros, changes, same-page}
@@ -70,27 +70,37 @@ areas o = record { patch = o .patch; full = o .full }
 abbrev pub T : List ℕ → Areas
 T x = next pageSize sample (to 0 x)
 
--- Demand 3 for the runs of a given program: the areas that it leaves, and the writes that it said were done
+-- Demand 3 for the runs of given programs: the areas that they leave, and the operations that they said were done
 
--- (a): the last accepted writes alone are accepted and leave the same
-abbrev pub LastsLeave : Program → Type 0
-LastsLeave program =
-    (s : Areas) → FreshAreas pageSize s → (os : List Operation) (ls : List Lent) → JustLastsBy program s os ls
-    → (acceptedBy program s (map write ls) ≡ map write ls) × (afterBy program s (map write ls) ≡ afterBy program s os)
+-- (a): the last accepted writes that no later accepted cut covers are accepted by themselves, and leave the same
+abbrev pub LastsLeave : Program → CutProgram → Type 0
+LastsLeave writes drops =
+    (s : Areas) → FreshAreas pageSize s → (os : List Operation) (ls : List Lent) → JustLastsBy writes drops s os ls
+    → (acceptedBy writes drops s (map write ls) ≡ map write ls) × (afterBy writes drops s (map write ls) ≡ afterBy writes drops s os)
 
--- (c): each block reads as its last accepted page
-abbrev pub ReadsAsLast : Program → Type 0
-ReadsAsLast program =
+-- (c): each block reads as the page of the write that stands there,
+abbrev pub ReadsAsLast : Program → CutProgram → Type 0
+ReadsAsLast writes drops =
     (s : Areas) → FreshAreas pageSize s → (os : List Operation) (b : ℕ) → b < blocks (s .patch)
-    → (w : Lent) → lastTo b (acceptedBy program s os) ≡ some (write w)
+    → (w : Lent) → lastTo b (acceptedBy writes drops s os) ≡ some (write w)
     → (base page : List ℕ) → PagesFit pageSize base page → Decided pageSize (pageOf pageSize base) w
-    → readAt pageSize (afterBy program s os) b base page .page ≡ w .page
+    → readAt pageSize (afterBy writes drops s os) b base page .page ≡ w .page
 
--- so the right one keeps them
-pub right-keeps : LastsLeave (outcome pageSize) × ReadsAsLast (outcome pageSize)
+-- or as its base where none does
+abbrev pub ReadsAsBase : Program → CutProgram → Type 0
+ReadsAsBase writes drops =
+    (s : Areas) → FreshAreas pageSize s → (os : List Operation) (b : ℕ) → b < blocks (s .patch)
+    → ((w : Lent) → lastTo b (acceptedBy writes drops s os) ≡ some (write w) → ⊥)
+    → (base page : List ℕ) → PagesFit pageSize base page
+    → readAt pageSize (afterBy writes drops s os) b base page .page ≡ pageOf pageSize base
+
+-- so the right ones keep them
+pub right-keeps : LastsLeave (outcome pageSize) (cutting pageSize) × ReadsAsLast (outcome pageSize) (cutting pageSize)
+    × ReadsAsBase (outcome pageSize) (cutting pageSize)
 right-keeps = (
   λ s fresh os ls l. lasts-leave-the-same s fresh os ls l,
   λ s fresh os b n w e base page f d. ap (λ (o : ReadOutcome). o .page) (reads-as-last s fresh os b n w e base page f d),
+  λ s fresh os b n e base page f. ap (λ (o : ReadOutcome). o .page) (reads-as-base s fresh os b n e base page f),
 )
 
 -- A Write that only refuses
@@ -128,14 +138,14 @@ pub not-only-block-0 : Breaks onlyBlock0 sample (to 1 one)
 unfolding onlyBlock0
 not-only-block-0 = other onlyBlock0 sample (to 1 one) (nothing-breaks 1 (lit< tt))
 
-pub not-only-block-0-run : ReadsAsLast onlyBlock0 → ⊥
+pub not-only-block-0-run : ReadsAsLast onlyBlock0 (cutting pageSize) → ⊥
 unfolding run taking onlyBlock0 storesNothing lastTo lastSuch later concerns
 not-only-block-0-run claim =
     let os : List Operation = puts 0 one ∷ puts 1 one ∷ [] in
     let first : eqb (outcome pageSize sample (to 0 one) .number) 0 ≡ true = eq-eqb _ _ (takes [] (to 0 one) (lit< tt) one-fits) in
     let then : eqb (outcome pageSize (T one) (to 1 one) .number) 0 ≡ true =
     eq-eqb _ _ (takes (puts 0 one ∷ []) (to 1 one) (lit< tt) one-fits) in
-    let stands : lastTo 1 (acceptedBy onlyBlock0 sample os) ≡ some (puts 1 one) = rw (first, then) in
+    let stands : lastTo 1 (acceptedBy onlyBlock0 (cutting pageSize) sample os) ≡ some (puts 1 one) = rw (first, then) in
     let z : _≡_ {A = ℕ} 7 0 =
     same-bytes (7 ∷ []) []
     (sym (claim sample sample-fresh os 1 (rw (two-blocks []) (lit< tt)) (to 1 one) stands [] two two-fits
@@ -152,7 +162,7 @@ toBlock0 s w = outcome pageSize s (record { block = 0; base = w .base; page = w 
 abbrev pub zeroThenOne : List Operation
 zeroThenOne = puts 0 one ∷ puts 1 two ∷ []
 
-pub not-to-block-0 : LastsLeave toBlock0 → ⊥
+pub not-to-block-0 : LastsLeave toBlock0 (cutting pageSize) → ⊥
 unfolding run taking toBlock0 lastTo lastSuch later concerns
 not-to-block-0 claim =
     let z : _≡_ {A = ℕ} 0 9 =
@@ -161,7 +171,7 @@ not-to-block-0 claim =
     (claim sample sample-fresh zeroThenOne (to 1 two ∷ to 0 one ∷ []) lasts .1)) 1 in
     omega arith
   where
-    lasts : JustLastsBy toBlock0 sample zeroThenOne (to 1 two ∷ to 0 one ∷ [])
+    lasts : JustLastsBy toBlock0 (cutting pageSize) sample zeroThenOne (to 1 two ∷ to 0 one ∷ [])
     lasts w =
         rw (
           eq-eqb (outcome pageSize sample (to 0 one) .number) 0 (takes [] (to 0 one) (lit< tt) one-fits),
@@ -214,11 +224,11 @@ not-refused-stores =
     ∙ ap areas (write-not pageSize (sample .patch) (sample .full) 2 [] one (λ z. omega arith))))
 
 -- and it breaks (a): no write of its run was accepted, yet the areas are not fresh
-pub not-refused-stores-run : LastsLeave refusedStores → ⊥
+pub not-refused-stores-run : LastsLeave refusedStores (cutting pageSize) → ⊥
 unfolding run taking refusedStores lastTo lastSuch
 not-refused-stores-run claim = changes 0 (lit< tt) (sym refused-leaves ∙ sym (claim sample sample-fresh (puts 2 one ∷ []) [] none-taken .1))
   where
-    none-taken : JustLastsBy refusedStores sample (puts 2 one ∷ []) []
+    none-taken : JustLastsBy refusedStores (cutting pageSize) sample (puts 2 one ∷ []) []
     none-taken w = rw (refuses [] (to 2 one) (lit≤ tt) one-fits)
         (λ i. absurd (List·Memᴰ·not-nil i), λ e. absurd (Option·none-ne-some _ e))
 

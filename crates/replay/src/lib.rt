@@ -1,12 +1,15 @@
-// A run of writes from lent buffers, each on the areas that the ones before it left. Bases and pages stand one after the other, a whole
-// page each; where `bases` has no more, the base is absent. What is proved of runs is so of the runs that can be lent in this form.
+// A run of writes and cuts from lent buffers, each on the areas that the ones before it left. Bases and pages stand one after the other, a
+// whole page each; where `bases` has no more, the base is absent. What is proved of runs is so of the runs that can be lent in this form.
+use cutting::Shortened;
 use layout::Layout;
 use writing::Written;
 ghost use mathlib.Core.Path.{_≡_};
 ghost use Prim.Native.Nat.{_*_};
+ghost use lib.ListN.{getD};
 ghost use Rattle.span.specs.Bytes.{part};
 ghost use Rattle.layout.specs.Sizes.{pageSize};
-ghost use Rattle.replay.specs.Writes.{Turned, Replayed, TurnedWith, ReplayedWith};
+ghost use Rattle.promises.specs.Runs.{write, wipe};
+ghost use Rattle.replay.specs.Operations.{lent, operation, Turned, Replayed, TurnedWith, ReplayedWith};
 
 // The i-th of pages that stand one after the other, or as much of it as there is.
 fn nth_page(pages: &[u8], i: usize) -> &[u8]
@@ -18,10 +21,20 @@ fn nth_page(pages: &[u8], i: usize) -> &[u8]
     span::part(pages, Layout::PAGE * i, Layout::PAGE)
 }
 
+// The i-th byte of `cuts`, or 0 where there is no more.
+fn cut_at(cuts: &[u8], i: usize) -> u8
+    ensures { λ r. ⌜ r ≡ getD (now (cuts .entry)) i 0 ⌝ }
+{
+    if cuts.len() <= i {
+        return 0;
+    }
+    cuts[i]
+}
+
 // One write of a run: 1 if it is accepted, 0 if it is refused.
-fn turn(patch: &mut [u8], full: &mut [u8], block: u64, base: &[u8], page: &[u8]) -> u8
-    ensures { λ r. ⌜ Turned pageSize (now (patch .entry)) (now (full .entry)) block (now (base .entry)) (now (page .entry)) r
-        (now (patch .exit)) (now (full .exit)) ⌝ }
+fn write_turn(patch: &mut [u8], full: &mut [u8], block: u64, base: &[u8], page: &[u8]) -> u8
+    ensures { λ r. ⌜ Turned pageSize (now (patch .entry)) (now (full .entry)) (write (lent block (now (base .entry)) (now (page .entry))))
+        r (now (patch .exit)) (now (full .exit)) ⌝ }
 {
     match writing::write(patch, full, block as usize, base, page) {
         Written::Done { kind: _, length: _ } => 1,
@@ -29,8 +42,29 @@ fn turn(patch: &mut [u8], full: &mut [u8], block: u64, base: &[u8], page: &[u8])
     }
 }
 
-// The same with a lent map.
-fn turn_mapped(
+// One cut of a run, told in the same way.
+fn cut_turn(patch: &mut [u8], full: &mut [u8], k: u64) -> u8
+    ensures { λ r. ⌜ Turned pageSize (now (patch .entry)) (now (full .entry)) (wipe k) r (now (patch .exit)) (now (full .exit)) ⌝ }
+{
+    match cutting::cut(patch, full, k as usize) {
+        Shortened::Done => 1,
+        Shortened::Refused(_) => 0,
+    }
+}
+
+// One operation of a run: a cut where `cut` is not 0, else a write.
+fn turn(patch: &mut [u8], full: &mut [u8], cut: u8, number: u64, base: &[u8], page: &[u8]) -> u8
+    ensures { λ r. ⌜ Turned pageSize (now (patch .entry)) (now (full .entry)) (operation cut number (now (base .entry)) (now (page .entry)))
+        r (now (patch .exit)) (now (full .exit)) ⌝ }
+{
+    if cut == 0 {
+        return write_turn(patch, full, number, base, page);
+    }
+    cut_turn(patch, full, number)
+}
+
+// One write of a run with a lent map.
+fn write_turn_mapped(
     patch: &mut [u8],
     full: &mut [u8],
     map: &mut [u8],
@@ -38,8 +72,8 @@ fn turn_mapped(
     base: &[u8],
     page: &[u8],
 ) -> u8
-    ensures { λ r. ⌜ TurnedWith pageSize (now (patch .entry)) (now (full .entry)) (now (map .entry)) block (now (base .entry))
-        (now (page .entry)) r (now (patch .exit)) (now (full .exit)) (now (map .exit)) ⌝ }
+    ensures { λ r. ⌜ TurnedWith pageSize (now (patch .entry)) (now (full .entry)) (now (map .entry))
+        (write (lent block (now (base .entry)) (now (page .entry)))) r (now (patch .exit)) (now (full .exit)) (now (map .exit)) ⌝ }
 {
     match writing::mapped::write_mapped(patch, full, map, block as usize, base, page) {
         Written::Done { kind: _, length: _ } => 1,
@@ -47,25 +81,58 @@ fn turn_mapped(
     }
 }
 
-// Makes the i-th write with the i-th block number and the i-th page of `bases` and of `pages`; as many writes as there are block
-// numbers. Marks 1 for an accepted write and 0 for a refused one, as far as `marks` goes, and answers how many were accepted.
+// One cut of such a run.
+fn cut_turn_mapped(patch: &mut [u8], full: &mut [u8], map: &mut [u8], k: u64) -> u8
+    ensures { λ r. ⌜ TurnedWith pageSize (now (patch .entry)) (now (full .entry)) (now (map .entry)) (wipe k) r (now (patch .exit))
+        (now (full .exit)) (now (map .exit)) ⌝ }
+{
+    match cutting::mapped::cut_mapped(patch, full, map, k as usize) {
+        Shortened::Done => 1,
+        Shortened::Refused(_) => 0,
+    }
+}
+
+// One operation of such a run.
+fn turn_mapped(
+    patch: &mut [u8],
+    full: &mut [u8],
+    map: &mut [u8],
+    cut: u8,
+    number: u64,
+    base: &[u8],
+    page: &[u8],
+) -> u8
+    ensures { λ r. ⌜ TurnedWith pageSize (now (patch .entry)) (now (full .entry)) (now (map .entry))
+        (operation cut number (now (base .entry)) (now (page .entry))) r (now (patch .exit)) (now (full .exit)) (now (map .exit)) ⌝ }
+{
+    if cut == 0 {
+        return write_turn_mapped(patch, full, map, number, base, page);
+    }
+    cut_turn_mapped(patch, full, map, number)
+}
+
+// Makes as many operations as there are numbers. The i-th is a cut at the i-th number where the i-th byte of `cuts` is there and not 0,
+// else the write of the i-th page of `bases` and of `pages` to that block. A cut has its place in `bases` and `pages` too, and looks at
+// neither. Marks 1 for an accepted operation and 0 for a refused one, as far as `marks` goes, and answers how many were accepted.
 pub fn replay(
     patch: &mut [u8],
     full: &mut [u8],
-    blocks: &[u64],
+    numbers: &[u64],
+    cuts: &[u8],
     bases: &[u8],
     pages: &[u8],
     marks: &mut [u8],
 ) -> usize
-    ensures { λ r. ⌜ Replayed pageSize (now (patch .entry)) (now (full .entry)) (now (blocks .entry)) (now (bases .entry))
-        (now (pages .entry)) (now (marks .entry)) r (now (patch .exit)) (now (full .exit)) (now (marks .exit)) ⌝ }
+    ensures { λ r. ⌜ Replayed pageSize (now (patch .entry)) (now (full .entry)) (now (numbers .entry)) (now (cuts .entry))
+        (now (bases .entry)) (now (pages .entry)) (now (marks .entry)) r (now (patch .exit)) (now (full .exit)) (now (marks .exit)) ⌝ }
 {
     let mut accepted: usize = 0;
     let mut i = 0;
-    while i < blocks.len() {
+    while i < numbers.len() {
+        let cut = cut_at(cuts, i);
         let base = nth_page(bases, i);
         let page = nth_page(pages, i);
-        let mark = turn(patch, full, blocks[i], base, page);
+        let mark = turn(patch, full, cut, numbers[i], base, page);
         span::put(marks, i, mark);
         accepted += mark as usize;
         i += 1;
@@ -73,26 +140,28 @@ pub fn replay(
     accepted
 }
 
-// The same, with a map lent to every write.
+// The same, with a map lent to every operation.
 pub fn replay_mapped(
     patch: &mut [u8],
     full: &mut [u8],
     map: &mut [u8],
-    blocks: &[u64],
+    numbers: &[u64],
+    cuts: &[u8],
     bases: &[u8],
     pages: &[u8],
     marks: &mut [u8],
 ) -> usize
-    ensures { λ r. ⌜ ReplayedWith pageSize (now (patch .entry)) (now (full .entry)) (now (map .entry)) (now (blocks .entry))
-        (now (bases .entry)) (now (pages .entry)) (now (marks .entry)) r (now (patch .exit)) (now (full .exit)) (now (map .exit))
-        (now (marks .exit)) ⌝ }
+    ensures { λ r. ⌜ ReplayedWith pageSize (now (patch .entry)) (now (full .entry)) (now (map .entry)) (now (numbers .entry))
+        (now (cuts .entry)) (now (bases .entry)) (now (pages .entry)) (now (marks .entry)) r (now (patch .exit)) (now (full .exit))
+        (now (map .exit)) (now (marks .exit)) ⌝ }
 {
     let mut accepted: usize = 0;
     let mut i = 0;
-    while i < blocks.len() {
+    while i < numbers.len() {
+        let cut = cut_at(cuts, i);
         let base = nth_page(bases, i);
         let page = nth_page(pages, i);
-        let mark = turn_mapped(patch, full, map, blocks[i], base, page);
+        let mark = turn_mapped(patch, full, map, cut, numbers[i], base, page);
         span::put(marks, i, mark);
         accepted += mark as usize;
         i += 1;

@@ -1,6 +1,6 @@
--- Bytes in a list: a run of zeros, a part, a part laid over, and whether two lists are the same.
+-- Bytes in a list: a run of zeros, a part, a part laid over, a list emptied from some place on, and whether two lists are the same.
 -- All but `same` are shut: proofs go by the laws of `Laws.antt`.
-use Prim.Native.Nat.{ℕ, _+_, _*_}
+use Prim.Native.Nat.{ℕ, _+_, _-_, _*_}
 use mathlib.Core.Bool.{Bool, true, false, _&&_, cond}
 use mathlib.Core.List.{List, [], _∷_, _++_}
 use lib.Dec.{eqb, leb}
@@ -27,6 +27,10 @@ partFrom at l = cond (leb l at) 0 at
 -- xs with ys laid over it from `at` on
 unfoldable pub splice : List ℕ → ℕ → List ℕ → List ℕ
 splice xs at ys = take at xs ++ (ys ++ drop (at + length ys) xs)
+
+-- xs with zeros from `at` on
+unfoldable pub emptied : ℕ → List ℕ → List ℕ
+emptied at xs = part 0 at xs ++ zeros (length xs - at)
 
 -- whether two lists hold the same bytes
 unfoldable pub same : List ℕ → List ℕ → Bool

@@ -1,5 +1,6 @@
 pub mod Ascii
 pub mod Bytes
 pub mod Laws
+pub mod EmptiedLaws
 pub mod Tests
 pub mod Told

@@ -4,7 +4,7 @@
 ghost use mathlib.Core.Path.{_≡_};
 ghost use Prim.Native.Nat.{_+_, min};
 ghost use lib.ListN.{length, set, take};
-ghost use Rattle.span.specs.Bytes.{bulk, zeros, splice, part as partOf, partFrom, same as sameBytes};
+ghost use Rattle.span.specs.Bytes.{bulk, zeros, splice, emptied, part as partOf, partFrom, same as sameBytes};
 
 // How many bytes are moved at one go.
 const BULK: usize = 4 * 1024;
@@ -51,6 +51,17 @@ pub fn fill(dst: &mut [u8])
         at = to;
     }
     clear(&mut dst[at..end]);
+}
+
+// Every byte from `at` on becomes zero, and those before it stay. What is zero already is not written.
+pub fn fill_from(dst: &mut [u8], at: usize)
+    ensures { λ _. ⌜ now (dst .exit) ≡ emptied at (now (dst .entry)) ⌝ }
+{
+    let end = dst.len();
+    if end <= at {
+        return;
+    }
+    fill(&mut dst[at..end]);
 }
 
 // The smaller of two lengths.

@@ -75,10 +75,10 @@ module _ (P : ℕ) (patch : List ℕ) (b : ℕ) where
     show-done h g = sym (decided-done _ _ (firstOf (showRows P patch b)) (show-rows P patch b
         ∙ rw (e, f, lt-leb (blocksIn (length patch)) b h, g)))
 
--- A frame with no full area is what Show opens
+-- A frame with no full area is what Show opens, and what any call on the patch area alone opens
 
 module _ (P : ℕ) (patch : List ℕ) where
-  alone : firstOf (openRows P true true patch []) ≡ orElse (cond (not (patchFits P (length patch))) 2 0) (firstOf (patchHeadRows P patch))
+  pub alone : firstOf (openRows P true true patch []) ≡ orElse (cond (not (patchFits P (length patch))) 2 0) (firstOf (patchHeadRows P patch))
   unfolding frameBy orElse
   alone =
       let heads : firstOf (headerRows P patch []) ≡ firstOf (patchHeadRows P patch) = headers-are P patch []

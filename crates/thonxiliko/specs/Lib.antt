@@ -1,5 +1,7 @@
 pub mod AreaLaws
 pub mod Areas
+pub mod CutLaws
+pub mod Cuts
 pub mod MapLaws
 pub mod Mapped
 pub mod MappedLaws

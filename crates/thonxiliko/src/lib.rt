@@ -1,10 +1,11 @@
 // The C interface. Each exported function calls the proved call beneath it and gives its answer as the paper's numbers.
 pub mod areas;
+pub mod cuts;
 pub mod map;
 pub mod mapped;
 pub mod pages;
 
-// What Format answers.
+// What Format and Cut answer.
 #[repr(C)]
 pub struct thx_done {
     pub number: u32,
@@ -91,4 +92,11 @@ pub struct thx_tallied {
     pub number: u32,
     pub patch: u64,
     pub full: u64,
+}
+
+// What Highest answers.
+#[repr(C)]
+pub struct thx_extent {
+    pub number: u32,
+    pub blocks: u64,
 }

@@ -357,6 +357,49 @@ fn build_cases(cases: &mut Cases) {
     }
 }
 
+/// Areas that hold nothing from K on: a call that is made again and again finds no others.
+fn cut_cases(cases: &mut Cases) {
+    let lent = (Lent::fresh(BUILT, Some(BUILT), &Pages::equal()), vec![0; map_len(BUILT)]);
+    for (name, k) in [("n = m = 64, K = n", BUILT), ("n = m = 64, zeros already", 0)] {
+        let [mut limit, mut limit_mapped] = [headers(), headers()];
+        if k < BUILT {
+            let zeros = |limit: Limit| {
+                let [patch, full] = [lent.0.patch.len(), lent.0.full.len()];
+                limit.set(patch - patch_area_len(k)).set(full - full_area_len(k))
+            };
+            limit = zeros(limit);
+            limit_mapped = zeros(limit_mapped).set(map_len(BUILT));
+        }
+        let both = both!(lent, cut(&mut lent.0.patch, &mut lent.0.full, k));
+        cases.add("Cut", name, limit, both);
+        let both = both!(lent, cut_mapped(&mut lent.0.patch, &mut lent.0.full, &mut lent.1, k));
+        cases.add("Cut with a map", name, limit_mapped, both);
+    }
+}
+
+/// Pages of their own in each block: one again and again would be known by heart.
+fn highest_cases(cases: &mut Cases) {
+    let all = [
+        ("n = 64 EMPTY", None, 0),
+        ("n = 64 PATCH of 1 to 200", None, 200),
+        ("n = 64 FULL_REF", Some(BUILT), PAGE_SIZE),
+    ];
+    for (name, places, most) in all {
+        let mut lent = Lent::fresh(BUILT, places, &Pages::equal());
+        for block in 0..BUILT {
+            let Pages { base, page, .. } = Pages::drawn_with(block, most);
+            (lent.base, lent.page) = (base, page);
+            lent.write(block);
+        }
+        let mut limit = Limit::default().compare(PATCH_HEADER_SIZE);
+        for _ in 0..BUILT {
+            limit = limit.compare(SLOT_SIZE);
+        }
+        let patch = lent.patch;
+        cases.add("Highest", name, limit, both!(patch, highest(&patch)));
+    }
+}
+
 fn map_cases(cases: &mut Cases) {
     let mut map = Rng::new(3).bytes(map_len(MAX_BLOCKS));
     // No pair of 3.
@@ -385,6 +428,8 @@ pub fn rows(effort: Effort) -> Vec<Row> {
     mapped_cases(&mut cases);
     format_cases(&mut cases);
     build_cases(&mut cases);
+    cut_cases(&mut cases);
+    highest_cases(&mut cases);
     map_cases(&mut cases);
     until_stable(effort, || cases.pass(TURNS));
     cases.rows()

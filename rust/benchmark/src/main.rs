@@ -1,8 +1,10 @@
 //! Prints how long each call takes, as tables in Markdown. With `--once` every contender gets one turn,
 //! to see that all of it works; with `--format` only Format of large areas is measured, with `--maps`
-//! only what a map that is kept brings.
+//! only what a map that is kept brings, with `--cuts` only cuts of the largest areas and their highest
+//! block.
 
 mod calls;
+mod cuts;
 mod formats;
 mod limits;
 mod maps;
@@ -102,6 +104,13 @@ fn print_formats() {
     print_segments(&formats::rows(formats::EFFORT, formats::BLOCKS));
 }
 
+/// Cuts of the largest areas, and the highest block; a time is for a block that is cut or looked at.
+fn print_cuts(once: bool) {
+    let (effort, blocks) =
+        if once { (ONCE, 1_024) } else { (cuts::EFFORT, thonxiliko::MAX_BLOCKS) };
+    print_segments(&cuts::rows(effort, blocks));
+}
+
 fn print_all(once: bool) {
     println!("{METHOD}");
     println!("### Each call, warm buffers\n");
@@ -117,6 +126,8 @@ fn print_all(once: bool) {
     print_segments(&formats::rows(effort, blocks));
     println!("\n### A map that is kept\n");
     print_kept_maps(once);
+    println!("\n### A table cut short, and the highest block\n");
+    print_cuts(once);
     println!("\n### Targets\n");
     print_targets(&calls, &segments);
 }
@@ -132,8 +143,12 @@ fn main() -> ExitCode {
             println!("{METHOD}");
             print_kept_maps(false);
         }
+        ["--cuts"] => {
+            println!("{METHOD}");
+            print_cuts(false);
+        }
         _ => {
-            eprintln!("usage: benchmark [--once | --format | --maps]");
+            eprintln!("usage: benchmark [--once | --format | --maps | --cuts]");
             return ExitCode::from(2);
         }
     }

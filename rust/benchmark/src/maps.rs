@@ -30,10 +30,10 @@ const READ: u64 = 1_024;
 const BATCH: usize = 64;
 
 /// What all slots of the limits hold, so that memcmp looks at all of each.
-const SLOT: [u8; SLOT_SIZE] = [0x11; SLOT_SIZE];
+pub const SLOT: [u8; SLOT_SIZE] = [0x11; SLOT_SIZE];
 
 /// A patch area for the limits.
-fn plain_slots(blocks: u64) -> Vec<u8> {
+pub fn plain_slots(blocks: u64) -> Vec<u8> {
     let mut patch = segments::fresh(blocks);
     patch[PATCH_HEADER_SIZE..].fill(SLOT[0]);
     patch

@@ -27,10 +27,14 @@ pub enum Call {
     WriteMapped,
     /// A read that goes by a map.
     ReadMapped,
+    Cut,
+    /// A cut that keeps a lent map.
+    CutMapped,
+    Highest,
 }
 
 impl Call {
-    pub const ALL: [Call; 13] = [
+    pub const ALL: [Call; 16] = [
         Call::Format,
         Call::Compare,
         Call::Apply,
@@ -44,6 +48,9 @@ impl Call {
         Call::Next,
         Call::WriteMapped,
         Call::ReadMapped,
+        Call::Cut,
+        Call::CutMapped,
+        Call::Highest,
     ];
 
     pub fn name(self) -> &'static str {
@@ -61,6 +68,9 @@ impl Call {
             Call::Next => "next",
             Call::WriteMapped => "write_mapped",
             Call::ReadMapped => "read_mapped",
+            Call::Cut => "cut",
+            Call::CutMapped => "cut_mapped",
+            Call::Highest => "highest",
         }
     }
 
@@ -80,6 +90,9 @@ impl Call {
             Call::Next => &["payload"],
             Call::WriteMapped => &["patch", "full", "map", "base", "page"],
             Call::ReadMapped => &["patch", "full", "map", "base", "page"],
+            Call::Cut => &["patch", "full"],
+            Call::CutMapped => &["patch", "full", "map"],
+            Call::Highest => &["patch"],
         }
     }
 
@@ -99,6 +112,9 @@ impl Call {
             Call::Next => &[0, 7],
             Call::WriteMapped => &[0, 1, 2, 3, 4, 5, 8, 9],
             Call::ReadMapped => &[0, 1, 2, 3, 4, 5, 6, 7, 8, 9, 11],
+            Call::Cut => &[0, 2, 3, 4, 5],
+            Call::CutMapped => &[0, 2, 3, 4, 5, 9],
+            Call::Highest => &[0, 2, 3, 4, 6],
         }
     }
 
@@ -134,6 +150,7 @@ impl Answer {
 #[derive(Clone, Copy, Debug)]
 pub struct Numbers {
     pub n: u64,
+    /// For a cut its K, the lowest block that it drops.
     pub block: u64,
     /// Place and position of a reader.
     pub at: u64,

@@ -1,7 +1,7 @@
 //! Inputs with their outcomes written by hand from the rules: P1 to P12, both sides of each edge, the
 //! order of refusals, long jumps that are long and those that are not, where payloads break, the steps
-//! of a reader, what a lent map becomes and what it makes of a read, and the shortcuts that give a wrong
-//! page.
+//! of a reader, what a lent map becomes and what it makes of a read, what a cut leaves, the highest
+//! block, and the shortcuts that give a wrong page.
 
 use crate::call::{
     Answer, Call, Input, Outcome, BEGINNING, FULL_HEADER, PAGE, PATCH_HEADER, PAYLOAD, SLOT,
@@ -136,6 +136,18 @@ fn write_mapped(
 fn read_mapped([patch, full]: [Vec<u8>; 2], map: &[u8], block: u64, base: Vec<u8>) -> Input {
     let buffers = vec![patch, full, map.to_vec(), base, filler(PAGE)];
     Input::new(Call::ReadMapped, buffers).at_block(block)
+}
+
+fn cut([patch, full]: [Vec<u8>; 2], k: u64) -> Input {
+    Input::new(Call::Cut, vec![patch, full]).at_block(k)
+}
+
+fn cut_mapped([patch, full]: [Vec<u8>; 2], map: &[u8], k: u64) -> Input {
+    Input::new(Call::CutMapped, vec![patch, full, map.to_vec()]).at_block(k)
+}
+
+fn highest(patch: Vec<u8>) -> Input {
+    Input::new(Call::Highest, vec![patch])
 }
 
 fn build(patch: Vec<u8>, full: Vec<u8>, map: Vec<u8>) -> Input {
@@ -523,9 +535,16 @@ fn no_blocks(cases: &mut Vec<Case>) {
             let input = read(patch_area(0), full.clone(), block, Vec::new());
             cases.push(case(&format!("n = 0: block {block} read"), input, &[5], &[]));
         }
-        let input = write(patch_area(0), full, 0, Vec::new(), zeros());
+        let input = write(patch_area(0), full.clone(), 0, Vec::new(), zeros());
         cases.push(case("n = 0: block 0 written", input, &[5], &[]));
+        let areas = || [patch_area(0), full.clone()];
+        cases.push(case("n = 0: cut at 0", cut(areas(), 0), &[0], &[]));
+        cases.push(case("n = 0: cut at 1", cut(areas(), 1), &[5], &[]));
+        cases.push(case("n = 0: cut at 0, no map", cut_mapped(areas(), &[], 0), &[0], &[]));
+        cases.push(case("n = 0: cut at 0, any map", cut_mapped(areas(), &[0xFF], 0), &[0], &[]));
+        cases.push(case("n = 0: cut at 1, no map", cut_mapped(areas(), &[], 1), &[5], &[]));
     }
+    cases.push(case("n = 0: highest", highest(patch_area(0)), &[0, 0], &[]));
     let input = build(patch_area(0), full_area(1), Vec::new());
     cases.push(case("n = 0 with one page", input, &[2], &[]));
 }
@@ -588,6 +607,9 @@ fn headers(cases: &mut Vec<Case>) {
         cases.push(case(&format!("{name}: read by a map"), input, &[number], &[]));
         let input = write_mapped(areas(), &[0xFF], 0, Vec::new(), page(&[(1, 1)]));
         cases.push(case(&format!("{name}: written with a map"), input, &[number], &[]));
+        cases.push(case(&format!("{name}: cut"), cut(areas(), 0), &[number], &[]));
+        let input = cut_mapped(areas(), &[0xFF], 0);
+        cases.push(case(&format!("{name}: cut with a map"), input, &[number], &[]));
         let input = build(patch, full, filler(1));
         cases.push(case(&format!("{name}: built"), input, &[number], &[]));
     };
@@ -694,8 +716,16 @@ fn area_lengths(cases: &mut Vec<Case>) {
             cases.push(case(&name, read(area.clone(), full.clone(), 0, vec![]), &[2], &[]));
             let areas = [area.clone(), full.clone()];
             cases.push(case(&name, read_mapped(areas.clone(), &[], 0, vec![]), &[2], &[]));
-            cases.push(case(&name, write_mapped(areas, &[], 0, vec![], zeros()), &[2], &[]));
-            cases.push(case(&name, write(area, full, 0, vec![], zeros()), &[2], &[]));
+            cases.push(case(
+                &name,
+                write_mapped(areas.clone(), &[], 0, vec![], zeros()),
+                &[2],
+                &[],
+            ));
+            cases.push(case(&name, cut(areas.clone(), 0), &[2], &[]));
+            cases.push(case(&name, cut_mapped(areas, &[], 9), &[2], &[]));
+            cases.push(case(&name, write(area.clone(), full, 0, vec![], zeros()), &[2], &[]));
+            cases.push(case(&name, highest(area), &[2], &[]));
         }
     }
     for full in [1, 4095, 4097, 8192, 12_287, 12_289, 20_480] {
@@ -708,7 +738,9 @@ fn area_lengths(cases: &mut Vec<Case>) {
         cases.push(case(&name, read(patch.clone(), area.clone(), 0, vec![]), &[2], &[]));
         let areas = [patch.clone(), area.clone()];
         cases.push(case(&name, read_mapped(areas.clone(), &[], 0, vec![]), &[2], &[]));
-        cases.push(case(&name, write_mapped(areas, &[], 0, vec![], zeros()), &[2], &[]));
+        cases.push(case(&name, write_mapped(areas.clone(), &[], 0, vec![], zeros()), &[2], &[]));
+        cases.push(case(&name, cut(areas.clone(), 0), &[2], &[]));
+        cases.push(case(&name, cut_mapped(areas, &[], 9), &[2], &[]));
         cases.push(case(&name, write(patch, area, 0, vec![], zeros()), &[2], &[]));
     }
 }
@@ -1020,6 +1052,140 @@ fn refused_reads_by_map(cases: &mut Vec<Case>) {
     cases.push(case(name, input, &[0, 0], &[put(4, 0, &zeros())]));
 }
 
+/// Six blocks and five places, all in use: PATCH, FULL_REF, EMPTY over a stray page, an unsound slot, a
+/// payload that breaks, and FULL_REF without a place. A cut looks at none of it.
+fn six() -> [Vec<u8>; 2] {
+    let slots = [
+        patch_slot(&[0, 7]),
+        slot(&[2]),
+        slot(&[]),
+        vec![0x3C; SLOT],
+        patch_slot(&[0, 7, 0]),
+        slot(&[2]),
+    ];
+    let patch = with(patch_area(6), 512, &slots.concat());
+    let mut full = full_area(5);
+    for block in 0..5 {
+        full[4096 + 8192 * block..][..PAGE].fill(0x90 + block as u8);
+    }
+    [patch, full]
+}
+
+/// For K from 0 to 6: what a map of FF FF FF, and one of 59 9A 27, becomes. The last two pairs of the
+/// second byte and the third byte are no block's.
+const CUT_MAPS: [([u8; 2], [u8; 2]); 7] = [
+    ([0x00, 0xF0], [0x00, 0x90]),
+    ([0x03, 0xF0], [0x01, 0x90]),
+    ([0x0F, 0xF0], [0x09, 0x90]),
+    ([0x3F, 0xF0], [0x19, 0x90]),
+    ([0xFF, 0xF0], [0x59, 0x90]),
+    ([0xFF, 0xF3], [0x59, 0x92]),
+    ([0xFF, 0xFF], [0x59, 0x9A]),
+];
+
+/// What a cut leaves: every byte below K, both headers, and of the map all that is no block's from K on.
+fn cuts(cases: &mut Vec<Case>) {
+    for (k, (of_ff, of_pairs)) in CUT_MAPS.into_iter().enumerate() {
+        let (slots, places) = (512 + 512 * k, 4096 + 8192 * k.min(5));
+        let zeros =
+            [put(0, slots, &vec![0; 3584 - slots]), put(1, places, &vec![0; 45_056 - places])];
+        let at = k as u64;
+        cases.push(case(&format!("cut at {k}"), cut(six(), at), &[0], &zeros));
+        for (map, after) in [([0xFF, 0xFF, 0xFF], of_ff), ([0x59, 0x9A, 0x27], of_pairs)] {
+            let puts = [&zeros[..], &[put(2, 0, &after)]].concat();
+            let input = cut_mapped(six(), &map, at);
+            cases.push(case(&format!("cut at {k} with a map {map:02X?}"), input, &[0], &puts));
+            let input = cut_mapped(six(), &map[..2], at);
+            cases.push(case(&format!("cut at {k} with a map of two bytes"), input, &[0], &puts));
+        }
+        // Without a place, and without a full area.
+        for full in [full_area(0), vec![]] {
+            let name = format!("cut at {k}, full area of {}", full.len());
+            let [patch, _] = six();
+            cases.push(case(&name, cut([patch, full], at), &[0], &zeros[..1]));
+        }
+    }
+    let input = cut_mapped([patch_area(4), vec![]], &[0xE4, 0xE4], 2);
+    cases.push(case("four blocks cut at 2", input, &[0], &[put(2, 0, &[0x04])]));
+    let input = cut_mapped([patch_area(1), vec![]], &[0xFF], 0);
+    cases.push(case("one block cut at 0", input, &[0], &[put(2, 0, &[0xFC])]));
+}
+
+/// Refused cuts, which leave everything.
+fn refused_cuts(cases: &mut Vec<Case>) {
+    let bad = || with(six()[0].clone(), 8, &[1]);
+    // 2^55 slots and 2^51 pages would wrap to where the first ones are.
+    for k in [7, 8, 1 << 32, 1 << 51, 1 << 55, u64::MAX - 1, u64::MAX] {
+        cases.push(case(&format!("cut at {k}"), cut(six(), k), &[5], &[]));
+        let input = cut_mapped(six(), &[0xFF; 3], k);
+        cases.push(case(&format!("cut at {k} with a map"), input, &[5], &[]));
+        cases.push(case("cut: 4 before 5", cut([bad(), six()[1].clone()], k), &[4], &[]));
+    }
+    for k in [0, 3, 6, 7, u64::MAX] {
+        for map in [&[0xFF][..], &[]] {
+            let name = |what: &str| format!("cut at {k}, a map of {}: {what}", map.len());
+            let [patch, full] = six();
+            let input = cut_mapped([patch, full.clone()], map, k);
+            cases.push(case(&name("9"), input, &[9], &[]));
+            let input = cut_mapped([bad(), full.clone()], map, k);
+            cases.push(case(&name("9 before 4"), input, &[9], &[]));
+            let input = cut_mapped([bad(), [full, vec![0]].concat()], map, k);
+            cases.push(case(&name("2 before 9"), input, &[2], &[]));
+        }
+    }
+    for n in [1, 4] {
+        let input = cut_mapped([patch_area(n), vec![]], &[], n as u64);
+        cases.push(case(&format!("no map for {n} blocks, K = n"), input, &[9], &[]));
+    }
+    let input = cut_mapped([patch_area(5), vec![]], &[0xFF], 5);
+    cases.push(case("one byte for five blocks, K = n", input, &[9], &[]));
+}
+
+/// One more than the highest block that is not EMPTY.
+fn highest_blocks(cases: &mut Vec<Case>) {
+    let with_slot =
+        |patch: Vec<u8>, block: usize, bytes: &[u8]| with(patch, 512 + 512 * block, &slot(bytes));
+    let area = || patch_area(5);
+    cases.push(case("highest of five EMPTY", highest(area()), &[0, 0], &[]));
+    for block in 0..5 {
+        let blocks = block as i128 + 1;
+        let mut of = |name: &str, patch: Vec<u8>, answer: [i128; 2]| {
+            let name = format!("highest: {name} at block {block}");
+            cases.push(case(&name, highest(patch), &answer, &[]));
+        };
+        let patched = with(area(), 512 + 512 * block, &patch_slot(&[0, 7]));
+        of("PATCH", patched.clone(), [0, blocks]);
+        of("FULL_REF", with_slot(area(), block, &[2]), [0, blocks]);
+        let broken = with(area(), 512 + 512 * block, &patch_slot(&[9, 9, 9]));
+        of("a payload that breaks", broken, [0, blocks]);
+        of("kind 3", with_slot(area(), block, &[3]), [6, 0]);
+        of("a stray last byte", with(area(), 512 + 512 * block + 511, &[1]), [6, 0]);
+        // Beside a sound slot in use, above it and below.
+        let second = (block + 2) % 5;
+        let both = with_slot(patched.clone(), second, &[2]);
+        of("PATCH, and one more", both, [0, blocks.max(second as i128 + 1)]);
+        of("PATCH, one more unsound", with_slot(patched, second, &[1]), [6, 0]);
+    }
+    let [patch, _] = six();
+    cases.push(case("highest: an unsound slot below", highest(patch.clone()), &[6], &[]));
+    let sound = with_slot(patch, 3, &[0; SLOT]);
+    cases.push(case("highest: FULL_REF without a place", highest(sound), &[0, 6], &[]));
+
+    // The length, then the header, then the slots.
+    let unsound = with_slot(area(), 2, &[3]);
+    let long = [unsound.clone(), vec![0]].concat();
+    cases.push(case("highest: 2 before 6", highest(long.clone()), &[2], &[]));
+    cases.push(case("highest: 2 before 3", highest(with(long, 0, &[0])), &[2], &[]));
+    for (at, number) in
+        [(0, 3), (7, 3), (8, 4), (9, 4), (10, 3), (12, 3), (16, 3), (20, 3), (511, 3)]
+    {
+        let input = highest(with(unsound.clone(), at, &[0x55]));
+        cases.push(case(&format!("highest: header byte {at} before 6"), input, &[number], &[]));
+    }
+    let input = highest(with(with(unsound, 8, &[1]), 10, &[1]));
+    cases.push(case("highest: version before flags", input, &[4], &[]));
+}
+
 /// What Build makes and refuses.
 fn built_maps(cases: &mut Vec<Case>) {
     let patch = with(patch_area(5), 1024, &patch_slot(&[0, 7]));
@@ -1152,6 +1318,9 @@ pub fn all() -> Vec<Case> {
     refused_maps(&mut cases);
     reads_by_map(&mut cases);
     refused_reads_by_map(&mut cases);
+    cuts(&mut cases);
+    refused_cuts(&mut cases);
+    highest_blocks(&mut cases);
     built_maps(&mut cases);
     first_faults(&mut cases);
     look_ups(&mut cases);

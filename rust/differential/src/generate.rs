@@ -447,6 +447,17 @@ fn block(rng: &mut Rng, n: usize) -> u64 {
     }
 }
 
+/// Where to cut: mostly at a block that the store has, or just past the last one.
+fn cut_at(rng: &mut Rng, n: usize) -> u64 {
+    match rng.below(16) {
+        0 => n as u64,
+        1 => n as u64 + 1,
+        2 => rng.pick(&STRANGE_NUMBERS),
+        3 => rng.draw(),
+        _ => rng.below(n + 1) as u64,
+    }
+}
+
 /// A page with a wrong length now and then.
 fn maybe_wrong_page(rng: &mut Rng, page: &mut Vec<u8>) {
     if rng.chance(5) {
@@ -615,6 +626,30 @@ fn read_mapped_input(rng: &mut Rng) -> Input {
     Input::new(Call::ReadMapped, buffers).at_block(block)
 }
 
+fn cut_input(rng: &mut Rng) -> Input {
+    let areas = damaged_areas(rng);
+    let k = cut_at(rng, areas.blocks());
+    Input::new(Call::Cut, vec![areas.patch, areas.full]).at_block(k)
+}
+
+fn cut_mapped_input(rng: &mut Rng) -> Input {
+    let mut areas = damaged_areas(rng);
+    let map = map_beside(rng, &mut areas);
+    let k = cut_at(rng, areas.blocks());
+    Input::new(Call::CutMapped, vec![areas.patch, areas.full, map]).at_block(k)
+}
+
+/// Often with EMPTY slots at the end, as after a cut.
+fn highest_input(rng: &mut Rng) -> Input {
+    let mut areas = damaged_areas(rng);
+    if rng.chance(40) {
+        for block in rng.between(0, areas.blocks())..areas.blocks() {
+            areas.slot(block).fill(0);
+        }
+    }
+    Input::new(Call::Highest, vec![areas.patch])
+}
+
 fn build_input(rng: &mut Rng) -> Input {
     let areas = damaged_areas(rng);
     let needed = (areas.blocks() + 3) / 4;
@@ -721,6 +756,9 @@ fn input(rng: &mut Rng, call: Call) -> Input {
         Call::Next => next_input(rng),
         Call::WriteMapped => write_mapped_input(rng),
         Call::ReadMapped => read_mapped_input(rng),
+        Call::Cut => cut_input(rng),
+        Call::CutMapped => cut_mapped_input(rng),
+        Call::Highest => highest_input(rng),
     }
 }
 
@@ -760,6 +798,13 @@ pub fn any_input(rng: &mut Rng) -> Input {
         Call::ReadMapped,
         Call::ReadMapped,
         Call::ReadMapped,
+        Call::Cut,
+        Call::Cut,
+        Call::CutMapped,
+        Call::CutMapped,
+        Call::CutMapped,
+        Call::Highest,
+        Call::Highest,
     ]);
     input(rng, call)
 }

@@ -60,7 +60,7 @@ struct Store {
 impl Store {
     fn lent(&mut self, call: Call) -> Vec<&mut [u8]> {
         match call {
-            Call::Show => vec![self.patch.bytes()],
+            Call::Show | Call::Highest => vec![self.patch.bytes()],
             _ => vec![self.patch.bytes(), self.full.bytes()],
         }
     }
@@ -176,6 +176,14 @@ impl<'h> Stores<'h> {
         self.check(Call::Read, block, &[Vec::new(), vec![0xAB; PAGE]], expected)
     }
 
+    fn cut(&mut self, k: u64, expected: &[i128]) -> Result<(), Mismatch> {
+        self.check(Call::Cut, k, &[], expected)
+    }
+
+    fn highest(&mut self, expected: &[i128]) -> Result<(), Mismatch> {
+        self.check(Call::Highest, 0, &[], expected)
+    }
+
     fn build(&mut self, expected: &[i128]) -> Result<(), Mismatch> {
         self.check(Call::Build, 0, &[vec![0xAB; MAP + 3]], expected)
     }
@@ -196,6 +204,13 @@ impl<'h> Stores<'h> {
     fn read_mapped(&mut self, map: &[u8], block: u64, expected: &[i128]) -> Result<(), Mismatch> {
         let small = [map.to_vec(), Vec::new(), vec![0xAB; PAGE]];
         self.check(Call::ReadMapped, block, &small, expected)
+    }
+
+    /// A cut that is lent the map, which stays with the caller.
+    fn cut_mapped(&mut self, map: &mut Vec<u8>, k: u64, expected: &[i128]) -> Result<(), Mismatch> {
+        let small = std::slice::from_ref(map);
+        *map = self.check_giving(Call::CutMapped, k, small, expected)?.swap_remove(0);
+        Ok(())
     }
 
     /// Build makes this map.
@@ -279,6 +294,31 @@ fn without_full_area(harness: &mut Harness) -> Result<(), Mismatch> {
     stores.build(&[0])
 }
 
+/// 131,072 blocks cut short, and how many of them are left in use.
+fn cut_short(harness: &mut Harness) -> Result<(), Mismatch> {
+    let mut stores = Stores::new(harness, MAX_BLOCKS, None);
+    stores.highest(&[0, 0])?;
+    for block in [0, 65_535, 65_536, LAST] {
+        stores.write(block, &small_change(), &[0, 1, 4])?;
+    }
+    stores.highest(&[0, 131_072])?;
+    for beyond in [LAST + 2, 1 << 55] {
+        stores.cut(beyond, &[5])?;
+    }
+    stores.cut(LAST + 1, &[0])?;
+    // An unsound slot far below counts for the highest block and not for a cut.
+    stores.poke_patch(patch_len(1), 9);
+    stores.highest(&[6])?;
+    stores.cut(LAST, &[0])?;
+    stores.highest(&[6])?;
+    stores.poke_patch(patch_len(1), 0);
+    stores.highest(&[0, 65_537])?;
+    stores.cut(65_536, &[0])?;
+    stores.highest(&[0, 65_536])?;
+    stores.cut(0, &[0])?;
+    stores.highest(&[0, 0])
+}
+
 fn one_block_too_many(harness: &mut Harness) -> Result<(), Mismatch> {
     let mut stores = Stores::new(harness, MAX_BLOCKS + 1, None);
     stores.check(Call::Format, 0, &[], &[2])?;
@@ -288,6 +328,9 @@ fn one_block_too_many(harness: &mut Harness) -> Result<(), Mismatch> {
     // A map that is long enough, and none.
     stores.read_mapped(&[0; MAP + 1], 0, &[2])?;
     stores.write_mapped(&mut Vec::new(), 0, &small_change(), &[2])?;
+    stores.cut(0, &[2])?;
+    stores.cut_mapped(&mut vec![0xAB; MAP + 1], 0, &[2])?;
+    stores.highest(&[2])?;
     stores.build(&[2])
 }
 
@@ -304,6 +347,12 @@ fn with_full_area(harness: &mut Harness) -> Result<(), Mismatch> {
     stores.poke_full(full_len(MAX_BLOCKS - 1) - 1, 5);
     stores.build(&[10, i128::from(LAST - 1)])?;
     stores.write(LAST - 1, &[0; PAGE], &[0, 0, 0])?;
+    stores.build(&[0])?;
+
+    // The same byte again, and the last page: both go by a cut.
+    stores.poke_full(full_len(MAX_BLOCKS - 1) - 1, 5);
+    stores.cut(LAST - 1, &[0])?;
+    stores.highest(&[0, 65_537])?;
     stores.build(&[0])
 }
 
@@ -333,7 +382,22 @@ fn with_map(harness: &mut Harness) -> Result<(), Mismatch> {
     map[MAP - 1] = 0xDF;
     stores.read_mapped(&map, LAST, &[11])?;
     stores.write_mapped(&mut map, LAST, &[0; PAGE], &[0, 0, 0])?;
-    stores.read_mapped(&map, LAST, &[0, 0])
+    stores.read_mapped(&map, LAST, &[0, 0])?;
+
+    // A cut takes the pairs from its block on, whatever they are, and no others.
+    stores.cut_mapped(&mut short, LAST + 1, &[9])?;
+    stores.cut_mapped(&mut map, LAST + 2, &[5])?;
+    for (k, last_byte) in [(LAST + 1, 0x1F), (LAST - 1, 0x0F), (LAST - 2, 0x03)] {
+        stores.cut_mapped(&mut map, k, &[0])?;
+        if map[MAP - 1] != last_byte {
+            let found = format!("the last byte of the map is {:02X}", map[MAP - 1]);
+            return Err(Mismatch { side: "by hand", input: format!("cut at {k}"), found });
+        }
+    }
+    stores.cut_mapped(&mut map, 65_536, &[0])?;
+    stores.build_makes(&map)?;
+    stores.cut_mapped(&mut map, 0, &[0])?;
+    stores.build_makes(&map)
 }
 
 /// The last block refers to a page that the full area does not have.
@@ -347,12 +411,14 @@ fn one_page_fewer(harness: &mut Harness) -> Result<(), Mismatch> {
 fn more_pages_than_blocks(harness: &mut Harness) -> Result<(), Mismatch> {
     let mut stores = Stores::new(harness, MAX_BLOCKS, Some(MAX_BLOCKS + 1));
     stores.read(0, &[2])?;
+    stores.cut(0, &[2])?;
     stores.build(&[2])
 }
 
 /// All of it except Format of a full area of 1 GiB.
 pub fn check(harness: &mut Harness) -> Result<(), Mismatch> {
     without_full_area(harness)?;
+    cut_short(harness)?;
     one_block_too_many(harness)?;
     with_full_area(harness)?;
     with_map(harness)?;
@@ -380,7 +446,8 @@ fn largest_maps(harness: &mut Harness) -> Result<(), Mismatch> {
     Ok(())
 }
 
-/// Format of the largest areas, which fills 1 GiB on each side. Says why if there is no room.
+/// Format of the largest areas, which fills 1 GiB on each side, and a cut of all of it. Says why if there
+/// is no room.
 pub fn check_format(harness: &mut Harness) -> Result<Option<String>, Mismatch> {
     const NEEDED_KIB: u64 = 5 << 20;
     match available_kib() {
@@ -393,6 +460,11 @@ pub fn check_format(harness: &mut Harness) -> Result<Option<String>, Mismatch> {
     stores.poke_patch(patch_len(MAX_BLOCKS) - 1, 1);
     stores.poke_full(full_len(MAX_BLOCKS) - 1, 1);
     stores.check(Call::Format, 0, &[], &[0])?;
+    stores.build(&[0])?;
+    stores.poke_patch(patch_len(0), 1);
+    stores.poke_full(full_len(0), 1);
+    stores.poke_full(full_len(MAX_BLOCKS) - 1, 1);
+    stores.cut(0, &[0])?;
     stores.build(&[0])?;
     Ok(None)
 }

@@ -8,6 +8,7 @@ pub mod arena;
 pub mod call;
 pub mod cases;
 pub mod crash;
+pub mod cuts;
 pub mod generate;
 pub mod harness;
 pub mod huge;

@@ -5,7 +5,8 @@
 //! * a write sets the block's own pair to what it stored, and no other bit of the map;
 //! * a map is too short just where the blocks want another byte;
 //! * beside a store from elsewhere that Build accepts, reads by Build's map are those of Read, writes
-//!   with it are those of Write, and afterwards it is again the map that Build makes.
+//!   with it are those of Write, cuts with it are those without, and afterwards it is again the map
+//!   that Build makes; the highest block is the last whose pair is not 0.
 //!
 //! Every call of it is also compared with the independent implementation.
 
@@ -23,13 +24,13 @@ fn demand(holds: bool, what: impl FnOnce() -> String) -> Result<(), Mismatch> {
 }
 
 /// The four pairs of a byte, block 0's first.
-fn pairs(byte: u8) -> [u8; 4] {
+pub(crate) fn pairs(byte: u8) -> [u8; 4] {
     [byte % 4, byte / 4 % 4, byte / 16 % 4, byte / 64]
 }
 
 /// What stands in a block's slot.
 #[derive(Clone, Copy, Debug, PartialEq, Eq)]
-enum Slot {
+pub(crate) enum Slot {
     Empty,
     /// Byte 0 becomes 7.
     Patch,
@@ -39,10 +40,11 @@ enum Slot {
     Unsound,
 }
 
-const SLOTS: [Slot; 5] = [Slot::Empty, Slot::Patch, Slot::Broken, Slot::FullRef, Slot::Unsound];
+pub(crate) const SLOTS: [Slot; 5] =
+    [Slot::Empty, Slot::Patch, Slot::Broken, Slot::FullRef, Slot::Unsound];
 
 impl Slot {
-    fn bytes(self) -> Vec<u8> {
+    pub(crate) fn bytes(self) -> Vec<u8> {
         let mut slot = match self {
             Slot::Patch => return generate::patch_slot(&[0, 7]),
             Slot::Broken => return generate::patch_slot(&[0, 7, 0]),
@@ -254,14 +256,46 @@ impl Kept {
         demand(plain.answer == mapped.answer && plain.buffers[..2] == mapped.buffers[..2], || {
             format!("block {block} without a map {:?}, with it {:?}", plain.answer, mapped.answer)
         })?;
-        let mut buffers = mapped.buffers.into_iter();
-        let mut next = || buffers.next().expect("five buffers");
-        *self = Kept { areas: Areas { patch: next(), full: next() }, map: next() };
+        self.take(mapped);
         Ok(())
+    }
+
+    /// One cut with the map, and the same without it.
+    fn cut(&mut self, harness: &mut Harness, rng: &mut Rng) -> Result<(), Mismatch> {
+        let k = rng.between(0, self.areas.blocks()) as u64;
+        let areas = || vec![self.areas.patch.clone(), self.areas.full.clone()];
+        let plain = Input::new(Call::Cut, areas()).at_block(k);
+        let buffers = [areas(), vec![self.map.clone()]].concat();
+        let mapped = Input::new(Call::CutMapped, buffers).at_block(k);
+        let (plain, mapped) = (harness.check(&plain)?, harness.check(&mapped)?);
+        let answers = [plain.answer, mapped.answer];
+        let done = answers == [Answer::of(&[0]); 2];
+        demand(done && plain.buffers[..2] == mapped.buffers[..2], || {
+            format!("cut at {k} without a map and with it: {answers:?}")
+        })?;
+        self.take(mapped);
+        Ok(())
+    }
+
+    /// Goes on with what a write or a cut with the map has left.
+    fn take(&mut self, outcome: Outcome) {
+        let mut buffers = outcome.buffers.into_iter();
+        let mut next = || buffers.next().expect("both areas and the map");
+        *self = Kept { areas: Areas { patch: next(), full: next() }, map: next() };
+    }
+
+    /// The highest block is the last whose pair in Build's map is not 0.
+    fn check_highest(&self, harness: &mut Harness) -> Result<(), Mismatch> {
+        let input = Input::new(Call::Highest, vec![self.areas.patch.clone()]);
+        let answer = harness.check(&input)?.answer;
+        let in_use = |block: &usize| pairs(self.map[block / 4])[block % 4] != 0;
+        let last = (0..self.areas.blocks()).rev().find(in_use);
+        let expected = Answer::of(&[0, last.map_or(0, |block| block as i128 + 1)]);
+        demand(answer == expected, || format!("highest {:?}, by the map {last:?}", answer.0))
     }
 }
 
-/// One store from elsewhere, and writes to it.
+/// One store from elsewhere, and writes and cuts of it.
 pub fn from_elsewhere(
     harness: &mut Harness,
     rng: &mut Rng,
@@ -279,9 +313,14 @@ pub fn from_elsewhere(
     kept.map = built;
     let later = kept.map[kept.used()..].to_vec();
     kept.check_reads(harness, rng)?;
+    kept.check_highest(harness)?;
     if kept.areas.blocks() > 0 {
         for _ in 0..rng.between(1, 12) {
-            kept.write(harness, rng)?;
+            if rng.chance(15) {
+                kept.cut(harness, rng)?;
+            } else {
+                kept.write(harness, rng)?;
+            }
         }
     }
     let (answer, built) = kept.build(harness)?;
@@ -290,5 +329,6 @@ pub fn from_elsewhere(
         format!("kept {:02X?}, Build says {answer:?} and makes {built:02X?}", kept.map)
     })?;
     demand(kept.map[used..] == later[..], || "bytes after the map were changed".to_string())?;
+    kept.check_highest(harness)?;
     kept.check_reads(harness, rng)
 }

@@ -46,7 +46,7 @@ impl Fault {
     }
 }
 
-// Where the buffers of Read, Write and Build stand.
+// Where the buffers of Read, Write, Build and the cuts stand.
 const PATCH: usize = 0;
 const FULL: usize = 1;
 const BASE: usize = 2;
@@ -199,6 +199,56 @@ fn write_mapped(harness: &mut Harness) -> Result<(), Mismatch> {
     faults[0] = fault(1, |input| input.buffers[MAPPED_PAGE].truncate(PAGE - 1));
     faults[1] = fault(2, |input| input.buffers[FULL].push(0));
     all_sets(harness, &input, &faults)
+}
+
+/// What both cuts check alike: lengths, headers, K. K = n is no fault.
+fn cut(harness: &mut Harness) -> Result<(), Mismatch> {
+    let Areas { patch, full } = patched(Some(1));
+    let mut faults = vec![
+        fault(2, |input| input.buffers[PATCH].push(0)),
+        fault(2, |input| input.buffers[FULL].push(0)),
+    ];
+    faults.extend(header_faults());
+    faults.push(fault(5, |input| input.numbers.block = 3));
+    for k in [1, 2] {
+        let input = Input::new(Call::Cut, vec![patch.clone(), full.clone()]).at_block(k);
+        all_sets(harness, &input, &faults)?;
+    }
+    Ok(())
+}
+
+/// Beside a map of pairs of 3, over an unsound slot and a page that no slot refers to: none of a cut's
+/// business.
+fn cut_mapped(harness: &mut Harness) -> Result<(), Mismatch> {
+    let [mut patch, mut full, _] = five_patched(Some(2));
+    patch[SLOT_1 + 4] = 1;
+    full[PLACE_0] = 1;
+    let mut faults = vec![
+        fault(2, |input| input.buffers[PATCH].push(0)),
+        fault(2, |input| input.buffers[FULL].push(0)),
+        fault(9, |input| input.buffers[MAP].truncate(1)),
+    ];
+    faults.extend(header_faults());
+    faults.push(fault(5, |input| input.numbers.block = 6));
+    for k in [1, 5] {
+        let buffers = vec![patch.clone(), full.clone(), vec![0xFF, 0xFF]];
+        all_sets(harness, &Input::new(Call::CutMapped, buffers).at_block(k), &faults)?;
+    }
+    Ok(())
+}
+
+/// An unsound slot is the last of the faults, be it below the highest block, in its place or above it.
+fn highest(harness: &mut Harness) -> Result<(), Mismatch> {
+    let [patch, _, _] = five_patched(None);
+    let mut faults = vec![fault(2, |input| input.buffers[PATCH].push(0))];
+    // Those of the patch header.
+    faults.extend(header_faults().into_iter().take(3));
+    faults.extend([
+        fault(6, |input| input.buffers[PATCH][SLOT_0 + 4] = 1),
+        fault(6, unsound_slot_1),
+        fault(6, |input| input.buffers[PATCH][SLOT_1 + 4 * SLOT - 1] = 1),
+    ]);
+    all_sets(harness, &Input::new(Call::Highest, vec![patch]), &faults)
 }
 
 fn build_patches(harness: &mut Harness) -> Result<(), Mismatch> {
@@ -358,6 +408,9 @@ fn all_sets(harness: &mut Harness, start: &Input, faults: &[Fault]) -> Result<()
 }
 
 pub fn check(harness: &mut Harness) -> Result<(), Mismatch> {
+    cut(harness)?;
+    cut_mapped(harness)?;
+    highest(harness)?;
     read_patch(harness)?;
     read_full(harness)?;
     write(harness)?;

@@ -77,6 +77,11 @@ pub unsafe fn library(call: Call, lent: &[Lent], told: &Numbers) -> Answer {
             let a = c!(thx_read_mapped: patch full map; block; base page);
             members!(a, number, kind, offset)
         }
+        (Call::Cut, &[patch, full]) => members!(c!(thx_cut: patch full; block;), number),
+        (Call::CutMapped, &[patch, full, map]) => {
+            members!(c!(thx_cut_mapped: patch full map; block;), number)
+        }
+        (Call::Highest, &[patch]) => members!(c!(thx_highest: patch;;), number, blocks),
         _ => unreachable!("buffers of {}", call.name()),
     }
 }
@@ -118,6 +123,11 @@ pub fn independent(call: Call, buffers: &mut [&mut [u8]], told: &Numbers) -> Opt
             let a = independent::read_mapped(patch, full, map, block, base, page);
             members!(a, number, kind, offset)
         }
+        (Call::Cut, [patch, full]) => members!(independent::cut(patch, full, block), number),
+        (Call::CutMapped, [patch, full, map]) => {
+            members!(independent::cut_mapped(patch, full, map, block), number)
+        }
+        (Call::Highest, [patch]) => members!(independent::highest(patch), number, blocks),
         _ => unreachable!("buffers of {}", call.name()),
     })
 }
@@ -233,6 +243,13 @@ pub fn wrapper(call: Call, buffers: &mut [&mut [u8]], told: &Numbers) -> Option<
         }
         (Call::ReadMapped, [patch, full, map, base, page]) => {
             Ok(reading(thonxiliko::read_mapped(patch, full, map, block, base, page)))
+        }
+        (Call::Cut, [patch, full]) => thonxiliko::cut(patch, full, block).map(|()| answer([0])),
+        (Call::CutMapped, [patch, full, map]) => {
+            thonxiliko::cut_mapped(patch, full, map, block).map(|()| answer([0]))
+        }
+        (Call::Highest, [patch]) => {
+            thonxiliko::highest(patch).map(|blocks| answer([0, blocks.into()]))
         }
         _ => unreachable!("buffers of {}", call.name()),
     };

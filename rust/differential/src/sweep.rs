@@ -39,6 +39,10 @@ fn accepted(call: Call) -> Input {
         Call::ReadMapped => {
             Input::new(call, vec![patch, full, vec![0b0110], base, vec![0xEE; PAGE]])
         }
+        // From block 0 on, so that there is something to cut whatever n is.
+        Call::Cut => Input::new(call, vec![patch, full]),
+        Call::CutMapped => Input::new(call, vec![patch, full, vec![0b0110]]),
+        Call::Highest => Input::new(call, vec![patch]),
     }
 }
 
@@ -151,7 +155,15 @@ pub fn places(harness: &mut Harness) -> Result<(), Mismatch> {
 /// Blocks and n near 2^64 and wherever a product could wrap, alone and together.
 pub fn numbers(harness: &mut Harness) -> Result<(), Mismatch> {
     let interesting: Vec<u64> = STRANGE_NUMBERS.iter().copied().chain(0..6).collect();
-    for call in [Call::Show, Call::Read, Call::Write, Call::WriteMapped, Call::ReadMapped] {
+    for call in [
+        Call::Show,
+        Call::Read,
+        Call::Write,
+        Call::WriteMapped,
+        Call::ReadMapped,
+        Call::Cut,
+        Call::CutMapped,
+    ] {
         for block in &interesting {
             harness.check(&accepted(call).at_block(*block))?;
         }

@@ -2,14 +2,14 @@
 //! that the library passes, and the demand on runs notices programs that both sides agree about.
 
 use differential::call::{
-    Answer, Call, Input, Outcome, FULL_HEADER, PAGE, PATCH_HEADER, PAYLOAD, SLOT,
+    Answer, Call, Input, Outcome, FULL_HEADER, MAX_BLOCKS, PAGE, PATCH_HEADER, PAYLOAD, SLOT,
 };
 use differential::generate;
 use differential::harness::{independent_outcome, Counts, Harness, Mismatch, Side};
 use differential::maps::{self, Elsewhere};
 use differential::rng::Rng;
-use differential::runs::{self, Pairs};
-use differential::{cases, orders, payloads};
+use differential::runs::{self, Met};
+use differential::{cases, cuts, orders, payloads};
 
 const SEED: u64 = 1;
 const MOST_CASES: u64 = 60_000;
@@ -751,6 +751,301 @@ fn looks_at_the_slot_before_the_pair(input: &Input) -> Outcome {
     })
 }
 
+// Cuts that leave too much or take too much.
+
+fn blocks_of(input: &Input) -> usize {
+    (input.buffers[0].len() - PATCH_HEADER) / SLOT
+}
+
+fn pages_of(input: &Input) -> usize {
+    input.buffers[1].len().saturating_sub(FULL_HEADER) / PAGE
+}
+
+fn place_range(block: usize) -> std::ops::Range<usize> {
+    let start = FULL_HEADER + PAGE * block;
+    start..start + PAGE
+}
+
+/// Alters what comes of an accepted cut, with a map or without. It is told K and n.
+fn altered_cut(input: &Input, alter: impl FnOnce(&mut Outcome, usize, usize)) -> Outcome {
+    let mut outcome = independent_outcome(input);
+    let cut = matches!(input.call, Call::Cut | Call::CutMapped);
+    if cut && outcome.answer.number() == 0 {
+        alter(&mut outcome, input.numbers.block as usize, blocks_of(input));
+    }
+    outcome
+}
+
+/// The same of the map that a cut was lent.
+fn altered_cut_map(input: &Input, alter: impl FnOnce(&mut [u8], usize, usize)) -> Outcome {
+    altered_cut(input, |outcome, k, n| {
+        if input.call == Call::CutMapped {
+            alter(&mut outcome.buffers[2], k, n);
+        }
+    })
+}
+
+/// A refusal in the place of what came of a call.
+fn refuse(input: &Input, outcome: &mut Outcome, number: i128) {
+    *outcome = Outcome { answer: Answer::of(&[number]), buffers: input.buffers.clone() };
+}
+
+fn cuts_nothing(input: &Input) -> Outcome {
+    altered_cut(input, |outcome, _, _| outcome.buffers = input.buffers.clone())
+}
+
+fn cuts_slots_only(input: &Input) -> Outcome {
+    altered_cut(input, |outcome, _, _| outcome.buffers[1] = input.buffers[1].clone())
+}
+
+fn cuts_places_only(input: &Input) -> Outcome {
+    altered_cut(input, |outcome, _, _| outcome.buffers[0] = input.buffers[0].clone())
+}
+
+/// Stray bytes survive.
+fn cuts_places_after_full_ref_only(input: &Input) -> Outcome {
+    altered_cut(input, |outcome, k, _| {
+        for block in k..pages_of(input) {
+            if input.buffers[0][slot_range(block as u64)][0] != 2 {
+                let place = place_range(block);
+                outcome.buffers[1][place.clone()].copy_from_slice(&input.buffers[1][place]);
+            }
+        }
+    })
+}
+
+fn cut_compares_k_with_m(input: &Input) -> Outcome {
+    altered_cut(input, |outcome, k, _| {
+        if k > pages_of(input) {
+            refuse(input, outcome, 5);
+        }
+    })
+}
+
+fn cut_refuses_n(input: &Input) -> Outcome {
+    altered_cut(input, |outcome, k, n| {
+        if k == n {
+            refuse(input, outcome, 5);
+        }
+    })
+}
+
+fn cut_takes_any_k(input: &Input) -> Outcome {
+    altered(input, Call::Cut, |outcome| {
+        if outcome.answer.number() == 5 {
+            outcome.answer = Answer::of(&[0]);
+        }
+    })
+}
+
+fn cut_of_k_cut_to_32_bits(input: &Input) -> Outcome {
+    altered(input, Call::Cut, |outcome| {
+        let mut narrow = input.clone();
+        narrow.numbers.block = (input.numbers.block as u32).into();
+        *outcome = independent_outcome(&narrow);
+    })
+}
+
+/// Block K itself stays.
+fn cuts_above_k(input: &Input) -> Outcome {
+    altered_cut(input, |outcome, k, n| {
+        let mut later = input.clone();
+        later.numbers.block = (k + 1).min(n) as u64;
+        *outcome = independent_outcome(&later);
+    })
+}
+
+/// The block before K goes too.
+fn cuts_below_k(input: &Input) -> Outcome {
+    altered_cut(input, |outcome, k, _| {
+        let mut earlier = input.clone();
+        earlier.numbers.block = k.saturating_sub(1) as u64;
+        *outcome = independent_outcome(&earlier);
+    })
+}
+
+/// One block and not all from it on.
+fn cuts_block_k_alone(input: &Input) -> Outcome {
+    altered_cut(input, |outcome, k, n| {
+        let mut later = input.clone();
+        later.numbers.block = (k + 1).min(n) as u64;
+        let later = independent_outcome(&later).buffers;
+        for (bytes, (left, before)) in
+            outcome.buffers.iter_mut().zip(later.iter().zip(&input.buffers))
+        {
+            // What the later cut has cleared stays as it was.
+            for (at, byte) in bytes.iter_mut().enumerate() {
+                *byte |= before[at] & !left[at];
+            }
+        }
+    })
+}
+
+/// A cut that wants the slots that it drops to be sound.
+fn cut_looks_at_slots(input: &Input) -> Outcome {
+    altered_cut(input, |outcome, k, _| {
+        if slots_of(input).skip(k).any(|kind| kind.is_none()) {
+            refuse(input, outcome, 6);
+        }
+    })
+}
+
+fn cut_leaves_the_map(input: &Input) -> Outcome {
+    altered_cut_map(input, |map, _, _| map.copy_from_slice(&input.buffers[2]))
+}
+
+/// The pairs below K that share its byte go too.
+fn cut_clears_the_byte_of_k(input: &Input) -> Outcome {
+    altered_cut_map(input, |map, k, n| {
+        if k < n {
+            map[k / 4] &= !((1 << (2 * (k % 4))) - 1);
+        }
+    })
+}
+
+/// The pairs from K on that share a byte with others stay.
+fn cut_clears_whole_bytes_only(input: &Input) -> Outcome {
+    altered_cut_map(input, |map, k, n| {
+        if k < n && k % 4 != 0 {
+            map[k / 4] = input.buffers[2][k / 4];
+        }
+    })
+}
+
+fn cut_clears_unused_pairs(input: &Input) -> Outcome {
+    altered_cut_map(input, |map, _, n| {
+        if n % 4 != 0 {
+            map[n / 4] &= (1 << (2 * (n % 4))) - 1;
+        }
+    })
+}
+
+fn cut_clears_later_bytes(input: &Input) -> Outcome {
+    altered_cut_map(input, |map, _, n| map[(n + 3) / 4..].fill(0))
+}
+
+/// A map that is too short is no fault where there is nothing to clear.
+fn short_map_taken_at_n(input: &Input) -> Outcome {
+    altered(input, Call::CutMapped, |outcome| {
+        if outcome.answer.number() == 9 && input.numbers.block == blocks_of(input) as u64 {
+            let mut longer = input.clone();
+            longer.buffers[2].resize(MAX_BLOCKS / 4, 0);
+            outcome.answer = independent_outcome(&longer).answer;
+        }
+    })
+}
+
+fn short_map_taken_by_a_cut(input: &Input) -> Outcome {
+    altered(input, Call::CutMapped, |outcome| {
+        let mut longer = input.clone();
+        longer.buffers[2].push(0);
+        if outcome.answer.number() == 9 {
+            *outcome = independent_outcome(&longer);
+            outcome.buffers[2].pop();
+        }
+    })
+}
+
+// Highest blocks that are not.
+
+/// The kind of each slot, none where it is not sound.
+fn slots_of(
+    input: &Input,
+) -> impl DoubleEndedIterator<Item = Option<u32>> + ExactSizeIterator + '_ {
+    input.buffers[0][PATCH_HEADER..].chunks_exact(SLOT).map(|slot| {
+        let judged = independent::judge(slot);
+        (judged.number == 0).then_some(judged.kind)
+    })
+}
+
+/// Alters an answer that comes of slots: 0 or 6.
+fn altered_highest(input: &Input, alter: impl FnOnce(&mut [i128; 5])) -> Outcome {
+    altered(input, Call::Highest, |outcome| {
+        if matches!(outcome.answer.number(), 0 | 6) {
+            alter(&mut outcome.answer.0);
+        }
+    })
+}
+
+/// One more than the last slot for which this holds.
+fn one_more(input: &Input, holds: impl Fn(Option<u32>) -> bool) -> i128 {
+    slots_of(input).rposition(holds).map_or(0, |block| block as i128 + 1)
+}
+
+/// What is below it is not looked at.
+fn highest_stops_at_the_first_in_use(input: &Input) -> Outcome {
+    altered_highest(input, |answer| {
+        let first = slots_of(input).rev().find(|kind| *kind != Some(0));
+        if matches!(first, Some(Some(_))) {
+            answer[..2].copy_from_slice(&[0, one_more(input, |kind| kind != Some(0))]);
+        }
+    })
+}
+
+/// From above it takes an unsound slot for the highest, and stops.
+fn highest_stops_at_the_first_unsound(input: &Input) -> Outcome {
+    altered_highest(input, |answer| {
+        answer[..2].copy_from_slice(&[0, one_more(input, |kind| kind != Some(0))]);
+    })
+}
+
+/// From below it takes what it has seen before the first unsound slot.
+fn highest_ends_at_the_first_unsound(input: &Input) -> Outcome {
+    altered_highest(input, |answer| {
+        let sound = slots_of(input).take_while(Option::is_some).enumerate();
+        let last = sound.filter(|(_, kind)| *kind != Some(0)).last();
+        answer[..2].copy_from_slice(&[0, last.map_or(0, |(block, _)| block as i128 + 1)]);
+    })
+}
+
+fn highest_ignores_unsound_slots(input: &Input) -> Outcome {
+    altered_highest(input, |answer| {
+        answer[..2].copy_from_slice(&[0, one_more(input, |kind| matches!(kind, Some(1 | 2)))]);
+    })
+}
+
+fn highest_gives_the_block(input: &Input) -> Outcome {
+    altered_highest(input, |answer| answer[1] = (answer[1] - 1).max(0))
+}
+
+fn highest_names_the_unsound_block(input: &Input) -> Outcome {
+    altered_highest(input, |answer| {
+        if answer[0] == 6 {
+            answer[1] = slots_of(input).position(|kind| kind.is_none()).unwrap_or(0) as i128;
+        }
+    })
+}
+
+fn highest_counts_the_blocks_in_use(input: &Input) -> Outcome {
+    altered_highest(input, |answer| {
+        if answer[0] == 0 {
+            answer[1] = slots_of(input).filter(|kind| *kind != Some(0)).count() as i128;
+        }
+    })
+}
+
+fn highest_knows_patches_only(input: &Input) -> Outcome {
+    altered_highest(input, |answer| {
+        if answer[0] == 0 {
+            answer[1] = one_more(input, |kind| kind == Some(1));
+        }
+    })
+}
+
+fn highest_looks_at_payloads(input: &Input) -> Outcome {
+    altered_highest(input, |answer| {
+        let mut unsound = input.buffers[0][PATCH_HEADER..].chunks_exact(SLOT).filter(|slot| {
+            let judged = independent::judge(slot);
+            let payload = &slot[8..8 + judged.length as usize];
+            let applies = |payload| independent::apply(&[], payload, &mut [0; PAGE]).number == 0;
+            (judged.number, judged.kind) == (0, 1) && !applies(payload)
+        });
+        if answer[0] == 0 && unsound.next().is_some() {
+            answer[..2].copy_from_slice(&[7, 0]);
+        }
+    })
+}
+
 /// Random inputs alone meet every number of every call; without those of one answer it is missed.
 #[test]
 fn a_number_that_is_never_given_is_noticed() {
@@ -847,6 +1142,40 @@ const WRONG_READS_BY_MAP: [(&str, Side); 9] = [
     ("a short map taken by a read", reads_by_a_map_one_byte_too_short),
 ];
 
+const WRONG_CUTS: [(&str, Side); 19] = [
+    ("a cut that does not cut", cuts_nothing),
+    ("a cut of slots only", cuts_slots_only),
+    ("a cut of places only", cuts_places_only),
+    ("places cut only after FULL_REF", cuts_places_after_full_ref_only),
+    ("K compared with m", cut_compares_k_with_m),
+    ("K = n refused", cut_refuses_n),
+    ("any K taken", cut_takes_any_k),
+    ("K cut to 32 bits", cut_of_k_cut_to_32_bits),
+    ("a cut that leaves block K", cuts_above_k),
+    ("a cut that takes the block before K", cuts_below_k),
+    ("a cut of block K alone", cuts_block_k_alone),
+    ("a cut that looks at slots", cut_looks_at_slots),
+    ("a cut that leaves the map", cut_leaves_the_map),
+    ("all pairs of K's byte cut", cut_clears_the_byte_of_k),
+    ("whole bytes of the map cut only", cut_clears_whole_bytes_only),
+    ("unused pairs cut", cut_clears_unused_pairs),
+    ("later bytes of the map cut", cut_clears_later_bytes),
+    ("a short map taken at K = n", short_map_taken_at_n),
+    ("a short map taken by a cut", short_map_taken_by_a_cut),
+];
+
+const WRONG_HIGHEST: [(&str, Side); 9] = [
+    ("a highest that stops at the first slot in use", highest_stops_at_the_first_in_use),
+    ("a highest that stops at the first unsound slot", highest_stops_at_the_first_unsound),
+    ("a highest that ends before the first unsound slot", highest_ends_at_the_first_unsound),
+    ("a highest that ignores unsound slots", highest_ignores_unsound_slots),
+    ("the block and not one more", highest_gives_the_block),
+    ("a block beside 6", highest_names_the_unsound_block),
+    ("the number of blocks in use", highest_counts_the_blocks_in_use),
+    ("a highest that knows PATCH only", highest_knows_patches_only),
+    ("a highest that looks at payloads", highest_looks_at_payloads),
+];
+
 const WRONG_READERS: [(&str, Side); 8] = [
     ("a reader that skips its first entry", reader_skips_its_first_entry),
     ("a reader that goes on after a stop", reader_goes_on_after_a_stop),
@@ -878,9 +1207,10 @@ fn wrong_long_jumps_are_found() {
     WRONG_LONG_JUMPS.iter().for_each(|(name, wrong)| must_find(name, *wrong));
 }
 
-/// Each of them contradicts a case that is written by hand.
+/// Each of them contradicts a case that is written by hand; so does each wrong cut and each wrong highest
+/// block.
 #[test]
-fn cases_by_hand_notice_wrong_long_jumps() {
+fn cases_by_hand_notice_wrong_programs() {
     let cases = cases::all();
     let notice = |program: Side| {
         let differs = |case: &cases::Case| {
@@ -889,8 +1219,8 @@ fn cases_by_hand_notice_wrong_long_jumps() {
         cases.iter().any(differs)
     };
     assert!(!notice(takes_long_jumps_rightly));
-    for (name, wrong) in WRONG_LONG_JUMPS {
-        assert!(notice(wrong), "{name} was not noticed");
+    for (name, wrong) in WRONG_LONG_JUMPS.iter().chain(&WRONG_CUTS).chain(&WRONG_HIGHEST) {
+        assert!(notice(*wrong), "{name} was not noticed");
     }
 }
 
@@ -935,6 +1265,36 @@ fn wrong_maps_are_found() {
 #[test]
 fn wrong_reads_by_a_map_are_found() {
     WRONG_READS_BY_MAP.iter().for_each(|(name, wrong)| must_find(name, *wrong));
+}
+
+#[test]
+fn wrong_cuts_are_found() {
+    WRONG_CUTS.iter().for_each(|(name, wrong)| must_find(name, *wrong));
+}
+
+#[test]
+fn wrong_highest_blocks_are_found() {
+    WRONG_HIGHEST.iter().for_each(|(name, wrong)| must_find(name, *wrong));
+}
+
+/// The same wrong program on both sides, through every cut and every row of slots: only what is written
+/// by hand there, or a rule for all answers, can notice.
+#[test]
+fn the_demand_on_cuts_notices_wrong_programs() {
+    let notices = |wrong: Side| {
+        let mut harness = Harness::new();
+        harness.expected = wrong;
+        harness.in_place_of_library = Some(wrong);
+        cuts::every_one(&mut harness).err().map(|mismatch| mismatch.side)
+    };
+    assert_eq!(notices(independent_outcome), None);
+    for (name, wrong) in WRONG_CUTS.iter().chain(&WRONG_HIGHEST) {
+        let side = match *name {
+            "a block beside 6" => "rule of answers",
+            _ => "demand on cuts",
+        };
+        assert_eq!(notices(*wrong), Some(side), "{name}");
+    }
 }
 
 /// The same wrong program on both sides, through every byte of a map and every length: only what is
@@ -985,6 +1345,14 @@ fn stores_from_elsewhere_notice_wrong_maps() {
         ("the neighbour's pair set too", sets_the_neighbours_pair_too),
         ("later bytes cleared", clears_later_bytes),
         ("the pair for the kind", answers_the_pair_for_the_kind),
+        ("a cut of slots only", cuts_slots_only),
+        ("a cut that leaves the map", cut_leaves_the_map),
+        ("all pairs of K's byte cut", cut_clears_the_byte_of_k),
+        ("whole bytes of the map cut only", cut_clears_whole_bytes_only),
+        ("later bytes of the map cut", cut_clears_later_bytes),
+        ("the block and not one more", highest_gives_the_block),
+        ("the number of blocks in use", highest_counts_the_blocks_in_use),
+        ("a highest that knows PATCH only", highest_knows_patches_only),
     ] {
         assert!(elsewhere_notices(wrong), "{name} was not noticed");
     }
@@ -1069,7 +1437,7 @@ fn run_notices(wrong: Side) -> bool {
     harness.in_place_of_library = Some(wrong);
     (0..200).any(|case| {
         let mut rng = Rng::for_case(SEED, "runs", case);
-        match runs::run(&mut harness, &mut rng, 40, &mut Pairs::default()) {
+        match runs::run(&mut harness, &mut rng, 40, &mut Met::default()) {
             Ok(()) => false,
             Err(mismatch) => {
                 assert_eq!(mismatch.side, "demand on runs");
@@ -1113,7 +1481,7 @@ fn another_order_of_refusals_is_noticed() {
     /// Headers before the map's length.
     fn headers_before_the_map(input: &Input) -> Outcome {
         let mut outcome = independent_outcome(input);
-        let mapped = matches!(input.call, Call::WriteMapped | Call::ReadMapped);
+        let mapped = matches!(input.call, Call::WriteMapped | Call::ReadMapped | Call::CutMapped);
         if mapped && outcome.answer.number() == 9 {
             let mut longer = input.clone();
             longer.buffers[2].resize(1_000, 0);
@@ -1124,6 +1492,32 @@ fn another_order_of_refusals_is_noticed() {
         }
         outcome
     }
+    /// The same of a cut.
+    fn cut_has_headers_before_the_map(input: &Input) -> Outcome {
+        match input.call {
+            Call::CutMapped => headers_before_the_map(input),
+            _ => independent_outcome(input),
+        }
+    }
+    /// K before the headers.
+    fn cut_has_k_before_headers(input: &Input) -> Outcome {
+        let mut outcome = independent_outcome(input);
+        let cut = matches!(input.call, Call::Cut | Call::CutMapped);
+        let by_header = cut && matches!(outcome.answer.number(), 3 | 4);
+        if by_header && input.numbers.block > blocks_of(input) as u64 {
+            outcome.answer = Answer::of(&[5]);
+        }
+        outcome
+    }
+    /// Slots before the header.
+    fn highest_has_slots_before_the_header(input: &Input) -> Outcome {
+        altered(input, Call::Highest, |outcome| {
+            let refused = matches!(outcome.answer.number(), 3 | 4);
+            if refused && slots_of(input).any(|kind| kind.is_none()) {
+                outcome.answer = Answer::of(&[6]);
+            }
+        })
+    }
     let mut harness = Harness::new();
     assert!(orders::check(&mut harness).is_ok());
     for wrong in [
@@ -1131,6 +1525,10 @@ fn another_order_of_refusals_is_noticed() {
         end_first,
         headers_before_the_map,
         looks_at_the_slot_before_the_pair,
+        cut_has_headers_before_the_map,
+        cut_has_k_before_headers,
+        cut_refuses_n,
+        highest_has_slots_before_the_header,
     ] {
         harness.expected = wrong;
         harness.in_place_of_library = Some(wrong);
@@ -1157,5 +1555,33 @@ fn the_demand_on_runs_notices_wrong_programs() {
         first_pair_in_the_high_bits,
     ] {
         assert!(run_notices(wrong));
+    }
+}
+
+/// The wrong cuts and highest blocks that a run can show. It has no stray bytes, no unsound slot or
+/// payload, no unused pair other than 0 and no later byte of a map.
+#[test]
+fn the_demand_on_runs_notices_wrong_cuts() {
+    for (name, wrong) in [
+        ("a cut that does not cut", cuts_nothing as Side),
+        ("a cut of slots only", cuts_slots_only),
+        ("a cut of places only", cuts_places_only),
+        ("K compared with m", cut_compares_k_with_m),
+        ("K = n refused", cut_refuses_n),
+        ("any K taken", cut_takes_any_k),
+        ("K cut to 32 bits", cut_of_k_cut_to_32_bits),
+        ("a cut that leaves block K", cuts_above_k),
+        ("a cut that takes the block before K", cuts_below_k),
+        ("a cut of block K alone", cuts_block_k_alone),
+        ("a cut that leaves the map", cut_leaves_the_map),
+        ("all pairs of K's byte cut", cut_clears_the_byte_of_k),
+        ("whole bytes of the map cut only", cut_clears_whole_bytes_only),
+        ("a short map taken at K = n", short_map_taken_at_n),
+        ("a short map taken by a cut", short_map_taken_by_a_cut),
+        ("the block and not one more", highest_gives_the_block),
+        ("the number of blocks in use", highest_counts_the_blocks_in_use),
+        ("a highest that knows PATCH only", highest_knows_patches_only),
+    ] {
+        assert!(run_notices(wrong), "{name} was not noticed");
     }
 }

@@ -1,5 +1,5 @@
 //! Areas in sparse files that are mapped into memory. A place that is zero already is not written to, so
-//! that Format and small changes leave the holes of the files as they are.
+//! that Format, small changes and cuts leave the holes of the files as they are.
 //!
 //! Holes are made by whoever makes the file. The library sees bytes and no files: it fills holes only
 //! where it has something to store, and it never punches one. A place that is cleared is zeros on disk.
@@ -11,8 +11,8 @@ use std::path::{Path, PathBuf};
 
 use differential::arena::Mapping;
 use thonxiliko::{
-    build, format, full_area_len, map_len, patch_area_len, read, write, Kind, FULL_HEADER_SIZE,
-    PAGE_SIZE, PATCH_HEADER_SIZE,
+    build, cut, cut_mapped, format, full_area_len, highest, map_len, patch_area_len, read, write,
+    Kind, FULL_HEADER_SIZE, PAGE_SIZE, PATCH_HEADER_SIZE,
 };
 
 /// n and m: 4 MiB of slots and 64 MiB of places.
@@ -106,6 +106,19 @@ impl Areas {
     fn write(&mut self, block: u64, page: &[u8]) -> Kind {
         let written = write(self.patch.bytes(), self.full.bytes(), block, &[], page);
         written.expect("a sound store").kind
+    }
+
+    fn cut(&mut self, k: u64) {
+        cut(self.patch.bytes(), self.full.bytes(), k).expect("a sound store");
+    }
+
+    fn highest(&mut self) -> u64 {
+        highest(self.patch.bytes()).expect("a sound store")
+    }
+
+    /// Bytes on disk of both areas.
+    fn taken(&self) -> [u64; 2] {
+        [self.patch.taken(), self.full.taken()]
     }
 
     fn read(&mut self, block: u64) -> Vec<u8> {
@@ -217,4 +230,47 @@ fn format_clears_used_places_and_leaves_holes() {
     assert!(areas.patch.bytes()[PATCH_HEADER_SIZE..].iter().all(|byte| *byte == 0));
     hold_few("the full area after Format", areas.full.taken());
     hold_few("the patch area after Format", areas.patch.taken());
+}
+
+/// A cut of areas that hold nothing, at every place and with a map, fills no hole; nor does looking for
+/// the highest block.
+#[test]
+fn a_cut_of_holes_takes_no_room() {
+    let mut areas = match Areas::with_headers("cut-holes") {
+        Some(areas) => areas,
+        None => return,
+    };
+    let before = areas.taken();
+    for k in [BLOCKS, BLOCKS / 2, 1, 0] {
+        areas.cut(k);
+    }
+    let mut map = vec![0xFF; map_len(BLOCKS)];
+    cut_mapped(areas.patch.bytes(), areas.full.bytes(), &mut map, 0).expect("a sound store");
+    // It did its work: a cut that does nothing takes no room either.
+    assert!(map.iter().all(|byte| *byte == 0));
+    assert_eq!(areas.highest(), 0);
+    assert_eq!(areas.taken(), before, "bytes on disk before and after the cuts");
+}
+
+/// A cut clears what is there, wherever it is, and fills no hole but what shares a few blocks with it.
+#[test]
+fn a_cut_clears_used_places_and_leaves_holes() {
+    let mut areas = match Areas::with_headers("cut-used") {
+        Some(areas) => areas,
+        None => return,
+    };
+    for block in [0, BLOCKS / 2, BLOCKS - 1] {
+        assert_eq!(areas.write(block, &[9; PAGE_SIZE]), Kind::Full);
+    }
+    assert_eq!(areas.write(BLOCKS / 8, &one_byte(1)), Kind::Patch);
+    // A byte by itself at the end of a place that no slot refers to.
+    areas.full.bytes()[full_area_len(BLOCKS / 4) - 1] = 1;
+    areas.cut(1);
+    areas.build();
+    assert_eq!(areas.highest(), 1);
+    assert_eq!(areas.read(0), [9; PAGE_SIZE]);
+    assert!(areas.full.bytes()[full_area_len(1)..].iter().all(|byte| *byte == 0));
+    assert!(areas.patch.bytes()[patch_area_len(1)..].iter().all(|byte| *byte == 0));
+    hold_few("the full area after the cut", areas.full.taken());
+    hold_few("the patch area after the cut", areas.patch.taken());
 }

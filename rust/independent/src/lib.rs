@@ -108,6 +108,12 @@ pub struct Tallied {
     pub full: u64,
 }
 
+#[derive(Clone, Copy, Debug, Default, PartialEq, Eq)]
+pub struct Extent {
+    pub number: u32,
+    pub blocks: u64,
+}
+
 // ---------------------------------------------------------------------------------------------
 // Lengths
 // ---------------------------------------------------------------------------------------------
@@ -747,4 +753,67 @@ pub fn tally(map: &[u8], n: u64) -> Tallied {
         }
     }
     counted
+}
+
+// ---------------------------------------------------------------------------------------------
+// Cuts, and the highest block
+// ---------------------------------------------------------------------------------------------
+
+pub fn cut(patch: &mut [u8], full: &mut [u8], k: u64) -> Done {
+    let (n, m) = match sizes_of(patch, full) {
+        None => return Done { number: BAD_AREA_LENGTH },
+        Some(sizes) => sizes,
+    };
+    if let Err(number) = judge_headers(patch, full) {
+        return Done { number };
+    }
+    // K = n is no fault: there is nothing to drop.
+    if k > n {
+        return Done { number: BAD_BLOCK };
+    }
+    for block in k..n {
+        let start = slot_start(block);
+        patch[start..start + SLOT].fill(0);
+        if block < m {
+            let start = place_start(block);
+            full[start..start + PAGE].fill(0);
+        }
+    }
+    Done { number: DONE }
+}
+
+pub fn cut_mapped(patch: &mut [u8], full: &mut [u8], map: &mut [u8], k: u64) -> Done {
+    let n = match sizes_of(patch, full) {
+        None => return Done { number: BAD_AREA_LENGTH },
+        Some((n, _)) => n,
+    };
+    if (map.len() as u64) < map_length(n) {
+        return Done { number: SHORT_BUFFER };
+    }
+    let done = cut(patch, full, k);
+    if done.number == DONE {
+        // The pairs of blocks alone: those past n are no block's.
+        (k..n).for_each(|block| put_pair(map, block, 0));
+    }
+    done
+}
+
+pub fn highest(patch: &[u8]) -> Extent {
+    let refused = |number| Extent { number, blocks: 0 };
+    let n = match blocks_of(patch) {
+        None => return refused(BAD_AREA_LENGTH),
+        Some(n) => n,
+    };
+    if let Err(number) = judge_patch_header(patch) {
+        return refused(number);
+    }
+    let mut blocks = 0;
+    for block in 0..n {
+        match sound_slot(slot_of(patch, block)) {
+            None => return refused(BAD_SLOT),
+            Some((EMPTY, _)) => {}
+            Some(_) => blocks = block + 1,
+        }
+    }
+    Extent { number: DONE, blocks }
 }

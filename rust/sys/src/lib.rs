@@ -26,6 +26,10 @@ answer!(thx_built { number: u32, block: u64, offset: u32 });
 answer!(thx_pair { number: u32, pair: u32 });
 answer!(thx_tallied { number: u32, patch: u64, full: u64 });
 answer!(thx_entry { number: u32, found: u32, at: u64, position: i32, value: u32 });
+answer!(
+    /// One more than the highest block that is not EMPTY, or 0.
+    thx_extent { number: u32, blocks: u64 }
+);
 
 extern "C" {
     pub fn thx_format(patch: *mut u8, patch_len: usize, full: *mut u8, full_len: usize)
@@ -106,6 +110,26 @@ extern "C" {
         page: *mut u8,
         page_len: usize,
     ) -> thx_reading;
+
+    pub fn thx_cut(
+        patch: *mut u8,
+        patch_len: usize,
+        full: *mut u8,
+        full_len: usize,
+        k: u64,
+    ) -> thx_done;
+
+    pub fn thx_cut_mapped(
+        patch: *mut u8,
+        patch_len: usize,
+        full: *mut u8,
+        full_len: usize,
+        map: *mut u8,
+        map_len: usize,
+        k: u64,
+    ) -> thx_done;
+
+    pub fn thx_highest(patch: *const u8, patch_len: usize) -> thx_extent;
 
     pub fn thx_build(
         patch: *const u8,

@@ -18,7 +18,11 @@
 //! its bytes, and [`entries`] steps through it up to there.
 //!
 //! [`build`] makes the *map*, which says of each block where its page is. A program that keeps it lends
-//! it to every write ([`write_mapped`]) and may then read by it ([`read_mapped`]).
+//! it to every write ([`write_mapped`]) and every cut ([`cut_mapped`]) and may then read by it
+//! ([`read_mapped`]).
+//!
+//! Where the data file has become shorter, [`cut`] drops the blocks past its end. [`highest`] tells up
+//! to which block anything is kept, which is not always the file's length.
 //!
 //! No call panics, unless the archive that was linked answers with a number that its interface does
 //! not have.
@@ -186,9 +190,9 @@ pub enum Refusal {
     Header = 3,
     /// The version in a header is wrong.
     Version = 4,
-    /// The store has no such block.
+    /// The store has no such block; for a cut, it has fewer blocks than are to be left.
     Block = 5,
-    /// The slot is not sound.
+    /// The slot is not sound; for [`highest`], some slot is not.
     Slot = 6,
     /// The payload is not sound; see [`apply`].
     Payload = 7,
@@ -793,8 +797,8 @@ pub fn write(
 /// stored, whatever it was before. Other pairs and later bytes of the map are not looked at and stay.
 ///
 /// A map tells the truth only if it is the store's own: all zeros beside fresh areas, else made by
-/// [`build`], and lent to every write since. After one write without it, or with another store's map,
-/// [`read_mapped`] can give the page of before. Build it anew then.
+/// [`build`], and lent to every write and every cut since. After one of them without it, or with another
+/// store's map, [`read_mapped`] can give the page of before, or zeros. Build it anew then.
 ///
 /// Refuses, in this order: [`Refusal::PageLength`], [`Refusal::AreaLength`], [`Refusal::ShortBuffer`]
 /// if the map has less than [`map_len`] bytes, [`Refusal::Header`] and [`Refusal::Version`],
@@ -856,9 +860,9 @@ pub fn write_mapped(
 /// [`Pair::Empty`] gives the base, and neither slot nor full area is looked at. [`Pair::Patch`] needs a
 /// sound PATCH slot. [`Pair::Full`] gives the block's page in the full area, whatever its slot is.
 ///
-/// It trusts the map. With the map that [`build`] makes, or one kept by [`write_mapped`], it answers as
-/// [`read`] does. A map that does not belong to the areas is mostly not noticed: where it says EMPTY of
-/// a block that was written since, the base comes back, yesterday's page.
+/// It trusts the map. With the map that [`build`] makes, or one kept by [`write_mapped`] and
+/// [`cut_mapped`], it answers as [`read`] does. A map that does not belong to the areas is mostly not
+/// noticed: where it says EMPTY of a block that was written since, the base comes back, yesterday's page.
 ///
 /// Refuses, in this order: [`Refusal::PageLength`], [`Refusal::AreaLength`], [`Refusal::ShortBuffer`]
 /// if the map has less than [`map_len`] bytes, [`Refusal::Header`] and [`Refusal::Version`],
@@ -915,6 +919,133 @@ pub fn read_mapped(
     };
     payload_accepted(reading.number, reading.offset)?;
     Ok(kind(reading.kind))
+}
+
+/// Drops block `k` and all blocks after it: the data file has become shorter and has `k` blocks now.
+///
+/// Their slots and their places in the full area become zeros, whatever they held. Each of these blocks
+/// then reads as its base, and may be written over another base from then on; only such a block may.
+/// Blocks below `k` keep every byte. The areas stay as long as they are.
+///
+/// Refuses, in this order: [`Refusal::AreaLength`], [`Refusal::Header`] and [`Refusal::Version`],
+/// [`Refusal::Block`] if the store has fewer than `k` blocks. With just `k` blocks nothing changes. No
+/// slot, payload or place is looked at, so none can be at fault.
+///
+/// A map that is kept must not miss it: see [`cut_mapped`].
+///
+/// ```
+/// use thonxiliko::{cut, format, full_area_len, patch_area_len, read, write};
+/// use thonxiliko::{Kind, Refusal, PAGE_SIZE};
+///
+/// let mut patch = vec![0; patch_area_len(3)];
+/// let mut full = vec![0; full_area_len(3)];
+/// format(&mut patch, &mut full)?;
+/// let (base, changed) = (vec![5; PAGE_SIZE], vec![9; PAGE_SIZE]);
+/// for block in 0..3 {
+///     write(&mut patch, &mut full, block, &base, &changed)?;
+/// }
+/// cut(&mut patch, &mut full, 1)?;
+///
+/// let mut page = vec![0; PAGE_SIZE];
+/// assert_eq!(read(&patch, &full, 0, &base, &mut page)?, Kind::Full);
+/// assert_eq!(page, changed);
+/// assert_eq!(read(&patch, &full, 1, &base, &mut page)?, Kind::Empty);
+/// assert_eq!(page, base);
+/// assert_eq!(cut(&mut patch, &mut full, 4), Err(Refusal::Block));
+/// # Ok::<(), Refusal>(())
+/// ```
+pub fn cut(patch: &mut [u8], full: &mut [u8], k: u64) -> Result<(), Refusal> {
+    // SAFETY: as in `format`.
+    let done =
+        unsafe { sys::thx_cut(patch.as_mut_ptr(), patch.len(), full.as_mut_ptr(), full.len(), k) };
+    accepted(done.number)
+}
+
+/// Drops block `k` and all blocks after it, and their pairs in `map`.
+///
+/// It does to both areas what [`cut`] does. If it is done, the pairs of the dropped blocks are 0,
+/// whatever they were. Pairs of blocks below `k`, pairs past the last block and later bytes of the map
+/// are not looked at and stay.
+///
+/// Refuses, in this order: [`Refusal::AreaLength`], [`Refusal::ShortBuffer`] if the map has less than
+/// [`map_len`] bytes, whatever `k` is, [`Refusal::Header`] and [`Refusal::Version`], and
+/// [`Refusal::Block`] as in [`cut`]. A refused cut leaves the map.
+///
+/// ```
+/// use thonxiliko::{build, cut_mapped, format, map_len, patch_area_len, write_mapped};
+/// use thonxiliko::{Refusal, PAGE_SIZE};
+///
+/// let mut patch = vec![0; patch_area_len(6)];
+/// format(&mut patch, &mut [])?;
+/// let mut map = vec![0; map_len(6)];
+/// let mut page = vec![0; PAGE_SIZE];
+/// page[100] = 8;
+/// for block in 0..6 {
+///     write_mapped(&mut patch, &mut [], &mut map, block, &[], &page)?;
+/// }
+/// assert_eq!(map, [0b10_10_10_10, 0b10_10]);
+///
+/// cut_mapped(&mut patch, &mut [], &mut map, 3)?;
+/// assert_eq!(map, [0b00_10_10_10, 0]);
+/// let mut built = vec![0; map_len(6)];
+/// build(&patch, &[], &mut built)?;
+/// assert_eq!(map, built);
+/// assert_eq!(cut_mapped(&mut patch, &mut [], &mut map[..1], 6), Err(Refusal::ShortBuffer));
+/// # Ok::<(), Refusal>(())
+/// ```
+pub fn cut_mapped(
+    patch: &mut [u8],
+    full: &mut [u8],
+    map: &mut [u8],
+    k: u64,
+) -> Result<(), Refusal> {
+    // SAFETY: as in `format`.
+    let done = unsafe {
+        sys::thx_cut_mapped(
+            patch.as_mut_ptr(),
+            patch.len(),
+            full.as_mut_ptr(),
+            full.len(),
+            map.as_mut_ptr(),
+            map.len(),
+            k,
+        )
+    };
+    accepted(done.number)
+}
+
+/// Tells up to where anything is kept: one more than the highest block whose slot is not EMPTY, or 0.
+///
+/// It is not always the length of the data file. A page that equals its base is EMPTY, and past the end
+/// of the base so is a page of zeros; where the file ends with such pages, this is less.
+///
+/// Refuses, in this order: [`Refusal::AreaLength`], [`Refusal::Header`] and [`Refusal::Version`], and
+/// [`Refusal::Slot`] if any slot is not sound, wherever it stands. Payloads are not looked at.
+///
+/// ```
+/// use thonxiliko::{format, highest, patch_area_len, write, Refusal, PAGE_SIZE};
+///
+/// let mut patch = vec![0; patch_area_len(5)];
+/// format(&mut patch, &mut [])?;
+/// assert_eq!(highest(&patch), Ok(0));
+///
+/// let mut page = vec![0; PAGE_SIZE];
+/// page[100] = 8;
+/// write(&mut patch, &mut [], 2, &[], &page)?;
+/// assert_eq!(highest(&patch), Ok(3));
+/// // The data file may have a fourth page, which equals its base.
+/// write(&mut patch, &mut [], 3, &page, &page)?;
+/// assert_eq!(highest(&patch), Ok(3));
+///
+/// patch[512 + 511] = 1; // block 0: an EMPTY slot is all zeros
+/// assert_eq!(highest(&patch), Err(Refusal::Slot));
+/// # Ok::<(), Refusal>(())
+/// ```
+pub fn highest(patch: &[u8]) -> Result<u64, Refusal> {
+    // SAFETY: as in `format`.
+    let extent = unsafe { sys::thx_highest(patch.as_ptr(), patch.len()) };
+    accepted(extent.number)?;
+    Ok(extent.blocks)
 }
 
 /// Checks every slot, every payload and every place in the full area, and makes the block map.

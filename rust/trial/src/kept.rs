@@ -9,13 +9,14 @@ use std::path::{Path, PathBuf};
 
 use crate::folder::{copy, make_like, relation_file, same_bytes, Listing, Pages, RelationFile};
 use crate::progress::Progress;
-use crate::segment::{Areas, Counts};
+use crate::segment::{Areas, Counts, Day};
 use crate::Outcome;
 
 /// One segment that was stored.
 pub struct StoredSegment {
     pub relation: RelationFile,
     pub counts: Counts,
+    pub day: Day,
 }
 
 #[derive(Default)]
@@ -76,9 +77,9 @@ pub fn store(
         let (base, changed) = (base.join(path), changed.join(path));
         let noon = noon.map(|noon| noon.join(path));
         let from = [&base, &changed];
-        let counts = store_segment(from, noon.as_deref(), &area_paths(kept, path), progress)
+        let (counts, day) = store_segment(from, noon.as_deref(), &area_paths(kept, path), progress)
             .map_err(|problem| format!("{}: {problem}", path.display()))?;
-        stored.segments.push(StoredSegment { relation, counts });
+        stored.segments.push(StoredSegment { relation, counts, day });
     }
     progress.done();
     stored.gone = write_list(&kept.join("gone"), old.files.difference(&new.files))?;
@@ -92,15 +93,15 @@ fn store_segment(
     noon: Option<&Path>,
     (patch, full): &(PathBuf, PathBuf),
     progress: &mut Progress,
-) -> Outcome<Counts> {
-    let (areas, writes) = Areas::store(base, noon, changed, progress)?;
+) -> Outcome<(Counts, Day)> {
+    let (areas, day) = Areas::store(base, noon, changed, progress)?;
     if let Some(parent) = patch.parent() {
         fs::create_dir_all(parent)?;
     }
     let kept = areas.save(patch, full)?;
     // Read back from the files, not from what is still in memory.
     let counts = Areas::load(patch, full)?.check(base, changed)?;
-    Ok(Counts { kept, writes, ..counts })
+    Ok((Counts { kept, ..counts }, day))
 }
 
 /// Writes one path a line, and says how many there were.
@@ -200,6 +201,7 @@ fn kept_segments(kept: &Path) -> Outcome<Vec<PathBuf>> {
 mod tests {
     use super::*;
     use crate::folder::differences;
+    use crate::segment::Cut;
 
     const PAGE: usize = thonxiliko::PAGE_SIZE;
 
@@ -282,27 +284,33 @@ mod tests {
         assert_eq!((found.files, found.found), (8, Vec::<String>::new()));
     }
 
-    /// Blocks of every kind at noon become blocks of every other in the evening, and segments grow, shrink
-    /// and come in between.
+    /// Blocks of every kind at noon become blocks of every other in the evening, and segments grow, shrink,
+    /// are emptied and come in between.
     #[test]
     fn a_folder_comes_back_after_a_noon() {
         let place = Place::new("noon");
         folders(&place);
         place.put("noon/base/1/11", &pages(6, &[(0, 20), (1, 300), (2, 300), (3, 20), (5, 300)]));
         place.put("noon/base/1/12", &pages(2, &[(0, 300), (1, 20)]));
+        place.put("noon/base/1/13_vm", &pages(5, &[(1, 20), (4, 300)]));
         place.put("noon/base/1/14.1", &[]);
+        place.put("noon/base/1/16", &pages(2, &[(0, 300), (1, 20)]));
         let at = |name: &str| place.0.join(name);
         let mut progress = Progress::new(false);
         let (base, noon, new, kept) = (at("base"), at("noon"), at("new"), at("kept"));
         let stored = store(&base, Some(&noon), &new, &kept, &mut progress).expect("stored");
-        let counts = |first: &str| {
+        let stored_as = |first: &str| {
             let segment = stored.segments.iter().find(|segment| segment.relation.first == first);
-            let counts = segment.expect("a stored segment").counts;
-            (counts.writes, counts.empty, counts.patch, counts.full)
+            let StoredSegment { counts, day, .. } = segment.expect("a stored segment");
+            (day.writes, [counts.empty, counts.patch, counts.full], day.cut, day.highest)
         };
-        assert_eq!(counts("base/1/11"), (4 + 4, 2, 1, 1));
-        assert_eq!(counts("base/1/12"), (2 + 6, 2, 1, 3));
-        assert_eq!(counts("base/1/14"), (2, 0, 0, 2));
+        let cut = |at, before, after| Some(Cut { at, before, after });
+        assert_eq!(stored_as("base/1/11"), (6 + 4, [2, 1, 1], cut(4, 6, 4), 4));
+        assert_eq!(stored_as("base/1/12"), (2 + 6, [2, 1, 3], None, 6));
+        // Two pages in the evening, both as in the base: the highest block is not the file's length.
+        assert_eq!(stored_as("base/1/13"), (5 + 2, [2, 0, 0], cut(2, 5, 2), 0));
+        assert_eq!(stored_as("base/1/14"), (2, [0, 0, 2], None, 2));
+        assert_eq!(stored_as("base/1/16"), (2, [0, 0, 0], cut(0, 2, 0), 0));
         rebuild(&base, &kept, &at("again"), &mut progress).expect("rebuilt");
         let found = differences(&new, &at("again")).expect("compared");
         assert_eq!((found.files, found.found), (8, Vec::<String>::new()));

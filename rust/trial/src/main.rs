@@ -29,7 +29,8 @@ usage: trial store BASE CHANGED KEPT [--noon FOLDER] [--names FILE] [--live]
   rebuild  makes FOLDER from BASE and KEPT
   compare  says whether both folders hold the same files with the same bytes
 
-  --noon FOLDER what CHANGED was like at noon: its pages are stored first, then those of CHANGED
+  --noon FOLDER what CHANGED was like at noon: its pages are stored first, then those of CHANGED;
+                a file that CHANGED has shorter is cut in between
   --names FILE  lines of: path of a relation's first file, its name, 'system' or 'user' (by tabs)
   --live        a progress line that is written over, for terminals
 ";

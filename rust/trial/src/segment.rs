@@ -6,9 +6,9 @@ use std::os::unix::fs::MetadataExt;
 use std::path::Path;
 
 use thonxiliko::{
-    build, compare, format, full_area_len, look_up, map_len, patch_area_len, read, read_mapped,
-    tally, write_mapped, Difference, Kind, Pair, MAX_BLOCKS, PAGE_SIZE, PATCH_HEADER_SIZE,
-    PAYLOAD_SIZE, SLOT_SIZE,
+    build, compare, cut_mapped, format, full_area_len, highest, look_up, map_len, patch_area_len,
+    read, read_mapped, tally, write_mapped, Difference, Kind, Pair, MAX_BLOCKS, PAGE_SIZE,
+    PATCH_HEADER_SIZE, PAYLOAD_SIZE, SLOT_SIZE,
 };
 
 use crate::folder::Pages;
@@ -17,13 +17,35 @@ use crate::Outcome;
 
 /// Both areas of one segment, in memory, and the map kept beside them.
 ///
-/// A read by a map that missed a write can give the page of before, so nothing here can make it miss
-/// one: it begins as zeros beside fresh areas, or is built when areas are loaded; the one way to write
-/// lends it; and it is never saved, since a file could be older than the areas.
+/// A read by a map that missed a write can give the page of before, and by one that missed a cut a page
+/// of zeros, so nothing here can make it miss one: it begins as zeros beside fresh areas, or is built
+/// when areas are loaded; the one way to write and the one way to cut lend it; and it is never saved,
+/// since a file could be older than the areas.
 pub struct Areas {
     patch: Vec<u8>,
     full: Vec<u8>,
     map: Vec<u8>,
+}
+
+/// A cut, made because the segment's file had become shorter.
+#[derive(Clone, Copy, Debug, PartialEq, Eq)]
+pub struct Cut {
+    /// The first block that was dropped, which is the number of blocks that the file had left.
+    pub at: u64,
+    /// One more than the highest block of which anything was kept, before the cut and after it.
+    pub before: u64,
+    pub after: u64,
+}
+
+/// What was done to a segment's areas in the course of the day.
+#[derive(Clone, Copy, Debug, Default, PartialEq, Eq)]
+pub struct Day {
+    /// Writes, each with the map: at noon and in the evening.
+    pub writes: u64,
+    /// The cut, with the map, between noon and evening.
+    pub cut: Option<Cut>,
+    /// One more than the highest block of which anything is kept in the evening.
+    pub highest: u64,
 }
 
 /// What was stored of a segment.
@@ -34,8 +56,6 @@ pub struct Counts {
     pub empty: u64,
     pub patch: u64,
     pub full: u64,
-    /// Writes in the course of the day, each with the map: at noon and in the evening.
-    pub writes: u64,
     /// Bytes that both area files take on disk.
     pub kept: u64,
 }
@@ -47,7 +67,6 @@ impl Counts {
         self.empty += other.empty;
         self.patch += other.patch;
         self.full += other.full;
-        self.writes += other.writes;
         self.kept += other.kept;
     }
 
@@ -118,32 +137,66 @@ impl Areas {
     }
 
     /// Stores every page of the changed file over its base; before that, where there is a file of noon,
-    /// the pages that it had then. Each is read back by the map at once. Says how many were written.
+    /// the pages that it had then. Each is read back by the map at once. Where the file had more pages
+    /// at noon, they are cut. In the end the areas are as long as the changed file wants them.
     pub fn store(
         base: &Path,
         noon: Option<&Path>,
         changed: &Path,
         progress: &mut Progress,
-    ) -> Outcome<(Areas, u64)> {
+    ) -> Outcome<(Areas, Day)> {
         let blocks = Pages::open(changed)?.count;
-        if blocks > MAX_BLOCKS {
-            return Err(format!("{blocks} blocks are more than a segment has").into());
+        let noon_blocks = noon.map_or(Ok(0), |noon| Pages::open(noon).map(|pages| pages.count))?;
+        let most = blocks.max(noon_blocks);
+        if most > MAX_BLOCKS {
+            return Err(format!("{most} blocks are more than a segment has").into());
         }
         let mut pages = pages_needed(base, changed)?;
         if let Some(noon) = noon {
-            pages = pages.max(pages_needed(base, noon)?.min(blocks));
+            pages = pages.max(pages_needed(base, noon)?);
         }
-        let mut areas = Areas::fresh(blocks, pages)?;
-        let mut writes = 0;
+        let mut areas = Areas::fresh(most, pages)?;
+        let mut day = Day::default();
         if let Some(noon) = noon {
-            writes += areas.write_all(base, noon, |_| ())?;
+            day.writes += areas.write_all(base, noon, |_| ())?;
         }
-        writes += areas.write_all(base, changed, |_| progress.block())?;
+        if blocks < noon_blocks {
+            day.cut = Some(areas.cut(blocks)?);
+        }
+        day.writes += areas.write_all(base, changed, |_| progress.block())?;
         areas.check_kept_map()?;
-        Ok((areas, writes))
+        day.highest = areas.shorten(blocks)?;
+        areas.check_kept_map()?;
+        Ok((areas, day))
     }
 
-    /// Writes the pages of a file, as far as there are blocks for them, and reads each by the map.
+    /// Drops the blocks that a file has no more. No cut goes without the map.
+    fn cut(&mut self, blocks: u64) -> Outcome<Cut> {
+        let before = highest(&self.patch)?;
+        cut_mapped(&mut self.patch, &mut self.full, &mut self.map, blocks)?;
+        let after = highest(&self.patch)?;
+        if after > blocks {
+            return Err(format!("block {} is kept after a cut at {blocks}", after - 1).into());
+        }
+        self.check_kept_map()?;
+        Ok(Cut { at: blocks, before, after })
+    }
+
+    /// Gives back what the areas and the map have past a number of blocks, if nothing is kept there, and
+    /// says up to where anything is. A cut leaves the buffers as long as they are; they are ours to
+    /// shorten.
+    fn shorten(&mut self, blocks: u64) -> Outcome<u64> {
+        let highest = highest(&self.patch)?;
+        if highest > blocks {
+            return Err(format!("block {} is kept past {blocks}", highest - 1).into());
+        }
+        self.patch.truncate(patch_area_len(blocks));
+        self.full.truncate(full_area_len(blocks));
+        self.map.truncate(map_len(blocks));
+        Ok(highest)
+    }
+
+    /// Writes the pages of a file and reads each by the map.
     fn write_all(
         &mut self,
         base: &Path,
@@ -153,8 +206,7 @@ impl Areas {
         let (mut base, mut from) = (Pages::open(base)?, Pages::open(from)?);
         let (mut base_page, mut page) = (Vec::new(), Vec::new());
         let mut again = vec![0; PAGE_SIZE];
-        let blocks = from.count.min(self.blocks());
-        for block in 0..blocks {
+        for block in 0..from.count {
             base.next_page(&mut base_page)?;
             from.next_page(&mut page)?;
             self.write(block, &base_page, &page)?;
@@ -164,7 +216,7 @@ impl Areas {
             }
             written(block);
         }
-        Ok(blocks)
+        Ok(from.count)
     }
 
     /// Writes one block. No write goes without the map.
@@ -174,7 +226,7 @@ impl Areas {
             .map_err(|refusal| format!("block {block}: {refusal}").into())
     }
 
-    /// The map that was lent to every write is the one that Build makes.
+    /// The map that was lent to every write and every cut is the one that Build makes.
     fn check_kept_map(&self) -> Outcome<()> {
         if self.map != self.built_map()? {
             return Err("the map that was kept is not the one that Build makes".into());
@@ -183,7 +235,7 @@ impl Areas {
     }
 
     /// Reads every block back, by the map and by its slot, and holds it against the changed file, and
-    /// the map against the reads.
+    /// the map and the highest block against the reads.
     pub fn check(&self, base_path: &Path, changed_path: &Path) -> Outcome<Counts> {
         let (mut base, mut changed) = (Pages::open(base_path)?, Pages::open(changed_path)?);
         let blocks = self.blocks();
@@ -191,6 +243,7 @@ impl Areas {
             return Err(format!("{blocks} blocks kept of {}", changed.count).into());
         }
         let mut counts = Counts { blocks, base_blocks: base.count, ..Counts::default() };
+        let mut last = 0;
         let (mut base_page, mut page) = (Vec::new(), Vec::new());
         let (mut again, mut by_slot) = (vec![0; PAGE_SIZE], vec![0; PAGE_SIZE]);
         for block in 0..blocks {
@@ -210,6 +263,9 @@ impl Areas {
                 Kind::Full => (&mut counts.full, Pair::Full),
             };
             *count += 1;
+            if kind != Kind::Empty {
+                last = block + 1;
+            }
             if look_up(&self.map, blocks, block)? != pair {
                 return Err(format!("the map is wrong about block {block}").into());
             }
@@ -217,6 +273,10 @@ impl Areas {
         let tally = tally(&self.map, blocks)?;
         if (tally.patch, tally.full) != (counts.patch, counts.full) {
             return Err(format!("the tally is {tally:?}, counted were {counts:?}").into());
+        }
+        let highest = highest(&self.patch)?;
+        if highest != last {
+            return Err(format!("the highest is {highest}, met was {last}").into());
         }
         Ok(counts)
     }
@@ -283,6 +343,28 @@ mod tests {
         assert!(areas.write(4, &[], &[7; PAGE_SIZE]).is_err());
         assert_eq!(areas.map, [0b00_00_10_00, 0]);
         assert!(areas.check_kept_map().is_ok());
+    }
+
+    /// Blocks from 2 on are dropped, the map's pairs with them, and can be written again. Only what
+    /// nothing is kept of can be given back.
+    #[test]
+    fn the_map_is_kept_with_every_cut() {
+        let mut areas = areas();
+        assert_eq!(areas.cut(2).expect("cut"), Cut { at: 2, before: 4, after: 2 });
+        assert_eq!(areas.map, [0b00_00_10_00, 0]);
+        let mut page = vec![1; PAGE_SIZE];
+        assert_eq!(areas.read(3, &[5; PAGE_SIZE], &mut page).expect("read"), Kind::Empty);
+        assert_eq!(page, [5; PAGE_SIZE]);
+        areas.write(2, &[], &[7; PAGE_SIZE]).expect("written");
+        assert_eq!(areas.map, [0b00_01_10_00, 0]);
+        assert!(areas.shorten(2).is_err());
+        assert_eq!(areas.shorten(3).expect("shortened"), 3);
+        assert_eq!((areas.blocks(), areas.full.len()), (3, full_area_len(3)));
+        assert_eq!(areas.map, [0b00_01_10_00]);
+        assert!(areas.check_kept_map().is_ok());
+        assert!(areas.cut(4).is_err());
+        assert_eq!(areas.cut(0).expect("cut"), Cut { at: 0, before: 3, after: 0 });
+        assert_eq!(areas.map, [0]);
     }
 
     /// What a map that missed a write would give, and that it would be noticed.

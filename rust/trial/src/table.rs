@@ -107,6 +107,40 @@ fn rows(stored: &Stored, names: &Names) -> (Vec<Row>, Row) {
     (rows, catalogs)
 }
 
+/// One line for each segment that was cut; nothing if none was.
+fn print_cuts(stored: &Stored, names: &Names) {
+    if stored.segments.iter().all(|segment| segment.day.cut.is_none()) {
+        return;
+    }
+    println!();
+    println!(
+        "{:<34} {:>8} {:>8} {:>8} {:>8}",
+        "cut short since noon", "cut at", "before", "after", "evening"
+    );
+    println!("{}", "-".repeat(70));
+    for StoredSegment { relation, day, .. } in &stored.segments {
+        if let Some(cut) = day.cut {
+            let fork = relation.fork.as_ref().map_or(String::new(), |fork| format!(" ({fork})"));
+            println!(
+                "{:<34} {:>8} {:>8} {:>8} {:>8}",
+                names.of(&relation.first).name + &fork,
+                thousands(cut.at),
+                thousands(cut.before),
+                thousands(cut.after),
+                thousands(day.highest),
+            );
+        }
+    }
+    println!();
+    println!(
+        "cut at: the blocks that the file has left. before, after, evening: one more than the"
+    );
+    println!(
+        "highest block of which anything is kept, which is less than the file's length where its"
+    );
+    println!("last pages are as in the base.");
+}
+
 pub fn print(stored: &Stored, names: &Names) {
     let (rows, catalogs) = rows(stored, names);
     println!();
@@ -138,12 +172,16 @@ pub fn print(stored: &Stored, names: &Names) {
         "kept: what the two area files take on disk. whole pages: 8,192 bytes for each changed"
     );
     println!("block, the PATCH and the full ones. Every block was read back and compared.");
+    let days = || stored.segments.iter().map(|segment| segment.day);
+    let writes = days().map(|day| day.writes).sum();
+    let cuts = days().filter(|day| day.cut.is_some()).count();
     println!(
-        "The map of each segment was lent to all {} writes and is the one that Build makes; blocks were",
-        thousands(total.writes)
+        "The map of each segment was lent to all {} writes and {} cuts and is the one that Build makes;",
+        thousands(writes),
+        cuts
     );
     println!(
-        "read by it after each write, and from the files by a map built anew and by their slots."
+        "blocks were read by it after each write, and from the files by a map built anew and by their slots."
     );
     println!(
         "Besides: {} files unchanged, {} gone since the base, {} that hold no relation's pages kept whole ({}).",
@@ -152,6 +190,7 @@ pub fn print(stored: &Stored, names: &Names) {
         thousands(stored.whole_files),
         size(stored.whole_bytes)
     );
+    print_cuts(stored, names);
 }
 
 #[cfg(test)]

@@ -1,7 +1,7 @@
 use native.Mathlib.Omega.{arith}
 use Rattle.replay.specs.Laws.{Going, begin, go-on, countable, ended}
-use Rattle.replay.specs.Writes.{both}
-use Rattle.promises.specs.RunWords.{outcome, takesBy, doesBy}
+use Rattle.replay.specs.Operations.{both}
+use Rattle.promises.specs.RunWords.{outcome, cutting, takesBy, doesBy}
 use Rattle.layout.specs.Sizes.{pageSize}
 use lib.ListN.{length}
 use mathlib.Core.Path.{_≡_, refl}
@@ -11,22 +11,19 @@ use Rattle.replay.proofs.replay.Statement.{statement}
 use Rattle.replay.proofs.replay.Tie as tie
 
 abbrev Inv-loop : tie.InvT-loop
-Inv-loop patch₀ full₀ blocks bases pages marks₀ accepted₀ i₀ patch full marks accepted i =
-    Going (takesBy (outcome pageSize)) (doesBy (outcome pageSize)) pageSize (both patch₀ full₀) blocks bases pages marks₀ i accepted (both patch full) marks
+Inv-loop patch₀ full₀ numbers cuts bases pages marks₀ accepted₀ i₀ patch full marks accepted i =
+    Going (takesBy (outcome pageSize) (cutting pageSize)) (doesBy (outcome pageSize) (cutting pageSize)) pageSize (both patch₀ full₀)
+    numbers cuts bases pages marks₀ i accepted (both patch full) marks
     × (length patch ≡ length patch₀) × (length full ≡ length full₀) × (length marks ≡ length marks₀)
 
 abbrev μ-loop : tie.MeasureT-loop
-μ-loop patch₀ full₀ blocks bases pages marks₀ accepted₀ i₀ patch full marks accepted i = length blocks - i
+μ-loop patch₀ full₀ numbers cuts bases pages marks₀ accepted₀ i₀ patch full marks accepted i = length numbers - i
 
 loop-holds : tie.Need-loop-holds Inv-loop μ-loop
-loop-holds c =
-    let a = c .before .before .before .before .before .before .args in (
-      begin (takesBy (outcome pageSize)) (doesBy (outcome pageSize)) pageSize (both (a .patch .now) (a .full .now)) (a .blocks .now) (a .bases .now)
-          (a .pages .now) (a .marks .now),
-      refl,
-      refl,
-      refl,
-    )
+loop-holds c = (begin, refl, refl, refl)
+
+cut-at-requires : tie.Need-cut-at-requires Inv-loop μ-loop
+cut-at-requires c κs = search needs
 
 nth-page-requires : tie.Need-nth-page-requires Inv-loop μ-loop
 nth-page-requires c κs = search needs
@@ -51,21 +48,10 @@ cast-accepted c = search needs
 
 add-accepted : tie.Need-add-accepted Inv-loop μ-loop
 add-accepted c =
-    let a = c .before .before .before .before .before .before .before .before .before .before .before .before .before .before .before .before .before .before
-    .before .before .before .before .args in
-    let l = c .before .before .before .before .before .before .before .before .before .before .before .before .before .before .before .loop in
-    let t = c .before .before .before .before .before .before .before .before .turn in
-    let h = countable (takesBy (outcome pageSize)) (doesBy (outcome pageSize)) pageSize (both (a .patch .now) (a .full .now)) (a .blocks .now) (a .bases .now)
-    (a .pages .now) (a .marks .now) (l .i) (l .accepted) (both (l .patch) (l .full)) (l .marks) (l .inv .0) (omega arith) (t .result)
-    (both (t .last .0) (t .last .1 .0)) (t .ensures) in
-    record {
-      fits = omega (
-        arith,
-        h,
-        c .before .before .before .before .before .before .before .before .before .before .before .before .before .before .before
-            .before .before .before .before .before .before .before .good .1 .1 .0 .0,
-      );
-    }
+    let x = c .before .before .before .before .before .before .before .before in
+    let y = x .before .before .before .before .before .before .before .before in
+    let h = countable (y .loop .inv .0) (omega arith) (x .turn .ensures) in
+    record { fits = omega (arith, h, y .before .before .before .before .before .before .before .before .good .1 .1 .0 .0) }
 
 add-i : tie.Need-add-i Inv-loop μ-loop
 add-i c = search needs
@@ -75,18 +61,11 @@ loop-less c = search needs
 
 loop-again : tie.Need-loop-again Inv-loop μ-loop
 loop-again c =
-    let a = c .before .before .before .before .before .before .before .before .before .before .before .before .before .before .before .before .before .before
-    .before .before .before .before .args in
-    let l = c .before .before .before .before .before .before .before .before .before .before .before .before .before .before .before .loop in
-    let t = c .before .before .before .before .before .before .before .before .turn in (
-      go-on (takesBy (outcome pageSize)) (doesBy (outcome pageSize)) pageSize (both (a .patch .now) (a .full .now)) (a .blocks .now) (a .bases .now)
-          (a .pages .now) (a .marks .now) (l .i) (l .accepted) (both (l .patch) (l .full)) (l .marks) (l .inv .0) (omega arith) (c .before .before .before
-          .before .before .before .before .before .before .before .before .before .before
-          .nth-page .result .now) (c .before .before .before .before .before .before .before .before .before .before .before .before .nth-page2 .result .now)
-          (t .result) (both (t .last .0) (t .last .1 .0)) (c .before .before .put .last .0)
-          (c .before .before .before .before .before .before .before .before .before .before .before .before .before .nth-page .ensures)
-          (c .before .before .before .before .before .before .before .before .before .before .before .before .nth-page2 .ensures) (t .ensures)
-          (c .before .before .put .ensures),
+    let x = c .before .before .before .before .before .before .before .before in
+    let y = x .before .before .before .before in
+    let z = y .before in (
+      go-on (z .before .before .before .loop .inv .0) (omega arith) (z .before .cut-at .ensures) (z .nth-page .ensures) (y .nth-page2 .ensures)
+          (x .turn .ensures) (c .before .before .put .ensures),
       search needs,
       search needs,
       search needs,
@@ -102,11 +81,7 @@ same-length-3 : tie.Need-same-length-3 Inv-loop μ-loop
 same-length-3 c = search needs
 
 returns : tie.Need-returns Inv-loop μ-loop
-returns c =
-    let a = c .before .before .before .before .before .before .before .before .args in
-    let l = c .before .loop in
-    ended (takesBy (outcome pageSize)) (doesBy (outcome pageSize)) pageSize (both (a .patch .now) (a .full .now)) (a .blocks .now) (a .bases .now)
-    (a .pages .now) (a .marks .now) (l .i) (l .accepted) (both (l .patch) (l .full)) (l .marks) (l .inv .0) (omega arith)
+returns c = ended (c .before .loop .inv .0) (omega arith)
 
 pub replay-spec : {M : Type 1} → statement M
 replay-spec =
@@ -115,6 +90,7 @@ replay-spec =
     Inv-loop
     μ-loop
     loop-holds
+    cut-at-requires
     nth-page-requires
     nth-page-requires-2
     mul-turn

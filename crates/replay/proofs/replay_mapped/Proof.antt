@@ -1,7 +1,7 @@
 use native.Mathlib.Omega.{arith}
 use Rattle.replay.specs.Laws.{Going, begin, go-on, countable, ended}
-use Rattle.replay.specs.Writes.{both}
-use Rattle.promises.specs.MapWords.{mapped, takesWithBy, doesWithBy}
+use Rattle.replay.specs.Operations.{both}
+use Rattle.promises.specs.MapWords.{mapped, cutMapped, takesWithBy, doesWithBy}
 use Rattle.promises.specs.MapStore.{with}
 use Rattle.layout.specs.Sizes.{pageSize}
 use lib.ListN.{length}
@@ -12,25 +12,19 @@ use Rattle.replay.proofs.replay_mapped.Statement.{statement}
 use Rattle.replay.proofs.replay_mapped.Tie as tie
 
 abbrev Inv-loop : tie.InvT-loop
-Inv-loop patch₀ full₀ map₀ blocks bases pages marks₀ accepted₀ i₀ patch full map marks accepted i =
-    Going (takesWithBy (mapped pageSize)) (doesWithBy (mapped pageSize)) pageSize (with (both patch₀ full₀) map₀) blocks bases pages marks₀ i accepted (with
-    (both patch full) map) marks
+Inv-loop patch₀ full₀ map₀ numbers cuts bases pages marks₀ accepted₀ i₀ patch full map marks accepted i =
+    Going (takesWithBy (mapped pageSize) (cutMapped pageSize)) (doesWithBy (mapped pageSize) (cutMapped pageSize)) pageSize
+    (with (both patch₀ full₀) map₀) numbers cuts bases pages marks₀ i accepted (with (both patch full) map) marks
     × (length patch ≡ length patch₀) × (length full ≡ length full₀) × (length map ≡ length map₀) × (length marks ≡ length marks₀)
 
 abbrev μ-loop : tie.MeasureT-loop
-μ-loop patch₀ full₀ map₀ blocks bases pages marks₀ accepted₀ i₀ patch full map marks accepted i = length blocks - i
+μ-loop patch₀ full₀ map₀ numbers cuts bases pages marks₀ accepted₀ i₀ patch full map marks accepted i = length numbers - i
 
 loop-holds : tie.Need-loop-holds Inv-loop μ-loop
-loop-holds c =
-    let a = c .before .before .before .before .before .before .before .args in (
-      begin (takesWithBy (mapped pageSize)) (doesWithBy (mapped pageSize)) pageSize (with (both (a .patch .now) (a .full .now)) (a .map .now)) (a .blocks
-          .now) (a .bases .now)
-          (a .pages .now) (a .marks .now),
-      refl,
-      refl,
-      refl,
-      refl,
-    )
+loop-holds c = (begin, refl, refl, refl, refl)
+
+cut-at-requires : tie.Need-cut-at-requires Inv-loop μ-loop
+cut-at-requires c κs = search needs
 
 nth-page-requires : tie.Need-nth-page-requires Inv-loop μ-loop
 nth-page-requires c κs = search needs
@@ -55,47 +49,27 @@ cast-accepted c = search needs
 
 add-accepted : tie.Need-add-accepted Inv-loop μ-loop
 add-accepted c =
-    let a = c .before .before .before .before .before .before .before .before .before .before .before .before .before .before .before .before .before
-    .before .before .before .before .before .before .before .before .before .args in
-    let l = c .before .before .before .before .before .before .before .before .before .before .before .before .before .before .before .before .before
-    .before .loop in
-    let t = c .before .before .before .before .before .before .before .before .before .before .turn-mapped in
-    let h = countable (takesWithBy (mapped pageSize)) (doesWithBy (mapped pageSize)) pageSize (with (both (a .patch .now) (a .full .now)) (a .map .now)) (a
-    .blocks .now) (a .bases .now)
-    (a .pages .now) (a .marks .now) (l .i) (l .accepted) (with (both (l .patch) (l .full)) (l .map)) (l .marks) (l .inv .0) (omega arith) (t .result)
-    (with (both (t .last .0) (t .last .1 .0)) (t .last .1 .1 .0)) (t .ensures) in
-    record {
-      fits = omega (
-        arith,
-        h,
-        c .before .before .before .before .before .before .before .before .before .before .before .before .before .before .before .before .before .before
-            .before .before .before .before .before .before .before .before .good .1 .1 .1 .0 .0,
-      );
-    }
+    let x = c .before .before .before .before .before .before .before .before .before .before in
+    let y = x .before .before .before .before .before .before .before .before .before in
+    let h = countable (y .loop .inv .0) (omega arith) (x .turn-mapped .ensures) in
+    record { fits = omega (arith, h, y .before .before .before .before .before .before .before .before .before .good .1 .1 .1 .0 .0) }
 
 add-i : tie.Need-add-i Inv-loop μ-loop
-add-i c = search needs
+add-i c =
+    let x = c .before .before .before .before .before .before .before .before .before .before in
+    let y = x .before .before .before .before .before .before .before .before .before in
+    record { fits = omega (arith, y .before .before .before .before .before .before .before .before .before .good .1 .1 .1 .0 .0) }
 
 loop-less : tie.Need-loop-less Inv-loop μ-loop
 loop-less c = search needs
 
 loop-again : tie.Need-loop-again Inv-loop μ-loop
 loop-again c =
-    let a = c .before .before .before .before .before .before .before .before .before .before .before .before .before .before .before .before .before
-    .before .before .before .before .before .before .before .before .before .args in
-    let l = c .before .before .before .before .before .before .before .before .before .before .before .before .before .before .before .before .before
-    .before .loop in
-    let t = c .before .before .before .before .before .before .before .before .before .before .turn-mapped in (
-      go-on (takesWithBy (mapped pageSize)) (doesWithBy (mapped pageSize)) pageSize (with (both (a .patch .now) (a .full .now)) (a .map .now)) (a .blocks
-          .now) (a .bases .now)
-          (a .pages .now) (a .marks .now) (l .i) (l .accepted) (with (both (l .patch) (l .full)) (l .map)) (l .marks) (l .inv .0) (omega arith) (c .before
-          .before .before .before .before .before .before .before .before .before .before .before .before .before .before .before .nth-page .result .now) (c
-          .before .before .before .before .before .before .before .before .before .before .before .before .before .before .before .nth-page2 .result .now)
-          (t .result) (with (both (t .last .0) (t .last .1 .0)) (t .last .1 .1 .0)) (c .before .before .put .last .0)
-          (c .before .before .before .before .before .before .before .before .before .before .before .before .before .before .before .before .nth-page .ensures)
-          (c .before .before .before .before .before .before .before .before .before .before .before .before .before .before .before .nth-page2 .ensures) (t
-          .ensures)
-          (c .before .before .put .ensures),
+    let x = c .before .before .before .before .before .before .before .before .before .before in
+    let y = x .before .before .before .before .before in
+    let z = y .before in (
+      go-on (z .before .before .before .loop .inv .0) (omega arith) (z .before .cut-at .ensures) (z .nth-page .ensures) (y .nth-page2 .ensures)
+          (x .turn-mapped .ensures) (c .before .before .put .ensures),
       search needs,
       search needs,
       search needs,
@@ -115,12 +89,7 @@ same-length-4 : tie.Need-same-length-4 Inv-loop μ-loop
 same-length-4 c = search needs
 
 returns : tie.Need-returns Inv-loop μ-loop
-returns c =
-    let a = c .before .before .before .before .before .before .before .before .before .args in
-    let l = c .before .loop in
-    ended (takesWithBy (mapped pageSize)) (doesWithBy (mapped pageSize)) pageSize (with (both (a .patch .now) (a .full .now)) (a .map .now)) (a .blocks
-    .now) (a .bases .now)
-    (a .pages .now) (a .marks .now) (l .i) (l .accepted) (with (both (l .patch) (l .full)) (l .map)) (l .marks) (l .inv .0) (omega arith)
+returns c = ended (c .before .loop .inv .0) (omega arith)
 
 pub replay-mapped-spec : {M : Type 1} → statement M
 replay-mapped-spec =
@@ -129,6 +98,7 @@ replay-mapped-spec =
     Inv-loop
     μ-loop
     loop-holds
+    cut-at-requires
     nth-page-requires
     nth-page-requires-2
     mul-turn-mapped

@@ -1,16 +1,10 @@
-use Rattle.replay.specs.Laws.{turned-done, turned-refused}
+use Rattle.replay.specs.Laws.{made-write, made-cut}
 use borrow.Author.Needs.{needs}
 use Rattle.replay.proofs.turn.Statement.{statement}
 use Rattle.replay.proofs.turn.Tie as tie
 
-write-requires : tie.Need-write-requires
-write-requires c κs = search needs
-
-enum-told : tie.Need-enum-told
-enum-told c = search needs
-
-enum-told-2 : tie.Need-enum-told-2
-enum-told-2 c = search needs
+write-turn-requires : tie.Need-write-turn-requires
+write-turn-requires c κs = search needs
 
 same-length : tie.Need-same-length
 same-length c = search needs
@@ -20,7 +14,11 @@ same-length-2 c = search needs
 
 returns : tie.Need-returns
 returns c =
-    turned-done (c .before .before .before .before .before .before .write .ensures) _ _ (c .enum-told .given .1)
+    let x = c .before .before .before .before in
+    made-write _ _ (x .before .before .before .if1 .taken) (x .write-turn .ensures)
+
+cut-turn-requires : tie.Need-cut-turn-requires
+cut-turn-requires c κs = search needs
 
 same-length-3 : tie.Need-same-length-3
 same-length-3 c = search needs
@@ -30,18 +28,18 @@ same-length-4 c = search needs
 
 returns-2 : tie.Need-returns-2
 returns-2 c =
-    turned-refused (c .before .before .before .before .before .before .write .ensures) _ (c .enum-told2 .given .1)
+    let x = c .before .before .before .before in
+    made-cut _ _ (x .before .before .before .if1 .left) (x .cut-turn .ensures)
 
 pub turn-spec : {M : Type 1} → statement M
 turn-spec =
     tie.close
     (tie.spec
-    write-requires
-    enum-told
-    enum-told-2
+    write-turn-requires
     same-length
     same-length-2
     returns
+    cut-turn-requires
     same-length-3
     same-length-4
     returns-2)

@@ -1,16 +1,10 @@
-use Rattle.replay.specs.Laws.{mapped-done, mapped-refused}
+use Rattle.replay.specs.Laws.{made-write, made-cut}
 use borrow.Author.Needs.{needs}
 use Rattle.replay.proofs.turn_mapped.Statement.{statement}
 use Rattle.replay.proofs.turn_mapped.Tie as tie
 
-write-mapped-requires : tie.Need-write-mapped-requires
-write-mapped-requires c κs = search needs
-
-enum-told : tie.Need-enum-told
-enum-told c = search needs
-
-enum-told-2 : tie.Need-enum-told-2
-enum-told-2 c = search needs
+write-turn-mapped-requires : tie.Need-write-turn-mapped-requires
+write-turn-mapped-requires c κs = search needs
 
 same-length : tie.Need-same-length
 same-length c = search needs
@@ -23,7 +17,11 @@ same-length-3 c = search needs
 
 returns : tie.Need-returns
 returns c =
-    mapped-done (c .before .before .before .before .before .before .before .before .write-mapped .ensures) _ _ (c .enum-told .given .1)
+    let x = c .before .before .before .before .before .before in
+    made-write _ _ (x .before .before .before .before .if1 .taken) (x .write-turn-mapped .ensures)
+
+cut-turn-mapped-requires : tie.Need-cut-turn-mapped-requires
+cut-turn-mapped-requires c κs = search needs
 
 same-length-4 : tie.Need-same-length-4
 same-length-4 c = search needs
@@ -36,19 +34,19 @@ same-length-6 c = search needs
 
 returns-2 : tie.Need-returns-2
 returns-2 c =
-    mapped-refused (c .before .before .before .before .before .before .before .before .write-mapped .ensures) _ (c .enum-told2 .given .1)
+    let x = c .before .before .before .before .before .before in
+    made-cut _ _ (x .before .before .before .before .if1 .left) (x .cut-turn-mapped .ensures)
 
 pub turn-mapped-spec : {M : Type 1} → statement M
 turn-mapped-spec =
     tie.close
     (tie.spec
-    write-mapped-requires
-    enum-told
-    enum-told-2
+    write-turn-mapped-requires
     same-length
     same-length-2
     same-length-3
     returns
+    cut-turn-mapped-requires
     same-length-4
     same-length-5
     same-length-6

@@ -7,8 +7,8 @@ use differential::generate;
 use differential::harness::{Counts, Harness, Mismatch};
 use differential::maps::{self, Elsewhere};
 use differential::rng::Rng;
-use differential::runs::{self, Pairs};
-use differential::{cases, crash, huge, orders, payloads, sweep};
+use differential::runs;
+use differential::{cases, crash, cuts, huge, orders, payloads, sweep};
 
 const HELP: &str = "\
 usage: differential [--quick | --long] [--seed N] [--part NAME [--case I]] [--trace]
@@ -19,8 +19,8 @@ independent implementation; compares every answer and every lent byte after ever
   --quick       a few seconds (the default)
   --long        more than three million calls
   --seed N      replay with this seed (otherwise drawn from the clock, and printed)
-  --part NAME   only one part: cases, orders, lengths, numbers, payloads, readers, pairs, maps, random,
-                runs, huge
+  --part NAME   only one part: cases, orders, lengths, numbers, payloads, readers, pairs, maps, cuts,
+                random, runs, huge
   --case I      only this case of the part, which is readers, maps, random or runs
   --trace       print each input before the call, to find the one that crashed
 ";
@@ -39,7 +39,7 @@ struct Part {
 }
 
 /// The parts in the order of a whole run.
-const PARTS: [Part; 11] = [
+const PARTS: [Part; 12] = [
     Part { name: "cases", work: Work::Whole(hand_written), meets_all: true },
     Part { name: "orders", work: Work::Whole(every_order), meets_all: false },
     Part { name: "lengths", work: Work::Whole(lengths), meets_all: false },
@@ -56,6 +56,7 @@ const PARTS: [Part; 11] = [
         work: Work::Drawn { quick: 300, long: 6_000, run: store_from_elsewhere },
         meets_all: false,
     },
+    Part { name: "cuts", work: Work::Whole(every_cut), meets_all: false },
     Part {
         name: "random",
         work: Work::Drawn { quick: 60_000, long: 1_100_000, run: random },
@@ -63,7 +64,7 @@ const PARTS: [Part; 11] = [
     },
     Part {
         name: "runs",
-        work: Work::Drawn { quick: 40, long: 1_500, run: random_run },
+        work: Work::Drawn { quick: 80, long: 1_500, run: random_run },
         meets_all: false,
     },
     Part { name: "huge", work: Work::Whole(largest), meets_all: false },
@@ -137,7 +138,7 @@ struct Failure {
 struct Session {
     options: Options,
     harness: Harness,
-    pairs: Pairs,
+    runs: runs::Met,
     elsewhere: Elsewhere,
     /// What each part met, in the part alone.
     met: Vec<(&'static Part, Counts)>,
@@ -219,12 +220,8 @@ impl Session {
                 holes.push(format!("{}: {} never gave {number}", part.name, call.name()));
             }
         }
-        let Pairs { alike, different, mapped, unmapped } = self.pairs;
-        if self.ran("runs") && (alike == 0 || different == 0) {
-            holes.push(format!("runs: {alike} pairs ended alike, {different} did not"));
-        }
-        if self.ran("runs") && (mapped == 0 || unmapped == 0) {
-            holes.push(format!("runs: {mapped} with a map, {unmapped} without"));
+        if let (true, Some(hole)) = (self.ran("runs"), self.runs.hole()) {
+            holes.push(format!("runs: {hole}"));
         }
         if self.ran("maps") && self.elsewhere.accepted == 0 {
             holes.push("maps: Build accepted no store".to_string());
@@ -242,9 +239,18 @@ impl Session {
             println!("stores from elsewhere: Build accepted {accepted} and refused {refused}");
         }
         if self.ran("runs") {
-            let Pairs { alike, different, mapped, unmapped } = self.pairs;
-            println!("runs: {mapped} with a map lent to every write, {unmapped} without");
+            let runs::Met { mapped, unmapped, cuts, refused_cuts, new_bases, .. } = self.runs;
+            println!("runs: {mapped} with a map lent to every write and cut, {unmapped} without");
+            println!(
+                "cuts in runs: {cuts} accepted, {refused_cuts} refused, {new_bases} new bases"
+            );
+            let runs::Met { alike, different, .. } = self.runs;
             println!("runs compared in pairs: {alike} ended alike, {different} did not");
+            let runs::Met { other_bases, blocks_alike, blocks_different, .. } = self.runs;
+            println!(
+                "pairs with other bases: {other_bases}; of blocks with the same base in them \
+                 {blocks_alike} ended alike, {blocks_different} did not"
+            );
         }
         let (compared, seed) = (all.total(), self.options.seed);
         if let Err(failure) = result {
@@ -319,13 +325,17 @@ fn store_from_elsewhere(session: &mut Session, rng: &mut Rng) -> Result<(), Mism
     maps::from_elsewhere(&mut session.harness, rng, &mut session.elsewhere)
 }
 
+fn every_cut(session: &mut Session) -> Result<(), Mismatch> {
+    cuts::every_one(&mut session.harness)
+}
+
 fn random(session: &mut Session, rng: &mut Rng) -> Result<(), Mismatch> {
     session.harness.check(&generate::any_input(rng)).map(|_| ())
 }
 
 fn random_run(session: &mut Session, rng: &mut Rng) -> Result<(), Mismatch> {
-    let writes = rng.between(10, 200);
-    runs::run(&mut session.harness, rng, writes, &mut session.pairs)
+    let operations = rng.between(10, 200);
+    runs::run(&mut session.harness, rng, operations, &mut session.runs)
 }
 
 fn largest(session: &mut Session) -> Result<(), Mismatch> {
@@ -358,7 +368,7 @@ fn main() -> ExitCode {
     let mut session = Session {
         options,
         harness,
-        pairs: Pairs::default(),
+        runs: runs::Met::default(),
         elsewhere: Elsewhere::default(),
         met: Vec::new(),
     };

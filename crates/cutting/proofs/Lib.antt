@@ -1,0 +1,2 @@
+pub mod CutTold
+pub mod HighestTold

@@ -1,0 +1,82 @@
+use Prim.Native.Nat.{ℕ}
+use native.Mathlib.Numerals.{add-one}
+use mathlib.Core.Path.{_≡_, ap, _∙_}
+use Rattle.slots.specs.Slots.{slotNumbers, stateNumbers}
+use Rattle.slots.specs.declared.SlotState.{SlotState}
+use Rattle.store.specs.Block.{slotOf}
+use Rattle.cutting.specs.HighestLaws.{slot-unsound, slot-empty, slot-used}
+use Rattle.cutting.proofs.HighestTold.{slot-state}
+use borrow.Author.Needs.{needs}
+use Rattle.cutting.proofs.highest.reaching.Statement.{statement}
+use Rattle.cutting.proofs.highest.reaching.Tie as tie
+
+-- the slot's own numbers, by what it was found to be
+state : (c : tie.After-slot-state) (x : SlotState) → c .slot-state .result ≡ x
+    → let a = c .before .before .before .before .args in slotNumbers (slotOf (a .patch .now) (a .block)) ≡ stateNumbers x
+state c x q =
+    let a = c .before .before .before .before .args in
+    slot-state (a .patch .now) (a .block) _ _ (c .slot-state .result) x (c .before .before .slot-at .ensures) (c .before .part .ensures .0)
+    (c .slot-state .ensures) q
+
+slot-at-requires : tie.Need-slot-at-requires
+slot-at-requires c κs = search needs
+
+part-requires : tie.Need-part-requires
+part-requires c κs = search needs
+
+add-after : tie.Need-add-after
+add-after c = search needs
+
+slot-state-requires : tie.Need-slot-state-requires
+slot-state-requires c κs = search needs
+
+enum-told : tie.Need-enum-told
+enum-told c = search needs
+
+enum-told-2 : tie.Need-enum-told-2
+enum-told-2 c = search needs
+
+enum-told-3 : tie.Need-enum-told-3
+enum-told-3 c = search needs
+
+enum-told-4 : tie.Need-enum-told-4
+enum-told-4 c = search needs
+
+returns : tie.Need-returns
+returns c =
+    let a = c .before .before .before .before .before .before .args in
+    slot-unsound (a .patch .now) (a .block) (a .before) (state (c .before .before) _ (c .enum-told .given .1))
+
+returns-2 : tie.Need-returns-2
+returns-2 c =
+    let a = c .before .before .before .before .before .before .args in
+    slot-empty (a .patch .now) (a .block) (a .before) (state (c .before .before) _ (c .enum-told2 .given .1))
+
+returns-3 : tie.Need-returns-3
+returns-3 c =
+    let a = c .before .before .before .before .before .before .args in
+    ap (λ (k : ℕ). record { number = 0; blocks = k }) (add-one (a .block))
+    ∙ slot-used (a .patch .now) (a .block) (a .before) _ _ (state (c .before .before) _ (c .enum-told3 .given .1))
+
+returns-4 : tie.Need-returns-4
+returns-4 c =
+    let a = c .before .before .before .before .before .before .args in
+    ap (λ (k : ℕ). record { number = 0; blocks = k }) (add-one (a .block))
+    ∙ slot-used (a .patch .now) (a .block) (a .before) _ _ (state (c .before .before) _ (c .enum-told4 .given .1))
+
+pub reaching-spec : {M : Type 1} → statement M
+reaching-spec =
+    tie.close
+    (tie.spec
+    slot-at-requires
+    part-requires
+    add-after
+    slot-state-requires
+    enum-told
+    enum-told-2
+    enum-told-3
+    enum-told-4
+    returns
+    returns-2
+    returns-3
+    returns-4)

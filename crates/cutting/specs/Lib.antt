@@ -1,0 +1,9 @@
+pub mod Cut
+pub mod Mapped
+pub mod Highest
+pub mod Reach
+pub mod Parts
+pub mod CutLaws
+pub mod HighestLaws
+pub mod ReachLaws
+pub mod Given
