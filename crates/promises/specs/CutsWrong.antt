@@ -229,7 +229,7 @@ not-unused-cut claim =
     (claim x 0 done .others 2 (inr (rw (two-blocks []) (lit≤ tt)))) in
     omega arith
 
--- and it breaks demand 3's sentence on the map: block 0 was written, block 1 is cut, and byte 0 is left where Build makes 2
+-- and the first of the two breaks demand 3's sentence on the map: block 0 was written, block 1 is cut, and byte 0 is left where Build makes 2
 pub not-whole-byte-cut-run : MapBuilt (mapped pageSize) wholeByteCut → ⊥
 unfolding wholeByteCut run setPair withPair byteOf pairOf clearPairs
 not-whole-byte-cut-run claim =

@@ -14,7 +14,7 @@ use Rattle.span.specs.Laws.{zeros-length}
 use Rattle.layout.specs.Sizes.{pageSize, slotSize, patchHead, payloadAt, slotAt}
 use Rattle.layout.specs.Lengths.{blocksIn}
 use Rattle.layout.specs.LengthLaws.{blocks-of}
-use Rattle.layout.specs.declared.Refusal.the-variants.{Block, Payload}
+use Rattle.layout.specs.declared.Refusal.the-variants.{Block, Payload, Place}
 use Rattle.headers.specs.Headers.{patchHeader}
 use Rattle.headers.specs.Meaning.{patch-header-length}
 use Rattle.slots.specs.Slots.{patchSlot, payloadOf}
@@ -136,7 +136,13 @@ not-build-from-slot map after x =
     ∙ ap (breaksAt pageSize) own ∙ breaks-at-2 in
     omega (arith, e)
 
--- an offset beside 5, for any areas, block, base and page
+-- an offset beside 10, for any areas, map and block
+pub not-build-beside-10 : (areas full map : List ℕ) (b o : ℕ) (after : List ℕ)
+    → Build pageSize areas full map (BuiltRefused Place b (suc o)) after → ⊥
+not-build-beside-10 areas full map b o after x =
+    omega (arith, build-offset pageSize areas full map (BuiltRefused Place b (suc o)) after x)
+
+-- What Read may not: an offset beside 5, for any areas, block, base and page
 pub not-beside-5 : (areas full : List ℕ) (b : ℕ) (base lent after : List ℕ) (o : ℕ)
     → Read pageSize areas full b base lent (ReadingRefused Block (suc o)) after → ⊥
 not-beside-5 areas full b base lent after o x = omega (arith, read-offset pageSize areas full b base lent (ReadingRefused Block (suc o)) after x)
