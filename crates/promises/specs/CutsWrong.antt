@@ -16,7 +16,7 @@ use Rattle.layout.specs.Sizes.{pageSize, patchHead, slotSize, slotAt, pageAt}
 use Rattle.layout.specs.Refusals.{firstOf}
 use Rattle.slots.specs.Slots.{emptySlot, patchSlot, fullSlot, slotNumbers, slotImage}
 use Rattle.slots.specs.Meaning.{empty-numbers}
-use Rattle.stream.specs.Calls.{kindFor}
+use Rattle.stream.specs.Calls.{pageOf, kindFor}
 use Rattle.writing.specs.Write.{decidedStream, decidedKind}
 use Rattle.blockmap.specs.Pairs.{mapBytes, pairAt}
 use Rattle.blockmap.specs.Pack.{pairOf, byteOf, withPair, setPair, clearPairs}
@@ -36,7 +36,7 @@ use Rattle.promises.specs.FrameLaws.{lengths-by}
 use Rattle.promises.specs.CutTables.{cut-table, mapped-as-cut, slot-right}
 use Rattle.promises.specs.Decisions.{Cell}
 use Rattle.promises.specs.Runs.{run, taking, later, lastSuch, concerns, write, wipe}
-use Rattle.promises.specs.RunWords.{Areas, Lent, Cut, Operation, CutProgram, outcome, cutting, next, lastTo, JustLastsBy}
+use Rattle.promises.specs.RunWords.{Areas, Lent, Cut, Operation, CutProgram, outcome, cutting, acceptedBy, next, lastTo, JustLastsBy}
 use Rattle.promises.specs.RunStoreLaws.{cell-here}
 use Rattle.promises.specs.FreshLaws.{fresh-cell}
 use Rattle.promises.specs.HighLaws.{run-highest-done}
@@ -45,8 +45,8 @@ use Rattle.promises.specs.MapWords.{Mapped, mapped, MappedCutProgram, cu
 use Rattle.promises.specs.MapStore.{with}
 use Rattle.promises.specs.DemandTwo.{drops, cut-gives, clears-pairs, one-more, highest-gives}
 use Rattle.promises.specs.Sample.{sample, sample-fresh, two-blocks, two-places, takes, areas-fit, cut-takes, page, one, many, one-fits}
-use Rattle.promises.specs.Sample.{many-fits, stream-one, to, puts, place-ones}
-use Rattle.promises.specs.Wrong.{T, LastsLeave}
+use Rattle.promises.specs.Sample.{two as page-two, two-fits, many-fits, stream-one, to, puts, place-ones, reads}
+use Rattle.promises.specs.Wrong.{T, LastsLeave, ReadsAsBase}
 use Rattle.promises.specs.MapsWrong.{MapBuilt, right-map-built, start, start-fresh, one-byte, one-kind, wrote}
 
 -- Cut. "their slots, full pages ... become zero, blocks below K keep every byte", and "2, 9, headers, 5 for K above n"
@@ -105,6 +105,28 @@ not-slots-only-run claim =
           eq-eqb (cutting pageSize (T (many 1)) 0 .number) 0 (cut-takes (puts 0 (many 1) ∷ []) 0 (lit≤ tt)),
         )
         (λ i. absurd (List·Memᴰ·not-nil i), λ e. absurd (covered (eqb 0 (w .block)) (leb 0 (w .block)) w (le-leb 0 (w .block) (omega arith)) e))
+
+-- nothing dropped, though it says so
+unfoldable pub keepsAll : CutProgram
+keepsAll s K = record { number = cutting pageSize s K .number; patch = s .patch; full = s .full }
+
+-- by (c) of demand 3: block 0 reads as the page of before and not as its base
+pub not-keeps-all-run : ReadsAsBase (outcome pageSize) keepsAll → ⊥
+unfolding run taking keepsAll lastTo lastSuch later concerns page pageOf zeros
+not-keeps-all-run claim =
+    let os : List Operation = puts 0 one ∷ wipe 0 ∷ [] in
+    let e : one ≡ pageOf pageSize [] = sym (reads [] 0 (lit< tt) one one-fits)
+    ∙ claim sample sample-fresh os 0 (rw (two-blocks []) (lit< tt)) wiped [] page-two two-fits in
+    let z : _≡_ {A = ℕ} 7 0 = ap (λ (l : List ℕ). getD l 0 0) e in
+    omega arith
+  where
+    wiped : (w : Lent) → lastTo 0 (acceptedBy (outcome pageSize) keepsAll sample (puts 0 one ∷ wipe 0 ∷ [])) ≡ some (write w) → ⊥
+    wiped w =
+        rw (
+          eq-eqb (outcome pageSize sample (to 0 one) .number) 0 (takes [] (to 0 one) (lit< tt) one-fits),
+          eq-eqb (cutting pageSize (T one) 0 .number) 0 (cut-takes (puts 0 one ∷ []) 0 (lit≤ tt)),
+        )
+        (λ e. let z : _≡_ {A = ℕ} 0 1 = cc e in omega arith)
 
 -- places only where the slot was FULL_REF: a place with stray bytes beside another slot keeps them
 unfoldable pub fullRefPlaces : Areas → ℕ → ℕ → List ℕ

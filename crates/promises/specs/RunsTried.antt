@@ -1,21 +1,26 @@
--- One run with cuts, worked over the two blocks of `Sample`: a write to each block, a cut in the middle, one at n, which covers nothing, and
--- one above n, which is refused. The write to block 0 stands; that to block 1 is wiped.
-use Prim.Native.Nat.{ℕ, _<_}
+-- Runs with cuts, worked over the two blocks of `Sample`. The first: a write to each block, a cut in the middle, one at n, which covers
+-- nothing, and one above n, which is refused. The write to block 0 stands; that to block 1 is wiped.
+use Prim.Native.Nat.{ℕ, zero, suc, _<_}
 use native.Mathlib.Omega.{arith}
 use mathlib.Core.Path.{_≡_, refl, sym, ap, _∙_}
+use mathlib.Core.Bool.{cond}
 use mathlib.Core.Logic.{inr}
 use mathlib.Core.Option.{some}
 use mathlib.Core.List.{List, [], _∷_}
-use lib.Dec.{lit≤, lit<}
+use lib.Dec.{eqb, lit≤, lit<}
+use lib.ListN.{getD}
 use borrow.Author.Tests.{eq-eqb, ne-eqb}
+use Rattle.span.specs.Bytes.{zeros}
 use Rattle.layout.specs.Sizes.{pageSize}
 use Rattle.stream.specs.Calls.{pageOf}
 use Rattle.reading.specs.Read.{ReadOutcome}
-use Rattle.promises.specs.Runs.{run, taking, later, lastSuch, concerns, wipe}
-use Rattle.promises.specs.RunWords.{Areas, readAt, Operation, outcome, cutting, cutNext, next, after, accepted, lastTo}
-use Rattle.promises.specs.DemandThree.{reads-as-last, decided-over-its-base, reads-as-base}
+use Rattle.promises.specs.Words.{PagesFit}
+use Rattle.promises.specs.Runs.{run, taking, later, lastSuch, concerns, write, wipe}
+use Rattle.promises.specs.RunWords.{Areas, readAt, Lent, Operation, outcome, cutting, cutNext, next, after, accepted, lastTo}
+use Rattle.promises.specs.RunWords.{FollowsBases, OverBases}
+use Rattle.promises.specs.DemandThree.{reads-as-last, decided-over-its-base, reads-as-base, changed-bases-enough}
 use Rattle.promises.specs.Sample.{sample, sample-fresh, two-blocks, takes, cut-takes, cut-refuses, one, two, one-fits, two-fits, to}
-use Rattle.promises.specs.Sample.{puts}
+use Rattle.promises.specs.Sample.{puts, page}
 
 abbrev pub tried : List Operation
 tried = puts 0 one ∷ puts 1 one ∷ wipe 1 ∷ wipe 2 ∷ wipe 3 ∷ []
@@ -54,3 +59,62 @@ tried-reads = (
       (λ w e. let z : _≡_ {A = ℕ} 0 1 = cc (sym (tried-stands .1) ∙ e) in omega arith) one two
       (record { base-length = inr (one-fits .page-length); page-length = two-fits .page-length })),
 )
+
+-- Another base after a cut
+
+-- `two`, written to a block whose base is `one`; until now no block had a base
+abbrev overOne : ℕ → Lent
+overOne b = record { block = b; base = one; page = two }
+
+over-fits : PagesFit pageSize one two
+over-fits = record { base-length = inr (one-fits .page-length); page-length = two-fits .page-length }
+
+-- a write to block b, a cut that covers block 1 alone, and block b again, over its new base
+abbrev pub rebased : ℕ → List Operation
+rebased b = puts b one ∷ wipe 1 ∷ write (overOne b) ∷ []
+
+pub rebased-accepted : (b : ℕ) → b < 2 → accepted pageSize sample (rebased b) ≡ rebased b
+unfolding run taking
+rebased-accepted b h =
+    let s1 : Areas = next pageSize sample (to b one) in
+    let s2 : Areas = cutNext pageSize s1 1 in
+    rw (
+      eq-eqb (outcome pageSize sample (to b one) .number) 0 (takes [] (to b one) h one-fits),
+      eq-eqb (cutting pageSize s1 1 .number) 0 (cut-takes (puts b one ∷ []) 1 (lit≤ tt)),
+      eq-eqb (outcome pageSize s2 (overOne b) .number) 0 (takes (puts b one ∷ wipe 1 ∷ []) (overOne b) h over-fits),
+    )
+
+-- block 1 was covered: no base at the beginning, `one` at the end
+abbrev pub none-at-first : ℕ → List ℕ
+none-at-first b = []
+
+abbrev pub one-in-the-end : ℕ → List ℕ
+one-in-the-end b = cond (eqb b 1) one []
+
+pub covered-follows : FollowsBases pageSize none-at-first sample (rebased 1) one-in-the-end
+covered-follows = rw (rebased-accepted 1 (lit< tt)) (refl, (one-in-the-end, below, (refl, λ b. refl)))
+  where
+    below : (b : ℕ) → b < 1 → pageOf pageSize [] ≡ pageOf pageSize (one-in-the-end b)
+    below zero h = refl
+    below (suc b) h = absurd (omega (arith, h))
+
+-- so the run is over the bases that it ends with, and block 1 reads as `two` over its new one
+pub covered-over : OverBases pageSize one-in-the-end sample (rebased 1)
+covered-over = changed-bases-enough sample (rebased 1) none-at-first one-in-the-end covered-follows
+
+pub covered-reads : readAt pageSize (after pageSize sample (rebased 1)) 1 one one .page ≡ two
+unfolding run lastTo lastSuch later concerns
+covered-reads =
+    let stands : lastTo 1 (accepted pageSize sample (rebased 1)) ≡ some (write (overOne 1)) = rw (rebased-accepted 1 (lit< tt)) refl in
+    ap (λ (o : ReadOutcome). o .page)
+    (reads-as-last sample sample-fresh (rebased 1) 1 (rw (two-blocks []) (lit< tt)) (overOne 1) stands one one
+    (record { base-length = inr (one-fits .page-length); page-length = one-fits .page-length })
+    (covered-over 1 (rw (two-blocks []) (lit< tt)) (overOne 1) stands))
+
+-- block 0 was not: whatever the bases are at the end, the run is none of the request's
+pub below-does-not-follow : (end : ℕ → List ℕ) → FollowsBases pageSize none-at-first sample (rebased 0) end → ⊥
+unfolding page pageOf zeros
+below-does-not-follow end f =
+    let g = rw (rebased-accepted 0 (lit< tt)) at f in
+    let z : _≡_ {A = ℕ} 7 0 = ap (λ (l : List ℕ). getD l 0 0) (g .1 .2 .0 ∙ sym (g .1 .1 0 (lit< tt))) in
+    omega arith
