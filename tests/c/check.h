@@ -59,7 +59,7 @@ void try_call(const ask *asked, const answer *wanted);
 answer answer_of(const ask *asked);
 void change(const ask *asked, uint8_t *const bytes[ROLES]);
 
-/* refusals.c, lengths.c, payloads.c, maps.c and cuts.c: tests. */
+/* refusals.c, lengths.c, payloads.c, maps.c, tally.c and cuts.c: tests. */
 void every_refusal(void);
 void every_fault_left(void);
 void every_length(void);
@@ -67,6 +67,7 @@ void every_number(void);
 void every_step(void);
 void every_payload(void);
 void every_map(void);
+void every_tally(void);
 void every_cut(void);
 void every_highest(void);
 

@@ -396,6 +396,7 @@ int main(void) {
         every_step();
         every_payload();
         every_map();
+        every_tally();
         every_cut();
         every_highest();
     }

@@ -1,6 +1,6 @@
 pub mod Pairs
-pub mod Table
 pub mod PairLaws
+pub mod PairBitLaws
 pub mod Meaning
 pub mod Pack
 pub mod PackLaws
@@ -9,4 +9,6 @@ pub mod SetLaws
 pub mod ClearLaws
 pub mod Calls
 pub mod CallLaws
+pub mod Table
 pub mod Given
+pub mod Wrong

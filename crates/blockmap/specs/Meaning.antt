@@ -11,8 +11,14 @@ use mathlib.Core.List.{List·Memᴰ·append-cases, List·Memᴰ·eq-of-singleton
 use lib.Dec.{eqb}
 use lib.ListN.{length, length-append}
 use borrow.Author.Tests.{eq-eqb, eqb-true, eqb-false}
-use Rattle.blockmap.specs.Pairs.{mapBytes, pairAt, pairs, reservedPair, someReserved, someUsed, badPairs, inByte, tallyEntry}
+use Rattle.blockmap.specs.Pairs.{mapBytes, pairAt, pairs, patchPair, fullPair, reservedPair, someReserved, someUsed, badPairs}
 use Rattle.blockmap.specs.PairLaws.{none-used}
+use Rattle.blockmap.specs.Calls.{Tally}
+use Rattle.blockmap.specs.CallLaws.{tally-pair, tally-done, tally-one}
+use Rattle.blockmap.specs.declared.Tallied.{Tallied}
+use Rattle.blockmap.specs.declared.Tallied.the-variants.{Done as TalliedDone, Refused as TalliedRefused}
+use Rattle.layout.specs.Sizes.{blocksAtMost}
+use Rattle.layout.specs.declared.Refusal.the-variants.{Pair}
 
 -- the blocks below n, in rising order
 unfoldable pub upTo : ℕ → List ℕ
@@ -247,8 +253,26 @@ bad-iff map n = (to (someReserved map n) refl, λ w. from (w .0) (w .1))
     from b (inl h) = rw (at-reserved map n b (h .0) (h .1))
     from b (inr h) = rw (at-used map n (4 * mapBytes n - n) b (h .0) (omega arith) (h .2)) (or-true (someReserved map n))
 
--- Worked entries of the table
+-- Tally in document 01's words: how many blocks are PATCH and how many full, each counted by a list of just those; or a bad pair, refused
+pub record Tallies (map : List ℕ) (n : ℕ) (answer : Tallied) : Type 0 where
+  pub counts : ((b : ℕ) → BadPair map n b → ⊥) → (ps fs : List ℕ) → JustThose (HasPair patchPair map n) ps
+      → JustThose (HasPair fullPair map n) fs → answer ≡ TalliedDone (length ps) (length fs)
+  pub refuses : (b : ℕ) → BadPair map n b → answer ≡ TalliedRefused Pair
 
-pub entries : (tallyEntry 0x00 ≡ 0) × (tallyEntry 0x09 ≡ 9) × (tallyEntry 0xAA ≡ 4) × (tallyEntry 0x55 ≡ 32) × (tallyEntry 0x03 ≡ 255)
-unfolding tallyEntry inByte
-entries = (refl, refl, refl, refl, refl)
+pub tally-says : (P : ℕ) (map : List ℕ) (n : ℕ) → n ≤ blocksAtMost P → mapBytes n ≤ length map → (answer : Tallied)
+    → Tally P map n answer → Tallies map n answer
+tally-says P map n few long answer h =
+    record {
+      counts =
+          λ none ps fs jp jf.
+          tally-one P map n answer (TalliedDone (length ps) (length fs)) h
+          (tally-done P map n few long (length ps) (length fs) (good none (badPairs map n) refl)
+          (sym (pairs-counted patchPair map n ps jp))
+          (sym (pairs-counted fullPair map n fs jf)));
+      refuses =
+          λ b bad. tally-one P map n answer (TalliedRefused Pair) h (tally-pair P map n few long (bad-iff map n .1 (b, bad)));
+    }
+  where
+    good : ((b : ℕ) → BadPair map n b → ⊥) → (t : Bool) → badPairs map n ≡ t → badPairs map n ≡ false
+    good none true e = let (b, bad) = bad-iff map n .0 e in absurd (none b bad)
+    good none false e = e

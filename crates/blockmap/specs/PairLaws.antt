@@ -9,8 +9,7 @@ use mathlib.Core.List.{List}
 use lib.Dec.{eqb}
 use lib.ListN.{getD}
 use borrow.Author.Tests.{eq-eqb, ne-eqb, eqb-true, eqb-false}
-use Rattle.blockmap.specs.Pairs.{mapBytes, pairAt, pairs, patchPair, fullPair, reservedPair, someReserved, someUsed, badPairs}
-use Rattle.blockmap.specs.Pairs.{inByte, tallyEntry}
+use Rattle.blockmap.specs.Pairs.{mapBytes, pairAt, pairs, reservedPair, someReserved, someUsed, badPairs, inByte}
 
 -- a pair by its byte and its place there
 pub pair-in : (map : List ℕ) (i k b : ℕ) → k < 4 → b ≡ 4 * i + k → pairAt map b ≡ getD map i 0 / 4 ^ k % 4
@@ -20,7 +19,7 @@ pair-in map i k b h e =
     let r : b % 4 ≡ k = omega arith in
     rw (q, r)
 
-one-most : (t : Bool) → cond t 1 0 ≤ 1
+pub one-most : (t : Bool) → cond t 1 0 ≤ 1
 one-most true = omega arith
 one-most false = omega arith
 
@@ -178,37 +177,6 @@ module _ (map : List ℕ) (n : ℕ) (whole : n % 4 ≡ 0 → ⊥) where
           (eqb-false (getD map (n / 4) 0 / 4 ^ (n % 4)) 0 e
           (clear (n % 4) refl s (λ j h. sym (past j h) ∙ none-used map n (4 * mapBytes n - n) f j (omega arith))))
 
--- The table's entries
-
-pub in-byte-most : (v x : ℕ) → inByte v x ≤ 4
-unfolding inByte
-in-byte-most v x =
-    omega (arith, one-most (eqb (x % 4) v), one-most (eqb (x / 4 % 4) v), one-most (eqb (x / 16 % 4) v), one-most (eqb (x / 64 % 4) v))
-
-pub entry-reserved : (x : ℕ) → tallyEntry x ≡ 255 → inByte reservedPair x ≡ 0 → ⊥
-unfolding tallyEntry
-entry-reserved x e z =
-    let p : inByte patchPair x ≤ 4 = in-byte-most patchPair x in
-    let f : inByte fullPair x ≤ 4 = in-byte-most fullPair x in
-    let q : inByte patchPair x + 8 * inByte fullPair x ≡ 255 = rw (eq-eqb (inByte reservedPair x) 0 z) at e in
-    omega arith
-
-pub record Counts (x e : ℕ) : Type 0 where
-  pub reserved : inByte reservedPair x ≡ 0
-  pub patch : e % 8 ≡ inByte patchPair x
-  pub full : e / 8 ≡ inByte fullPair x
-
-pub entry-counts : (x : ℕ) → (tallyEntry x ≡ 255 → ⊥) → Counts x (tallyEntry x)
-unfolding tallyEntry
-entry-counts x h = go (eqb (inByte reservedPair x) 0) refl
-  where
-    go : (t : Bool) → eqb (inByte reservedPair x) 0 ≡ t → Counts x (tallyEntry x)
-    go true q =
-        let p : inByte patchPair x ≤ 4 = in-byte-most patchPair x in
-        let f : inByte fullPair x ≤ 4 = in-byte-most fullPair x in
-        rw q (record { reserved = eqb-true (inByte reservedPair x) 0 q; patch = omega arith; full = omega arith })
-    go false q = absurd (h (rw q))
-
 -- What the unused pairs and the bytes say of the map
 
 pub unused-bad : (map : List ℕ) (n : ℕ) → someUsed map n (4 * mapBytes n - n) ≡ true → badPairs map n ≡ true
@@ -226,17 +194,14 @@ module _ (map : List ℕ) (n : ℕ) (clean : someUsed map n (4 * mapBytes n - n)
   unfolding badPairs
   good-bytes e = rw (reserved-none map n (sym (pairs-whole reservedPair (λ z. omega arith)) ∙ e)) clean
 
-  pub bad-byte : (i : ℕ) → i < mapBytes n → (inByte reservedPair (getD map i 0) ≡ 0 → ⊥) → badPairs map n ≡ true
+  pub bad-bytes : (k : ℕ) → k ≤ mapBytes n → (pairs reservedPair map (4 * k) ≡ 0 → ⊥) → badPairs map n ≡ true
   unfolding badPairs
-  bad-byte i h bad =
-      let k : ℕ = 4 * mapBytes n - 4 * (i + 1) in
-      let q : 4 * (i + 1) + k ≡ 4 * mapBytes n = omega arith in
+  bad-bytes k h bad =
+      let j : ℕ = 4 * mapBytes n - 4 * k in
+      let q : 4 * k + j ≡ 4 * mapBytes n = omega arith in
       let w : pairs reservedPair map (4 * mapBytes n) ≡ pairs reservedPair map n = pairs-whole reservedPair (λ z. omega arith) in
-      let r : pairs reservedPair map (4 * (i + 1)) ≤ pairs reservedPair map (4 * (i + 1) + k) = pairs-rise reservedPair map (4 * (i + 1))
-      k in
-      let r′ : pairs reservedPair map (4 * (i + 1)) ≤ pairs reservedPair map (4 * mapBytes n) = rw q at r in
-      let b : pairs reservedPair map (4 * (i + 1)) ≡ pairs reservedPair map (4 * i) + inByte reservedPair (getD map i 0) = pairs-byte
-      reservedPair map i in
+      let r : pairs reservedPair map (4 * k) ≤ pairs reservedPair map (4 * k + j) = pairs-rise reservedPair map (4 * k) j in
+      let r′ : pairs reservedPair map (4 * k) ≤ pairs reservedPair map (4 * mapBytes n) = rw q at r in
       rw (reserved-some map n (λ z. bad (omega arith)))
 
 -- shifts by pairs

@@ -42,11 +42,6 @@ someUsed map b (suc k) = someUsed map b k || not (eqb (pairAt map (b + k)) 0)
 unfoldable pub badPairs : List ℕ → ℕ → Bool
 badPairs map n = someReserved map n || someUsed map n (4 * mapBytes n - n)
 
--- An entry of the tally's table: PATCH pairs plus 8 times full pairs, or 255 where some pair is 3
-
 -- how many of the four pairs of a byte are v
 unfoldable pub inByte : ℕ → ℕ → ℕ
 inByte v x = cond (eqb (x % 4) v) 1 0 + (cond (eqb (x / 4 % 4) v) 1 0 + (cond (eqb (x / 16 % 4) v) 1 0 + cond (eqb (x / 64 % 4) v) 1 0))
-
-unfoldable pub tallyEntry : ℕ → ℕ
-tallyEntry x = cond (eqb (inByte reservedPair x) 0) (inByte patchPair x + 8 * inByte fullPair x) 255

@@ -1,6 +1,4 @@
 // The block map: two bits for each block.
-mod table;
-
 use layout::Kind;
 use layout::Layout;
 use layout::Refusal;
@@ -176,7 +174,7 @@ pub fn look_up(map: &[u8], n: usize, block: usize) -> Looked
     Looked::Done { pair }
 }
 
-// How many of a map's n blocks are PATCH and how many full, four blocks a turn.
+// How many of a map's n blocks are PATCH and how many full. Where no pair is 3, a high bit is a PATCH pair and a low bit a full one.
 pub fn tally(map: &[u8], n: usize) -> Tallied
     ensures { λ r. ⌜ Tally pageSize (now (map .entry)) n r ⌝ }
 {
@@ -190,18 +188,12 @@ pub fn tally(map: &[u8], n: usize) -> Tallied
     if unused_met(map, n) {
         return Tallied::Refused(Refusal::Pair);
     }
-    let table = table::whole();
-    let mut patch: usize = 0;
-    let mut full: usize = 0;
-    let mut at = 0;
-    while at < bytes {
-        let entry = table::entry_of(&table, map[at]);
-        if entry == table::MET_RESERVED {
-            return Tallied::Refused(Refusal::Pair);
-        }
-        patch += (entry % 8) as usize;
-        full += (entry / 8) as usize;
-        at += 1;
+    let counted = bits::count(map, bytes as u32);
+    if counted.three {
+        return Tallied::Refused(Refusal::Pair);
     }
-    Tallied::Done { patch, full }
+    Tallied::Done {
+        patch: counted.high,
+        full: counted.low,
+    }
 }

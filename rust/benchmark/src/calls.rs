@@ -402,12 +402,19 @@ fn highest_cases(cases: &mut Cases) {
 
 fn map_cases(cases: &mut Cases) {
     let mut map = Rng::new(3).bytes(map_len(MAX_BLOCKS));
-    // No pair of 3.
-    map.iter_mut().for_each(|byte| *byte &= 0xAA);
+    // Pairs of all kinds and none of 3: where both bits are set the low one goes.
+    map.iter_mut().for_each(|byte| *byte &= !(*byte / 2 & 0x55));
     let limit = Limit::default().compare(1);
     let both = both!(map, look_up(&map, MAX_BLOCKS, opaque(70_001)));
     cases.add("Look up", "n = 131,072", limit, both);
-    for (name, blocks) in [("n = 64", 64), ("n = 131,072", MAX_BLOCKS)] {
+    let tallies = [
+        ("n = 28", 28),
+        ("n = 64", 64),
+        ("n = 124", 124),
+        ("n = 3,000", 3_000),
+        ("n = 131,072", MAX_BLOCKS),
+    ];
+    for (name, blocks) in tallies {
         let limit = Limit::default().compare(map_len(blocks));
         cases.add("Tally", name, limit, both!(map, tally(&map, blocks)));
     }

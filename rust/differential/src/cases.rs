@@ -1246,9 +1246,13 @@ fn look_ups(cases: &mut Vec<Case>) {
 }
 
 fn tallies(cases: &mut Vec<Case>) {
-    // The table's entries: PATCH pairs plus 8 times full pairs.
-    let entries: [(u8, i128); 5] = [(0x00, 0), (0x09, 9), (0xAA, 4), (0x55, 32), (0x03, 255)];
-    for (byte, entry) in entries {
+    // Document 01's table: PATCH pairs plus 8 times full pairs, or 255 where some pair is 3.
+    let file = include_str!("../../../tests/tally_table.inc");
+    let (_, table) = file.split_once("*/").expect("a comment first");
+    let entries = table.split(',').map(str::trim).filter(|entry| !entry.is_empty());
+    let entries: Vec<i128> = entries.map(|entry| entry.parse().expect("a number")).collect();
+    assert_eq!(entries.len(), 256);
+    for (byte, entry) in (0..=255).zip(entries) {
         let answer = if entry == 255 { [11, 0, 0] } else { [0, entry % 8, entry / 8] };
         cases.push(case(&format!("tally of {byte:02X}"), tally(&[byte], 4), &answer, &[]));
     }

@@ -667,6 +667,8 @@ fn map_and_n(rng: &mut Rng) -> (Vec<u8>, u64) {
     let n = match rng.below(20) {
         0 => 0,
         1 => rng.between(MAX_BLOCKS - 5, MAX_BLOCKS),
+        // Whole chunks of 32 bytes and a rest.
+        2..=5 => rng.below(700),
         _ => rng.below(70),
     };
     let mut map = vec![0u8; (n + 3) / 4];

@@ -123,6 +123,99 @@ fn unused_pairs_ignored(input: &Input) -> Outcome {
     })
 }
 
+// Tallies by counts of bits, with a fault each.
+
+/// The bits of some bytes: those of pairs 2 and 3, those of pairs 1 and 3, and the pairs that are 3.
+fn bits_of(bytes: &[u8]) -> [u64; 3] {
+    let all = |bits: fn(u8) -> u8| bytes.iter().map(|b| bits(*b).count_ones() as u64).sum();
+    [all(|b| b / 2 & 0x55), all(|b| b & 0x55), all(|b| b / 2 & b & 0x55)]
+}
+
+/// A Tally that does as it should up to the pairs. `count` takes the map's bytes and those after them.
+fn own_tally(input: &Input, count: impl FnOnce(&[u8], &[u8]) -> [u64; 3]) -> Outcome {
+    altered(input, Call::Tally, |outcome| {
+        if ![0, 11].contains(&outcome.answer.number()) {
+            return;
+        }
+        let n = input.numbers.n;
+        let unused = |last: &u8| n % 4 != 0 && last >> (2 * (n % 4)) != 0;
+        let (map, later) = input.buffers[0].split_at(((n + 3) / 4) as usize);
+        outcome.answer = match count(map, later) {
+            _ if map.last().map_or(false, unused) => Answer::of(&[11]),
+            [patch, full, 0] => Answer::of(&[0, patch.into(), full.into()]),
+            _ => Answer::of(&[11]),
+        };
+    })
+}
+
+fn tallies_rightly(input: &Input) -> Outcome {
+    own_tally(input, |map, _| bits_of(map))
+}
+
+fn mixes_up_patch_and_full(input: &Input) -> Outcome {
+    own_tally(input, |map, _| {
+        let [high, low, threes] = bits_of(map);
+        [low, high, threes]
+    })
+}
+
+fn counts_3_as_both(input: &Input) -> Outcome {
+    own_tally(input, |map, _| {
+        let [high, low, _] = bits_of(map);
+        [high, low, 0]
+    })
+}
+
+fn adds_up_in_8_bits(input: &Input) -> Outcome {
+    own_tally(input, |map, _| {
+        let [high, low, threes] = bits_of(map);
+        [high % 256, low % 256, threes]
+    })
+}
+
+/// Eight counts in one word: one that passes 255 adds 1 to its neighbour.
+fn carries_into_the_next_byte(input: &Input) -> Outcome {
+    own_tally(input, |map, _| {
+        let [mut high, mut low] = [0u64; 2];
+        for eight in map.chunks(8) {
+            let [mut highs, mut lows] = [[0; 8]; 2];
+            for (at, byte) in eight.iter().enumerate() {
+                highs[at] = (byte & 0xAA).count_ones() as u8;
+                lows[at] = (byte & 0x55).count_ones() as u8;
+            }
+            high = high.wrapping_add(u64::from_le_bytes(highs));
+            low = low.wrapping_add(u64::from_le_bytes(lows));
+        }
+        let sum = |word: u64| word.to_le_bytes().map(u64::from).iter().sum();
+        [sum(high), sum(low), bits_of(map)[2]]
+    })
+}
+
+fn leaves_out_the_rest(input: &Input) -> Outcome {
+    own_tally(input, |map, _| bits_of(&map[..map.len() / 32 * 32]))
+}
+
+fn meets_3_in_the_rest_alone(input: &Input) -> Outcome {
+    own_tally(input, |map, _| {
+        let [high, low, _] = bits_of(map);
+        [high, low, bits_of(&map[map.len() / 32 * 32..])[2]]
+    })
+}
+
+fn counts_later_bytes(input: &Input) -> Outcome {
+    own_tally(input, |map, later| bits_of(&[map, later].concat()))
+}
+
+const WRONG_TALLIES: [(&str, Side); 7] = [
+    ("PATCH and full mixed up", mixes_up_patch_and_full),
+    ("3 counted as both", counts_3_as_both),
+    ("sums of 8 bits", adds_up_in_8_bits),
+    ("a carry into the next byte", carries_into_the_next_byte),
+    ("the rest left out", leaves_out_the_rest),
+    ("3 met in the rest alone", meets_3_in_the_rest_alone),
+    ("later bytes counted", counts_later_bytes),
+];
+
 // The shortcuts that give a wrong page.
 
 /// Alters what comes of a Write that is accepted.
@@ -1068,13 +1161,16 @@ fn the_right_programs_pass() {
     assert!(first_mismatch(applies_rightly).is_none());
 }
 
-/// So does a program with a rule of its own about long jumps, if that is the right one. It is held to the
-/// independent implementation, which the library agrees with by the test above.
+/// So does a program with a rule of its own about long jumps, if that is the right one, and a Tally by bits
+/// without a fault. They are held to the independent implementation, which the library agrees with by the
+/// test above.
 #[test]
-fn the_right_rule_about_long_jumps_passes() {
+fn the_right_rules_pass() {
     for input in (0..MOST_CASES / 10).map(random_input) {
-        let (outcome, right) = (takes_long_jumps_rightly(&input), independent_outcome(&input));
-        assert_eq!(outcome.difference(&right, input.call), None, "{input}");
+        let right = independent_outcome(&input);
+        for outcome in [takes_long_jumps_rightly(&input), tallies_rightly(&input)] {
+            assert_eq!(outcome.difference(&right, input.call), None, "{input}");
+        }
     }
 }
 
@@ -1091,6 +1187,13 @@ fn small_mistakes_are_found() {
     must_find("blocks that wrap", blocks_that_wrap);
     must_find("unused pairs ignored", unused_pairs_ignored);
     must_find("stray pages first", looks_for_stray_pages_first);
+}
+
+#[test]
+fn wrong_tallies_are_found() {
+    for (name, wrong) in WRONG_TALLIES {
+        must_find(name, wrong);
+    }
 }
 
 #[test]
