@@ -11,4 +11,3 @@ pub mod Calls
 pub mod CallLaws
 pub mod Table
 pub mod Given
-pub mod Wrong

@@ -49,4 +49,5 @@ pub mod Wrong
 pub mod RunsWrong
 pub mod MapsWrong
 pub mod CutsWrong
+pub mod TalliesWrong
 pub mod RunsTried
