@@ -10,14 +10,16 @@
  *   the patch area   one slot of 512 bytes for each block: nothing, or the few bytes that differ;
  *   the full area    whole pages, for blocks that differ in more than a slot can hold.
  *
- * thx_format makes both areas empty. A page is written with thx_write and read back with thx_read,
- * always together with its page in the base. Where the data file has become shorter, thx_cut drops
- * the blocks past its end; thx_highest tells up to which block anything is kept. thx_build checks a
+ * thx_format makes both areas empty. A page is written in two calls: thx_compare holds it against
+ * its page in the base and decides what it takes, nothing, a patch or a full page; thx_carry_out
+ * stores what was decided. In between, the caller may show it or leave it. thx_read reads the page
+ * back, over the same page in the base. Where the data file has become shorter, thx_cut drops the
+ * blocks past its end; thx_highest tells up to which block anything is kept. thx_build checks a
  * whole store and makes a map that tells for each block where its page is. A program that keeps
- * this map lends it to every write and every cut, by thx_write_mapped and thx_cut_mapped, and may
- * then read by it, with thx_read_mapped. thx_show and thx_next look into a slot: where its bytes
- * lie, and what they say. Both areas, the map and all pages are the caller's memory. The library
- * opens no file, allocates nothing and keeps nothing between two calls.
+ * this map lends it to every write and every cut, by thx_carry_out_mapped and thx_cut_mapped, and
+ * may then read by it, with thx_read_mapped. thx_show and thx_next look into a slot: where its
+ * bytes lie, and what they say. Both areas, the map and all pages are the caller's memory. The
+ * library opens no file, allocates nothing and keeps nothing between two calls.
  *
  *
  * LINKING
@@ -28,8 +30,8 @@
  *
  *   cc -I include program.c target/staticlib/libthonxiliko.a -o program
  *
- * A call takes less than 10 KiB of stack. thx_compare, thx_apply and the reads and writes of blocks
- * keep room for a page of zeros there; the others take less than 1 KiB.
+ * A call takes less than 10 KiB of stack. thx_compare, thx_apply and the reads of blocks keep room
+ * for a page of zeros there; the others, carrying out among them, take less than 1 KiB.
  *
  *
  * SIZES (bytes)
@@ -86,6 +88,43 @@
  * one with more than 252 never does.
  *
  *
+ * A WRITE IN TWO CALLS
+ *
+ * thx_compare decides and stores nothing; no area is lent to it. thx_carry_out stores and decides
+ * nothing: it takes the kind, the payload and the page that it is given, and knows no base. This
+ * keeps `page` as a block's page over `base`:
+ *
+ *   uint8_t buffer[THX_PAYLOAD_SIZE];
+ *   thx_compared c = thx_compare(base, base_len, page, page_len, buffer, sizeof buffer);
+ *   thx_written w = {c.number, 0, 0};
+ *   if (c.number == THX_DONE)
+ *       w = thx_carry_out(patch, patch_len, full, full_len, block, c.kind, buffer,
+ *                         c.kind == THX_DIFFERENCE_PATCH ? c.length : 0, page, page_len);
+ *
+ * Between the two, c.kind is what would be stored: with THX_DIFFERENCE_LARGE it would take a full
+ * page. To leave it, do not carry it out. So:
+ *
+ *   - EMPTY is stored if the page equals its base, PATCH if the stream takes at most 504 bytes,
+ *     FULL_REF otherwise. Where the areas and the block are right it is refused with 8 alone, and
+ *     just if it would take a full page and the block is not below m.
+ *   - Read over the same base, the block is then this page.
+ *   - Neither the page nor the buffer may change between the two: nothing is compared again.
+ *   - For LARGE c.length is more than the buffer has. Lend it only for PATCH, as above.
+ *
+ * Two mistakes of a caller cannot be noticed, since what is carried out is sound:
+ *
+ *   1. LENDING THE WHOLE BUFFER. All bytes that are lent are the payload. Where 00 07 stands in a
+ *      buffer of zeros and all 504 bytes are lent, instead of c.length = 2, they are a sound
+ *      payload of 252 entries: the first writes 7 at byte 0, the other 251, each 00 00, write zeros
+ *      at bytes 1 to 251. The answer is number 0, kind 1, length 504, and the block reads as
+ *      another page than was compared, unless bytes 1 to 251 of that were zeros. Other bytes behind
+ *      the stream make other changes, or are refused with 7.
+ *   2. CARRYING OUT A REFUSED COMPARE. With a page of 8,191 bytes it answers 1, and its kind is 0,
+ *      as is every other member. Kind 0 is EMPTY: carried out, it is done, and answers number 0,
+ *      kind 0, length 0. The block is EMPTY then and reads as its base: the page that it held is
+ *      lost, and the new one was never stored. So look at c.number first.
+ *
+ *
  * A MAP THAT IS KEPT
  *
  * A map has two bits for each block, a pair: block b in bits 2 * (b mod 4) and up of byte b / 4.
@@ -94,14 +133,14 @@
  *
  *   - begin with n / 4 bytes, rounded up, of zeros beside areas that were just formatted, or with
  *     the map that thx_build makes of areas that come from elsewhere, from disk for instance;
- *   - lend it to EVERY write from then on, by thx_write_mapped, and to EVERY cut, by
+ *   - lend it to EVERY write from then on, by thx_carry_out_mapped, and to EVERY cut, by
  *     thx_cut_mapped;
  *   - then it is, after each of these writes and cuts, the map that thx_build would make, and
  *     thx_read_mapped answers as thx_read does. A refused one leaves it as it is, and right.
  *
  * Nothing in a map says which store it belongs to or how old it is, and thx_read_mapped trusts it.
- * A single write by thx_write, a thx_cut, a thx_format, a map of another store, or areas put back
- * to an earlier state make it wrong, and a read by it is then mostly not refused:
+ * A single write by thx_carry_out, a thx_cut, a thx_format, a map of another store, or areas put
+ * back to an earlier state make it wrong, and a read by it is then mostly not refused:
  *
  *   pair 0   gives the base, though the block was written: yesterday's page, in silence. The slot
  *            is not looked at.
@@ -122,7 +161,7 @@
  *   - After a cut each block from k on is EMPTY and reads as its base, whatever it held before: a
  *     patch, a full page, a slot that was not sound, stray bytes. Blocks below k keep every byte.
  *   - A block that was cut may be written and read over another base from then on. Only such a
- *     block may: what is kept of any other was made over the base that it was written with.
+ *     block may: what is kept of any other was made over the base that its page was compared with.
  *   - A cut does not shorten the buffers. n and m stay, and a block from k on can be written again
  *     when the table grows. To have shorter areas, cut and then lend the first 512 + 512 * k bytes
  *     of the patch area, the full area with no more than its first k places, and the map as before.
@@ -151,12 +190,14 @@
  *
  *    0  THX_DONE              done
  *    1  THX_BAD_PAGE_LENGTH   a base is not 0 or 8,192 bytes, or another page is not 8,192 bytes
+ *                             (carrying out: the page of a FULL_REF is not)
  *    2  THX_BAD_AREA_LENGTH   the length of an area or slot is none of those above, m is over n, or
  *                             n is over 131,072
  *    3  THX_BAD_HEADER        magic, flags, sizes or zero bytes of a header are wrong
  *    4  THX_BAD_VERSION       the version in a header is wrong
  *    5  THX_BAD_BLOCK         the block is not below n (a cut: k is above n)
- *    6  THX_BAD_SLOT          the slot is not sound (thx_highest: some slot is not)
+ *    6  THX_BAD_SLOT          the slot is not sound (thx_highest: some slot is not; carrying out:
+ *                             the kind is above 2, so that it would make no sound slot)
  *    7  THX_BAD_PAYLOAD       the payload is not sound (thx_next: no entry can be read here)
  *    8  THX_NO_FULL_PAGE      a full page is needed for a block that is not below m
  *    9  THX_SHORT_BUFFER      the payload buffer or the map buffer is too short
@@ -184,7 +225,7 @@
  * Offset. With 7, `offset` is where the first entry that is not sound starts: the place of its jump
  * code (in the long form the byte 255), counted from the payload's first byte. For an empty payload
  * and for one of more than 504 bytes it is 0, whatever the entries are. With any other number, 0
- * (done) too, `offset` is 0.
+ * (done) too, `offset` is 0. Carrying out gives 7 without an offset; thx_apply tells it.
  * Where a payload was damaged, the damage mostly lies before the offset: a wrong jump moves every
  * entry after it, and the payload breaks further on. thx_next steps through it from the beginning.
  *
@@ -192,20 +233,23 @@
  * BUFFERS
  *
  * A buffer is a pointer and its length in bytes. Any length is allowed; a wrong one is refused by
- * its number. Where the length is 0 the pointer is not used and may be anything, NULL too. Else it
- * points to that many bytes, which may lie at any address: nothing needs to be aligned.
+ * its number, unless the call does not look at the buffer at all (see thx_carry_out). Where the
+ * length is 0 the pointer is not used and may be anything, NULL too. Else it points to that many
+ * bytes, which may lie at any address: nothing needs to be aligned.
  *
  * Overlap. A buffer that a call writes (one without const) must not overlap any other buffer of
- * that call. Two buffers that a call only reads may be the same or overlap.
+ * that call. Two buffers that a call only reads may be the same or overlap. So a payload that
+ * thx_show names is copied before it is carried out on the store in which it lies.
  *
  * Threads. Two calls may run at the same time if no buffer that one of them writes is lent to the
  * other, not even a part of it. So calls that only read the same buffers may: for instance two of
- * thx_read on one store, into two pages. Two of thx_write on one store may not, even for different
- * blocks, nor two of thx_write_mapped with one map: four blocks share a byte of it. Nor may a cut
- * beside any other call on its store. The library takes no lock.
+ * thx_read on one store, into two pages. thx_compare is lent no store, so pages may be compared
+ * while others are carried out, into a buffer of their own. Two of thx_carry_out on one store may
+ * not, even for different blocks, nor two of thx_carry_out_mapped with one map: four blocks share a
+ * byte of it. Nor may a cut beside any other call on its store. The library takes no lock.
  *
- * Numbers may be anything that their type holds: a block, a k or an n that is too large is refused,
- * and thx_next takes any place and any position.
+ * Numbers may be anything that their type holds: a block, a k, an n or a kind that is too large is
+ * refused, and thx_next takes any place and any position.
  */
 #ifndef THONXILIKO_H
 #define THONXILIKO_H
@@ -241,12 +285,12 @@ extern "C" {
 #define THX_STRAY_PAGE 10
 #define THX_BAD_PAIR 11
 
-/* Kinds of a slot, in the answers of thx_judge and of the reads and writes. */
+/* Kinds of a slot: in the answers of thx_judge, the reads and carrying out, which is told one. */
 #define THX_KIND_EMPTY 0
 #define THX_KIND_PATCH 1
 #define THX_KIND_FULL 2
 
-/* Kinds of a difference, in the answer of thx_compare; a write makes the slot of that number. */
+/* Kinds of a difference, in the answer of thx_compare; carried out, each makes that slot. */
 #define THX_DIFFERENCE_SAME 0
 #define THX_DIFFERENCE_PATCH 1
 #define THX_DIFFERENCE_LARGE 2
@@ -280,7 +324,8 @@ typedef struct { uint32_t number; uint64_t blocks; } thx_extent; /* the highest 
 thx_done thx_format(uint8_t *patch, size_t patch_len, uint8_t *full, size_t full_len);
 
 /*
- * Compare: the stream of the bytes in which `page` differs from `base`.
+ * Compare: the stream of the bytes in which `page` differs from `base`, and so what the page takes
+ * to be stored. Nothing is stored: thx_carry_out does that. See A WRITE IN TWO CALLS.
  *
  * Refuses, in this order: 1 if base_len is not 0 or 8,192 or page_len is not 8,192; 9 if
  * payload_len is below 504, whatever the stream's length.
@@ -292,6 +337,7 @@ thx_done thx_format(uint8_t *patch, size_t patch_len, uint8_t *full, size_t full
  *                  LARGE;
  *          entries the number of entries in the stream, that is of bytes that differ;
  *          last    the last position that differs, -1 if there is none.
+ * If it is refused, nothing is decided: kind 0 does not mean SAME then.
  */
 thx_compared thx_compare(const uint8_t *base, size_t base_len, const uint8_t *page, size_t page_len,
                          uint8_t *payload, size_t payload_len);
@@ -365,7 +411,7 @@ thx_part thx_show(const uint8_t *patch, size_t patch_len, uint64_t block);
 /*
  * Read: fill `page` with a block: its base, its patched base, or its page in the full area.
  *
- * `base` is the block's page in the base, the same that it was written with.
+ * `base` is the block's page in the base, the same that its page was compared with.
  * Refuses, in this order: 1 if base_len is not 0 or 8,192 or page_len is not 8,192; 2 if the length
  * of an area is wrong; 3 or 4 for the headers; 5 if the block is not below n; 6 if its slot is not
  * sound; 8 if the slot is FULL_REF and the block is not below m; 7 if its payload is not sound.
@@ -380,46 +426,54 @@ thx_reading thx_read(const uint8_t *patch, size_t patch_len, const uint8_t *full
                      size_t page_len);
 
 /*
- * Write: keep `page` as the block's page.
+ * Carry out: store a decision, a kind with its payload or page, on a block.
  *
- * `base` is the block's page in the base. The page is compared with it and not with what was
- * written before; the old slot is not looked at.
- * Refuses, in this order: 1 if base_len is not 0 or 8,192 or page_len is not 8,192; 2 if the length
- * of an area is wrong; 3 or 4 for the headers; 5 if the block is not below n; 8 if the page needs
- * the full area and the block is not below m.
- * Writes: the block's slot; and, if the block is below m, its place in the full area: the page for
+ * The decision is thx_compare's, as a rule: see A WRITE IN TWO CALLS, and the two mistakes there.
+ * It may come from elsewhere: any sound payload is taken, also one that is no page's stream.
+ * Nothing of the old block is looked at, so an old slot that is not sound is replaced as any other.
+ * `kind` is THX_KIND_EMPTY, THX_KIND_PATCH or THX_KIND_FULL. The payload is looked at for PATCH
+ * alone, and is all payload_len bytes; the page is looked at for FULL_REF alone. What is not looked
+ * at refuses nothing, whatever its length and its bytes: NULL and 0 will do.
+ * Refuses, in this order: 1 if the kind is FULL_REF and page_len is not 8,192; 2 if the length of
+ * an area is wrong; 3 or 4 for the headers; 5 if the block is not below n; 6 if the kind is above
+ * 2; 8 if the kind is FULL_REF and the block is not below m; 7 if the kind is PATCH and the payload
+ * is not sound: empty, more than 504 bytes, or not used up by sound entries. No offset is given
+ * with 7.
+ * Writes: the block's slot, which becomes the sound one: zeros for EMPTY, a PATCH slot with this
+ * payload, or FULL_REF; and, if the block is below m, its place in the full area: the page for
  * FULL_REF, zeros otherwise. Nothing else.
- * Answers: kind    stored: EMPTY if the page equals its base, PATCH if the stream takes at most 504
- *                  bytes, else FULL_REF;
- *          length  of the stream as in thx_compare, for FULL_REF too.
+ * Answers: kind    stored, which is the one given;
+ *          length  of the payload for PATCH; 0 for EMPTY and FULL_REF, whatever was lent.
  */
-thx_written thx_write(uint8_t *patch, size_t patch_len, uint8_t *full, size_t full_len,
-                      uint64_t block, const uint8_t *base, size_t base_len, const uint8_t *page,
-                      size_t page_len);
+thx_written thx_carry_out(uint8_t *patch, size_t patch_len, uint8_t *full, size_t full_len,
+                          uint64_t block, uint32_t kind, const uint8_t *payload,
+                          size_t payload_len, const uint8_t *page, size_t page_len);
 
 /*
- * Write with a map: keep `page` as the block's page, and the block's pair in `map`.
+ * Carry out with a map: store a decision on a block, and the block's pair in `map`.
  *
- * The areas and the answer are those of thx_write. `map` is the store's own, lent to every write
- * and every cut: see A MAP THAT IS KEPT.
- * Refuses, in this order: 1 if base_len is not 0 or 8,192 or page_len is not 8,192; 2 if the length
- * of an area is wrong; 9 if map_len is below n / 4, rounded up; 3 or 4 for the headers; 5 if the
- * block is not below n; 8 if the page needs the full area and the block is not below m.
- * Writes: what thx_write writes; then the block's own pair, whatever it was: THX_PAIR_EMPTY,
+ * The areas and the answer are those of thx_carry_out, and so is what is looked at. `map` is the
+ * store's own, lent to every write and every cut: see A MAP THAT IS KEPT.
+ * Refuses, in this order: 1 if the kind is FULL_REF and page_len is not 8,192; 2 if the length of
+ * an area is wrong; 9 if map_len is below n / 4, rounded up; 3 or 4 for the headers; 5 if the block
+ * is not below n; 6 if the kind is above 2; 8 if the kind is FULL_REF and the block is not below m;
+ * 7 if the kind is PATCH and the payload is not sound. No offset is given with 7.
+ * Writes: what thx_carry_out writes; then the block's own pair, whatever it was: THX_PAIR_EMPTY,
  * THX_PAIR_PATCH or THX_PAIR_FULL for the kind stored. Nothing else of the map is looked at or
  * changed: other pairs, unused pairs of the last byte and later bytes stay, a 3 among them too.
- * Answers: kind and length, as in thx_write.
+ * Answers: kind and length, as in thx_carry_out.
  */
-thx_written thx_write_mapped(uint8_t *patch, size_t patch_len, uint8_t *full, size_t full_len,
-                             uint8_t *map, size_t map_len, uint64_t block, const uint8_t *base,
-                             size_t base_len, const uint8_t *page, size_t page_len);
+thx_written thx_carry_out_mapped(uint8_t *patch, size_t patch_len, uint8_t *full, size_t full_len,
+                                 uint8_t *map, size_t map_len, uint64_t block, uint32_t kind,
+                                 const uint8_t *payload, size_t payload_len, const uint8_t *page,
+                                 size_t page_len);
 
 /*
  * Read by the map: fill `page` with a block as its pair in the map says.
  *
  * It trusts the map: with one that missed a write it can give yesterday's page, with one that
  * missed a cut a page of zeros. See A MAP THAT IS KEPT. `base` is the block's page in the base, the
- * same that it was written with.
+ * same that its page was compared with.
  * Refuses, in this order: 1 if base_len is not 0 or 8,192 or page_len is not 8,192; 2 if the length
  * of an area is wrong; 9 if map_len is below n / 4, rounded up; 3 or 4 for the headers; 5 if the
  * block is not below n; 11 if the block's own pair is 3; and then

@@ -7,11 +7,11 @@
  *   block 1   FULL_REF, a page of fives
  *   block 2   EMPTY
  *
- * The base is zeros but for byte 100. Compare and Write get a page by the block: for block 0 the
- * base itself, for block 1 the base with byte 0 changed, for block 2 the fives. So Write changes
- * the kind of every block. A map has the pairs PATCH, full, EMPTY, EMPTY over and over, which is the
- * map of the three blocks. All bytes are set by hand from document 01. A buffer that a call only
- * writes to is full of EE before.
+ * The base is zeros but for byte 100. Compare and carrying out get a page by the block: for block 0
+ * the base itself, for block 1 the base with byte 0 changed, for block 2 the fives. So a FULL_REF
+ * carried out changes the place of every block. A payload has entries 00 07 as far as it goes. A map
+ * has the pairs PATCH, full, EMPTY, EMPTY over and over, which is the map of the three blocks. All
+ * bytes are set by hand from document 01. A buffer that a call only writes to is full of EE before.
  */
 #include "check.h"
 
@@ -34,12 +34,12 @@ static const struct {
     {"thx_judge", BIT(SLOT), 0},
     {"thx_show", BIT(PATCH), 0},
     {"thx_read", BIT(PATCH) | BIT(FULL) | BIT(BASE) | BIT(PAGE), BIT(PAGE)},
-    {"thx_write", BIT(PATCH) | BIT(FULL) | BIT(BASE) | BIT(PAGE), BIT(PATCH) | BIT(FULL)},
+    {"thx_carry_out", BIT(PATCH) | BIT(FULL) | BIT(PAYLOAD) | BIT(PAGE), BIT(PATCH) | BIT(FULL)},
     {"thx_build", BIT(PATCH) | BIT(FULL) | BIT(MAP), BIT(MAP)},
     {"thx_look_up", BIT(MAP), 0},
     {"thx_tally", BIT(MAP), 0},
     {"thx_next", BIT(PAYLOAD), 0},
-    {"thx_write_mapped", BIT(PATCH) | BIT(FULL) | BIT(MAP) | BIT(BASE) | BIT(PAGE),
+    {"thx_carry_out_mapped", BIT(PATCH) | BIT(FULL) | BIT(MAP) | BIT(PAYLOAD) | BIT(PAGE),
      BIT(PATCH) | BIT(FULL) | BIT(MAP)},
     {"thx_read_mapped", BIT(PATCH) | BIT(FULL) | BIT(MAP) | BIT(BASE) | BIT(PAGE), BIT(PAGE)},
     {"thx_cut", BIT(PATCH) | BIT(FULL), BIT(PATCH) | BIT(FULL)},
@@ -53,6 +53,10 @@ int takes(int call, int role) {
 
 int cuts(int call) {
     return call == CUT || call == CUT_MAPPED;
+}
+
+int carries(int call) {
+    return call == CARRY_OUT || call == CARRY_OUT_MAPPED;
 }
 
 static void set_scene(void) {
@@ -88,7 +92,8 @@ ask sound_ask(int call) {
     memset(&a, 0, sizeof a);
     a.call = call;
     memcpy(a.length, sound, sizeof sound);
-    a.length[PAYLOAD] = call == APPLY || call == NEXT ? 2 : 504;
+    a.length[PAYLOAD] = call == COMPARE ? 504 : 2;
+    a.kind = THX_KIND_PATCH;
     a.n = 3;
     a.position = -1;
     return a;
@@ -96,8 +101,8 @@ ask sound_ask(int call) {
 
 /* The bytes that a buffer has before the call, but for those made wrong. */
 static const uint8_t *before(const ask *a, int role) {
-    /* For a write and a cut areas and map hold the store; others that are written hold anything. */
-    int keeps = a->call == WRITE || a->call == WRITE_MAPPED || cuts(a->call);
+    /* Carrying out and cuts find a store in areas and map; others that are written hold anything. */
+    int keeps = carries(a->call) || cuts(a->call);
     if ((calls[a->call].writes & BIT(role)) != 0 && !keeps) {
         return old;
     }
@@ -134,14 +139,14 @@ static answer call_on_areas(const ask *a, uint8_t *const at[ROLES]) {
         thx_reading r = thx_read(at[PATCH], len[PATCH], at[FULL], len[FULL], a->block, at[BASE],
                                  len[BASE], at[PAGE], len[PAGE]);
         return give(r.number, r.kind, r.offset, 0, 0);
-    } else if (a->call == WRITE) {
-        thx_written r = thx_write(at[PATCH], len[PATCH], at[FULL], len[FULL], a->block, at[BASE],
-                                  len[BASE], at[PAGE], len[PAGE]);
+    } else if (a->call == CARRY_OUT) {
+        thx_written r = thx_carry_out(at[PATCH], len[PATCH], at[FULL], len[FULL], a->block, a->kind,
+                                      at[PAYLOAD], len[PAYLOAD], at[PAGE], len[PAGE]);
         return give(r.number, r.kind, r.length, 0, 0);
-    } else if (a->call == WRITE_MAPPED) {
-        thx_written r = thx_write_mapped(at[PATCH], len[PATCH], at[FULL], len[FULL], at[MAP],
-                                         len[MAP], a->block, at[BASE], len[BASE], at[PAGE],
-                                         len[PAGE]);
+    } else if (a->call == CARRY_OUT_MAPPED) {
+        thx_written r = thx_carry_out_mapped(at[PATCH], len[PATCH], at[FULL], len[FULL], at[MAP],
+                                             len[MAP], a->block, a->kind, at[PAYLOAD], len[PAYLOAD],
+                                             at[PAGE], len[PAGE]);
         return give(r.number, r.kind, r.length, 0, 0);
     } else if (a->call == READ_MAPPED) {
         thx_reading r = thx_read_mapped(at[PATCH], len[PATCH], at[FULL], len[FULL], at[MAP],
@@ -197,11 +202,13 @@ static void check_call(int holds, const char *what, const ask *a) {
         const size_t *len = a->length;
         snprintf(text, sizeof text,
                  "%s of %s: patch %lu, full %lu, base %lu, page %lu, payload %lu, map %lu, "
-                 "slot %lu; block %lu, n %lu, at %lu, position %ld; bytes made wrong: %d",
+                 "slot %lu; block %lu, kind %lu, n %lu, at %lu, position %ld; "
+                 "bytes made wrong: %d",
                  what, calls[a->call].name, (unsigned long)len[PATCH], (unsigned long)len[FULL],
                  (unsigned long)len[BASE], (unsigned long)len[PAGE], (unsigned long)len[PAYLOAD],
                  (unsigned long)len[MAP], (unsigned long)len[SLOT], (unsigned long)a->block,
-                 (unsigned long)a->n, (unsigned long)a->at, (long)a->position, a->pokes);
+                 (unsigned long)a->kind, (unsigned long)a->n, (unsigned long)a->at,
+                 (long)a->position, a->pokes);
     }
     check(holds, text, __FILE__, __LINE__);
 }

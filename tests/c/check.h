@@ -3,7 +3,7 @@
  *
  * Most calls are made on one scene, a sound store of three blocks with pages and a map (calls.c).
  * An ask is a call with its lengths and numbers, perhaps with a few bytes made wrong. What an ask
- * without wrong bytes must give is in rules.c, written from document 01 and Requests 02 and 04.
+ * without wrong bytes must give is in rules.c, written from document 01 and Requests 02, 04 and 06.
  */
 #ifndef CHECK_H
 #define CHECK_H
@@ -15,8 +15,8 @@ void check(int holds, const char *what, const char *file, int line);
 #define CHECK(condition) check((condition) ? 1 : 0, #condition, __FILE__, __LINE__)
 
 enum {
-    FORMAT, COMPARE, APPLY, JUDGE, SHOW, READ, WRITE, BUILD, LOOK_UP, TALLY, NEXT,
-    WRITE_MAPPED, READ_MAPPED, CUT, CUT_MAPPED, HIGHEST, CALLS
+    FORMAT, COMPARE, APPLY, JUDGE, SHOW, READ, CARRY_OUT, BUILD, LOOK_UP, TALLY, NEXT,
+    CARRY_OUT_MAPPED, READ_MAPPED, CUT, CUT_MAPPED, HIGHEST, CALLS
 };
 enum { PATCH, FULL, BASE, PAGE, PAYLOAD, MAP, SLOT, ROLES };
 #define BIT(number) (1u << (number))
@@ -32,7 +32,8 @@ typedef struct {
     int call;
     size_t length[ROLES]; /* those of buffers that the call does not take are not used */
     uint64_t n;           /* for Look up and Tally; the others see n in the patch area */
-    uint64_t block;       /* a cut's k; it also chooses Compare's and Write's page, Judge's slot */
+    uint64_t block;       /* a cut's k; it also chooses the page of some calls and Judge's slot */
+    uint32_t kind;        /* for carrying out */
     uint64_t at;          /* for Next */
     int32_t position;     /* for Next */
     uint8_t *nowhere;     /* the pointer lent for a buffer of length 0 */
@@ -47,11 +48,12 @@ typedef struct {
 } answer;
 
 /*
- * calls.c: whether a call takes a buffer; whether it is a cut; a sound ask; a call made, everything
- * about it checked.
+ * calls.c: whether a call takes a buffer; whether it is a cut or carries out; a sound ask; a call
+ * made, everything about it checked.
  */
 int takes(int call, int role);
 int cuts(int call);
+int carries(int call);
 ask sound_ask(int call);
 void try_call(const ask *asked, const answer *wanted);
 
@@ -59,7 +61,23 @@ void try_call(const ask *asked, const answer *wanted);
 answer answer_of(const ask *asked);
 void change(const ask *asked, uint8_t *const bytes[ROLES]);
 
-/* refusals.c, lengths.c, payloads.c, maps.c, tally.c and cuts.c: tests. */
+/* A store lent to a call; without a map where map is NULL. */
+typedef struct {
+    uint8_t *patch;
+    size_t patch_len;
+    uint8_t *full;
+    size_t full_len;
+    uint8_t *map;
+    size_t map_len;
+} store;
+
+/* decisions.c: a decision carried out; a page written by the pair, as the header shows it. */
+thx_written carry_out(const store *to, uint64_t block, uint32_t kind, const uint8_t *payload,
+                      size_t payload_len, const uint8_t *page, size_t page_len);
+thx_written write_by_pair(const store *to, uint64_t block, const uint8_t *base, size_t base_len,
+                          const uint8_t *page, size_t page_len);
+
+/* refusals.c, lengths.c, payloads.c, maps.c, tally.c, cuts.c and decisions.c: tests. */
 void every_refusal(void);
 void every_fault_left(void);
 void every_length(void);
@@ -70,5 +88,6 @@ void every_map(void);
 void every_tally(void);
 void every_cut(void);
 void every_highest(void);
+void every_decision(void);
 
 #endif

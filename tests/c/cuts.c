@@ -169,8 +169,8 @@ static uint8_t zeros[8192], small[8192], fives[8192], nines[8192], page[8192], w
 static const uint8_t *const pages[3] = {zeros, small, fives};
 
 static void write_page(uint64_t block, const uint8_t *base, const uint8_t *as, uint32_t kind) {
-    thx_written r = thx_write_mapped(patch, patch_len, full, full_len, map, 2, block, base, 8192,
-                                     as, 8192);
+    store to = {patch, patch_len, full, full_len, map, 2};
+    thx_written r = write_by_pair(&to, block, base, 8192, as, 8192);
     CHECK(r.number == THX_DONE && r.kind == kind);
 }
 

@@ -77,6 +77,7 @@ static void structs(void) {
 }
 
 static const uint8_t stream[2] = {0x00, 0x07};
+static const store whole = {patch, sizeof patch, full, sizeof full, NULL, 0};
 
 /* Byte 0 of a page of zeros becomes 07: through every call, each member of each answer. */
 static void example_page(void) {
@@ -112,8 +113,8 @@ static void example_block(void) {
     CHECK(thx_format(patch, sizeof patch, full, sizeof full).number == THX_DONE);
     CHECK(memcmp(patch, "PBKPATCH\2", 9) == 0 && memcmp(full, "PBKFULL\0\1", 9) == 0);
 
-    written = thx_write(patch, sizeof patch, full, sizeof full, 1, base, sizeof base, page,
-                        sizeof page);
+    written = thx_carry_out(patch, sizeof patch, full, sizeof full, 1, THX_KIND_PATCH, stream,
+                            sizeof stream, NULL, 0);
     CHECK(written.number == THX_DONE && written.kind == THX_KIND_PATCH && written.length == 2);
 
     judged = thx_judge(patch + 1024, THX_SLOT_SIZE);
@@ -138,9 +139,9 @@ static void example_map(void) {
     thx_tallied tallied;
 
     memset(page, 9, sizeof page);
-    written = thx_write(patch, sizeof patch, full, sizeof full, 0, base, sizeof base, page,
-                        sizeof page);
-    CHECK(written.number == THX_DONE && written.kind == THX_KIND_FULL && written.length == 16384);
+    written = thx_carry_out(patch, sizeof patch, full, sizeof full, 0, THX_KIND_FULL, NULL, 0, page,
+                            sizeof page);
+    CHECK(written.number == THX_DONE && written.kind == THX_KIND_FULL && written.length == 0);
     CHECK(memcmp(full + THX_FULL_HEADER_SIZE, page, sizeof page) == 0);
 
     built = thx_build(patch, sizeof patch, full, sizeof full, map, sizeof map);
@@ -160,14 +161,12 @@ static void example_kept_map(void) {
     thx_reading reading;
 
     CHECK(thx_format(patch, sizeof patch, full, sizeof full).number == THX_DONE);
-    written = thx_write_mapped(patch, sizeof patch, full, sizeof full, kept, sizeof kept, 0, base,
-                               sizeof base, page, sizeof page);
-    CHECK(written.number == THX_DONE && written.kind == THX_KIND_FULL && written.length == 16384);
+    written = thx_carry_out_mapped(patch, sizeof patch, full, sizeof full, kept, sizeof kept, 0,
+                                   THX_KIND_FULL, NULL, 0, page, sizeof page);
+    CHECK(written.number == THX_DONE && written.kind == THX_KIND_FULL && written.length == 0);
     CHECK(kept[0] == 0x01 && memcmp(full + THX_FULL_HEADER_SIZE, page, sizeof page) == 0);
-    memset(again, 0, sizeof again);
-    again[0] = 7;
-    written = thx_write_mapped(patch, sizeof patch, full, sizeof full, kept, sizeof kept, 1, NULL,
-                               0, again, sizeof again);
+    written = thx_carry_out_mapped(patch, sizeof patch, full, sizeof full, kept, sizeof kept, 1,
+                                   THX_KIND_PATCH, stream, sizeof stream, NULL, 0);
     CHECK(written.number == THX_DONE && written.kind == THX_KIND_PATCH && written.length == 2);
     CHECK(kept[0] == 0x09 && memcmp(patch + 1032, stream, 2) == 0);
     map[0] = 0xEE;
@@ -234,6 +233,12 @@ static void overlap(void) {
     reading = thx_read_mapped(patch, sizeof patch, full, sizeof full, base, sizeof base, 1, base,
                               sizeof base, again, sizeof again);
     CHECK(reading.number == THX_DONE && memcmp(again, base, sizeof again) == 0);
+    /* The payload inside the page, and the page as the payload: one of them is looked at. */
+    CHECK(carry_out(&whole, 1, THX_KIND_PATCH, base + 6, 2, base, sizeof base).length == 2);
+    CHECK(memcmp(patch + 1024, "\1\1\2\0\0\0\0\0\0\0", 10) == 0);
+    CHECK(carry_out(&whole, 1, THX_KIND_FULL, page, sizeof page, page, sizeof page).number
+          == THX_DONE);
+    CHECK(memcmp(full + THX_FULL_HEADER_SIZE + THX_PAGE_SIZE, page, sizeof page) == 0);
 }
 
 /* The archive takes each size of the header, and neither a byte less nor a byte more. */
@@ -271,13 +276,14 @@ static void sizes(void) {
 
 /* A patch area of 131,072 blocks, the last of them written; a map of it. */
 static void largest_area(uint8_t *area, size_t length, uint8_t *bits) {
+    store to = {area, length, NULL, 0, NULL, 0};
     thx_part part;
     thx_tallied tallied;
     memset(again, 0, sizeof again);
     again[8191] = 1;
     CHECK(thx_format(area, length, NULL, 0).number == THX_DONE);
-    CHECK(thx_write(area, length, NULL, 0, 131072, NULL, 0, again, 8192).number == THX_BAD_BLOCK);
-    CHECK(thx_write(area, length, NULL, 0, 131071, NULL, 0, again, 8192).length == 4);
+    CHECK(write_by_pair(&to, 131072, NULL, 0, again, 8192).number == THX_BAD_BLOCK);
+    CHECK(write_by_pair(&to, 131071, NULL, 0, again, 8192).length == 4);
     CHECK(memcmp(area + 67108864, "\1\1\4\0\0\0\0\0\xFF\xFF\x1F\1", 12) == 0);
     part = thx_show(area, length, 131071);
     CHECK(part.at == 67108872 && part.len == 4);
@@ -294,13 +300,11 @@ static void largest_area(uint8_t *area, size_t length, uint8_t *bits) {
 
 /* The same area, written with its map and read by it. The map has no byte too many. */
 static void largest_map(uint8_t *area, size_t length, uint8_t *bits) {
-    CHECK(thx_write_mapped(area, length, NULL, 0, bits, 32767, 131070, NULL, 0, again, 8192).number
-          == THX_SHORT_BUFFER);
-    CHECK(thx_write_mapped(area, length, NULL, 0, bits, 32768, 131072, NULL, 0, again, 8192).number
-          == THX_BAD_BLOCK);
+    store to = {area, length, NULL, 0, bits, 32768}, shorter = {area, length, NULL, 0, bits, 32767};
+    CHECK(write_by_pair(&shorter, 131070, NULL, 0, again, 8192).number == THX_SHORT_BUFFER);
+    CHECK(write_by_pair(&to, 131072, NULL, 0, again, 8192).number == THX_BAD_BLOCK);
     CHECK(bits[32767] == 0x80);
-    CHECK(thx_write_mapped(area, length, NULL, 0, bits, 32768, 131070, NULL, 0, again, 8192).length
-          == 4);
+    CHECK(write_by_pair(&to, 131070, NULL, 0, again, 8192).length == 4);
     CHECK(bits[0] == 0 && memcmp(bits, bits + 1, 32766) == 0 && bits[32767] == 0xA0);
     memset(page, 0xEE, sizeof page);
     CHECK(thx_read_mapped(area, length, NULL, 0, bits, 32767, 131070, NULL, 0, page, 8192).number
@@ -315,6 +319,7 @@ static void largest_map(uint8_t *area, size_t length, uint8_t *bits) {
 
 /* The same area cut at its end, before its last block and at its beginning; its highest block. */
 static void largest_cut(uint8_t *area, size_t length, uint8_t *bits) {
+    store to = {area, length, NULL, 0, NULL, 0};
     CHECK(thx_highest(area, length).blocks == 131072);
     CHECK(thx_cut(area, length, NULL, 0, 131073).number == THX_BAD_BLOCK);
     CHECK(thx_cut(area, length, NULL, 0, 131072).number == THX_DONE);
@@ -334,7 +339,7 @@ static void largest_cut(uint8_t *area, size_t length, uint8_t *bits) {
     CHECK(area[512] == 0 && memcmp(area + 512, area + 513, length - 513) == 0);
     CHECK(thx_highest(area, length).number == THX_DONE);
     CHECK(thx_highest(area, length).blocks == 0);
-    CHECK(thx_write(area, length, NULL, 0, 131071, NULL, 0, again, 8192).length == 4);
+    CHECK(write_by_pair(&to, 131071, NULL, 0, again, 8192).length == 4);
     CHECK(thx_highest(area, length).blocks == 131072);
 }
 
@@ -344,11 +349,11 @@ static void too_large_area(uint8_t *area, size_t length, uint8_t *bits) {
     CHECK(part.at == 0 && part.len == 0);
     CHECK(thx_read(area, length, NULL, 0, 131071, NULL, 0, page, 8192).number
           == THX_BAD_AREA_LENGTH);
-    CHECK(thx_write(area, length, NULL, 0, 131071, NULL, 0, page, 8192).number
+    CHECK(thx_carry_out(area, length, NULL, 0, 131071, 0, NULL, 0, NULL, 0).number
           == THX_BAD_AREA_LENGTH);
     CHECK(thx_build(area, length, NULL, 0, bits, 32768).number == THX_BAD_AREA_LENGTH);
     /* n is too large before the map is too short for it. */
-    CHECK(thx_write_mapped(area, length, NULL, 0, bits, 32768, 0, NULL, 0, page, 8192).number
+    CHECK(thx_carry_out_mapped(area, length, NULL, 0, bits, 32768, 0, 0, NULL, 0, NULL, 0).number
           == THX_BAD_AREA_LENGTH);
     CHECK(thx_read_mapped(area, length, NULL, 0, bits, 32768, 0, NULL, 0, page, 8192).number
           == THX_BAD_AREA_LENGTH);
@@ -399,6 +404,7 @@ int main(void) {
         every_tally();
         every_cut();
         every_highest();
+        every_decision();
     }
     printf("%lu checks, %lu failed\n", checks, failures);
     return failures == 0 ? EXIT_SUCCESS : EXIT_FAILURE;

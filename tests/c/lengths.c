@@ -28,6 +28,41 @@ static void sweep(ask a, int role) {
     }
 }
 
+/* One buffer of a call, the others being right, with the full area and without it. */
+static void sweeps(ask a, int role) {
+    sweep(a, role);
+    if (takes(a.call, MAP) && takes(a.call, PATCH) && role == PATCH) {
+        ask longer = a; /* enough for every length of the patch area */
+        longer.length[MAP] = 20;
+        sweep(longer, role);
+    }
+    if (takes(a.call, FULL) && role != FULL) {
+        ask without = a;
+        without.length[FULL] = 0;
+        sweep(without, role);
+    }
+}
+
+/*
+ * Carrying out: each buffer with each kind on one block or another. Of the payload, which PATCH alone
+ * looks at, and of the page, which FULL_REF alone looks at, every length with every kind on every
+ * block, and with kinds above 2.
+ */
+static void sweep_kinds(ask a, int role) {
+    for (a.kind = 0; a.kind < 3; a.kind++) {
+        a.block = (a.kind + (uint32_t)role) % 3;
+        sweeps(a, role);
+        for (a.block = 0; a.block < 3 && (role == PAYLOAD || role == PAGE); a.block++) {
+            sweep(a, role);
+        }
+    }
+    a.block = 1;
+    a.kind = 3;
+    sweep(a, role);
+    a.kind = UINT32_MAX;
+    sweep(a, role);
+}
+
 /* Each buffer of each call in turn, the others being right, with the full area and without it. */
 void every_length(void) {
     int call, role;
@@ -35,21 +70,12 @@ void every_length(void) {
         for (role = 0; role < ROLES; role++) {
             ask a = sound_ask(call);
             a.n = 2000; /* so Look up and Tally want a map of 500 bytes */
-            if (!takes(call, role)) {
-                continue;
-            }
-            /* A cut at 3, which is n, changes nothing and is refused as any other. */
-            for (a.block = 0; a.block < (cuts(call) ? 4u : 3u); a.block++) {
-                sweep(a, role);
-                if (takes(call, MAP) && takes(call, PATCH) && role == PATCH) {
-                    ask longer = a; /* enough for every length of the patch area */
-                    longer.length[MAP] = 20;
-                    sweep(longer, role);
-                }
-                if (takes(call, FULL) && role != FULL) {
-                    ask without = a;
-                    without.length[FULL] = 0;
-                    sweep(without, role);
+            if (takes(call, role) && carries(call)) {
+                sweep_kinds(a, role);
+            } else if (takes(call, role)) {
+                /* A cut at 3, which is n, changes nothing and is refused as any other. */
+                for (a.block = 0; a.block < (cuts(call) ? 4u : 3u); a.block++) {
+                    sweeps(a, role);
                 }
             }
         }
@@ -96,7 +122,7 @@ static const uint64_t numbers[] = {
 };
 #define NUMBERS (sizeof numbers / sizeof numbers[0])
 
-/* Every buffer is NULL. */
+/* Every buffer is NULL. Of kinds, where they are told, all four sorts come up with every block. */
 static void no_buffers(int call) {
     ask a = sound_ask(call);
     size_t n, block;
@@ -105,6 +131,7 @@ static void no_buffers(int call) {
         for (block = 0; block < NUMBERS; block++) {
             a.n = numbers[n];
             a.block = numbers[block];
+            a.kind = (uint32_t)n % 4;
             try_by_rules(&a);
         }
     }
@@ -162,6 +189,13 @@ static void blocks_of_a_mapped_store(ask a) {
     }
 }
 
+/* Kinds 0, 1 and 2 and one above, in as many stores as any other call is tried on. */
+static void every_kind(ask a, void (*blocks)(ask)) {
+    for (a.kind = 0; a.kind <= 3; a.kind++) {
+        blocks(a);
+    }
+}
+
 void every_number(void) {
     int call;
     for (call = 0; call < CALLS; call++) {
@@ -169,14 +203,18 @@ void every_number(void) {
         no_buffers(call);
         if (call == LOOK_UP || call == TALLY) {
             blocks_of_a_map(a);
-        } else if (call == SHOW || call == READ || call == WRITE) {
+        } else if (call == SHOW || call == READ) {
             blocks_of_a_store(a);
             a.length[BASE] = 0;
             blocks_of_a_store(a);
-        } else if (call == WRITE_MAPPED || call == READ_MAPPED) {
+        } else if (call == READ_MAPPED) {
             blocks_of_a_mapped_store(a);
             a.length[BASE] = 0;
             blocks_of_a_mapped_store(a);
+        } else if (call == CARRY_OUT) {
+            every_kind(a, blocks_of_a_store);
+        } else if (call == CARRY_OUT_MAPPED) {
+            every_kind(a, blocks_of_a_mapped_store);
         } else if (call == CUT) {
             blocks_of_a_store(a);
         } else if (call == CUT_MAPPED) {

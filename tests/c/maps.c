@@ -11,9 +11,9 @@ static uint8_t patch[512 + 512 * BLOCKS], full[4096 + 8192 * BLOCKS];
 static uint8_t patch_after[sizeof patch], full_after[sizeof full];
 static uint8_t zeros[8192], small[8192], fives[8192], page[8192], wanted[8192];
 
-/* EMPTY, PATCH and FULL_REF over a base of zeros, and the pair of each. */
+/* EMPTY, PATCH and FULL_REF over a base of zeros; the payload's length and the pair of each. */
 static const uint8_t *const pages[3] = {zeros, small, fives};
-static const uint32_t lengths[3] = {0, 2, 16384};
+static const uint32_t lengths[3] = {0, 2, 0};
 static const unsigned kind_pairs[3] = {0, 2, 1};
 
 /* A fresh store of n blocks and as many places; the lengths of its areas. */
@@ -33,9 +33,10 @@ static unsigned pair_of(uint8_t byte, unsigned which) {
     return rest % 4;
 }
 
-static thx_written write_mapped(uint8_t *map, size_t map_len, uint64_t block, const uint8_t *as) {
-    return thx_write_mapped(patch, patch_len, full, full_len, map, map_len, block, NULL, 0, as,
-                            8192);
+/* A page written by the pair, over a base of zeros. */
+static thx_written write_page(uint8_t *map, size_t map_len, uint64_t block, const uint8_t *as) {
+    store to = {patch, patch_len, full, full_len, map, map_len};
+    return write_by_pair(&to, block, NULL, 0, as, 8192);
 }
 
 /* What each kind makes of the byte of blocks 0 to 5, where it was 00 and where it was FF. */
@@ -48,12 +49,13 @@ static const struct {
     {1, {0x00, 0x02, 0x01}, {0xFC, 0xFE, 0xFD}}, {1, {0x00, 0x08, 0x04}, {0xF3, 0xFB, 0xF7}},
 };
 
-/* Each kind into each block: both areas as thx_write leaves them, one byte of the map, no other. */
+/* Each kind into each block: both areas as without a map, one byte of the map, no other. */
 static void own_pairs(void) {
     unsigned block, kind, ff;
     for (block = 0; block < BLOCKS; block++) {
         for (kind = 0; kind < 3; kind++) {
             for (ff = 0; ff < 2; ff++) {
+                store without = {patch_after, sizeof patch, full_after, sizeof full, NULL, 0};
                 uint8_t map[4], after[4];
                 thx_written r;
                 memset(map, ff ? 0xFF : 0x00, sizeof map);
@@ -62,10 +64,9 @@ static void own_pairs(void) {
                 fresh(BLOCKS);
                 memcpy(patch_after, patch, sizeof patch);
                 memcpy(full_after, full, sizeof full);
-                r = thx_write(patch_after, patch_len, full_after, full_len, block, NULL, 0,
-                              pages[kind], 8192);
-                CHECK(r.number == THX_DONE && r.kind == kind);
-                r = write_mapped(map, sizeof map, block, pages[kind]);
+                r = write_by_pair(&without, block, NULL, 0, pages[kind], 8192);
+                CHECK(r.number == THX_DONE && r.kind == kind && r.length == lengths[kind]);
+                r = write_page(map, sizeof map, block, pages[kind]);
                 CHECK(r.number == THX_DONE && r.kind == kind && r.length == lengths[kind]);
                 CHECK(memcmp(map, after, sizeof map) == 0);
                 CHECK(memcmp(patch, patch_after, sizeof patch) == 0);
@@ -91,7 +92,7 @@ static void a_run(void) {
     uint64_t block;
     fresh(BLOCKS);
     for (k = 0; k < sizeof run / sizeof run[0]; k++) {
-        CHECK(write_mapped(map, sizeof map, run[k].block, pages[run[k].kind]).kind == run[k].kind);
+        CHECK(write_page(map, sizeof map, run[k].block, pages[run[k].kind]).kind == run[k].kind);
         CHECK(memcmp(map, run[k].map, sizeof map) == 0);
     }
     CHECK(thx_build(patch, patch_len, full, full_len, built, sizeof built).number == THX_DONE);
@@ -109,10 +110,13 @@ static void a_run(void) {
     }
 }
 
-/* A refused write leaves every byte of the map, and of both areas. */
-static void left(uint32_t number, size_t map_len, uint64_t block, size_t base_len,
-                 const uint8_t *as) {
-    static const uint8_t bytes[3] = {0x00, 0xFF, 0x2D};
+/*
+ * A decision that is refused leaves every byte of the map, and of both areas. The payload, 00 07 and
+ * zeros, and the page of fives are lent with it, as far as their lengths say.
+ */
+static void left(uint32_t number, size_t map_len, uint64_t block, uint32_t kind, size_t payload_len,
+                 size_t page_len) {
+    static const uint8_t bytes[3] = {0x00, 0xFF, 0x2D}, payload[506] = {0x00, 0x07};
     unsigned k;
     for (k = 0; k < 3; k++) {
         uint8_t map[3], before[3];
@@ -121,8 +125,8 @@ static void left(uint32_t number, size_t map_len, uint64_t block, size_t base_le
         memcpy(before, map, sizeof map);
         memcpy(patch_after, patch, sizeof patch);
         memcpy(full_after, full, sizeof full);
-        r = thx_write_mapped(patch, patch_len, full, full_len, map, map_len, block, zeros, base_len,
-                             as, 8192);
+        r = thx_carry_out_mapped(patch, patch_len, full, full_len, map, map_len, block, kind,
+                                 payload, payload_len, fives, page_len);
         CHECK(r.number == number && r.kind == 0 && r.length == 0);
         CHECK(memcmp(map, before, sizeof map) == 0);
         CHECK(memcmp(patch, patch_after, sizeof patch) == 0);
@@ -132,20 +136,27 @@ static void left(uint32_t number, size_t map_len, uint64_t block, size_t base_le
 
 static void refused_writes(void) {
     fresh(BLOCKS);
-    left(THX_BAD_PAGE_LENGTH, 1, 9, 8191, fives);
-    left(THX_SHORT_BUFFER, 1, 0, 8192, small);
-    left(THX_SHORT_BUFFER, 0, 0, 8192, small);
-    left(THX_BAD_BLOCK, 2, 6, 8192, fives);
-    left(THX_BAD_BLOCK, 2, UINT64_C(1) << 55, 8192, fives);
+    left(THX_BAD_PAGE_LENGTH, 1, 9, 2, 2, 8191);
+    left(THX_SHORT_BUFFER, 1, 0, 1, 2, 8191); /* a PATCH asks for no page */
+    left(THX_SHORT_BUFFER, 0, 0, 0, 0, 0);
+    left(THX_BAD_BLOCK, 2, 6, 2, 2, 8192);
+    left(THX_BAD_BLOCK, 2, UINT64_C(1) << 55, 3, 0, 0);
+    left(THX_BAD_SLOT, 2, 5, 3, 0, 0);
+    left(THX_BAD_SLOT, 2, 0, UINT32_MAX, 2, 8192);
+    left(THX_BAD_PAYLOAD, 2, 0, 1, 0, 8192);
+    left(THX_BAD_PAYLOAD, 2, 5, 1, 3, 8192);
+    left(THX_BAD_PAYLOAD, 2, 5, 1, 505, 0);
+    left(THX_BAD_PAYLOAD, 2, 5, 1, 506, 0);
     full_len = 4096 + 8192; /* one place */
-    left(THX_NO_FULL_PAGE, 2, 1, 8192, fives);
-    left(THX_NO_FULL_PAGE, 2, 5, 8192, fives);
-    left(THX_NO_FULL_PAGE, 3, 5, 8192, fives);
+    left(THX_NO_FULL_PAGE, 2, 1, 2, 0, 8192);
+    left(THX_NO_FULL_PAGE, 2, 5, 2, 3, 8192);
+    left(THX_NO_FULL_PAGE, 3, 5, 2, 506, 8192);
     patch[8] = 1;
-    left(THX_BAD_VERSION, 2, 9, 8192, fives);
-    left(THX_SHORT_BUFFER, 1, 9, 8192, fives); /* the map's length before the headers */
+    left(THX_BAD_VERSION, 2, 9, 3, 0, 0);
+    left(THX_SHORT_BUFFER, 1, 9, 2, 2, 8192); /* the map's length before the headers */
     full_len++;
-    left(THX_BAD_AREA_LENGTH, 1, 9, 8192, fives); /* and after the areas' */
+    left(THX_BAD_AREA_LENGTH, 1, 9, 1, 0, 8192); /* and after the areas' */
+    left(THX_BAD_PAGE_LENGTH, 1, 9, 2, 2, 8193); /* which come after a FULL_REF's page */
 }
 
 /* Every byte of a map, for three blocks, whose fourth pair is unused, and for four. */
@@ -158,7 +169,7 @@ static void every_write(void) {
                 for (kind = 0; kind < 3; kind++) {
                     uint8_t map[2];
                     map[0] = map[1] = (uint8_t)byte;
-                    CHECK(write_mapped(map, sizeof map, block, pages[kind]).kind == kind);
+                    CHECK(write_page(map, sizeof map, block, pages[kind]).kind == kind);
                     CHECK(map[1] == byte);
                     for (pair = 0; pair < 4; pair++) {
                         CHECK(pair_of(map[0], pair) == (pair == block

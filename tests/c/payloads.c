@@ -1,7 +1,7 @@
 /*
  * Payloads worked by hand: their entries, and where they break. Each is read by thx_next from its
- * beginning to its end or stop and two steps further, applied, and put into a slot to be read, read
- * by a map and built. Then every 16-bit jump, where the rule is counted out here.
+ * beginning to its end or stop and two steps further, applied, put into a slot to be read, read by a
+ * map and built, and carried out. Then every 16-bit jump, where the rule is counted out here.
  */
 #include "check.h"
 
@@ -177,6 +177,30 @@ static void read_and_build(const worked *w, size_t base_len) {
     HOLDS(built.block == (sound ? 0u : 1u) && map == (sound ? patch_pair : 0xEE));
 }
 
+/* The payload carried out over a slot that is not sound: taken as it is, or refused with 7 alone. */
+static void carry(const worked *w) {
+    static uint8_t patch[1536], wanted[1536];
+    store to = {patch, sizeof patch, NULL, 0, NULL, 0};
+    int sound = w->breaks_at == SOUND;
+    thx_written r;
+    if (patch[0] == 0) {
+        HOLDS(thx_format(patch, sizeof patch, NULL, 0).number == THX_DONE);
+    }
+    memset(patch + 512, 0xEE, 1024);
+    memcpy(wanted, patch, sizeof patch);
+    if (sound) {
+        memset(wanted + 512, 0, 512);
+        wanted[512] = 1;
+        wanted[513] = 1;
+        wanted[514] = (uint8_t)w->length;
+        memcpy(wanted + 520, w->bytes, w->length);
+    }
+    r = carry_out(&to, 0, THX_KIND_PATCH, w->bytes, w->length, NULL, 0);
+    HOLDS(r.number == number_of(w) && r.kind == (sound ? THX_KIND_PATCH : 0u));
+    HOLDS(r.length == (sound ? w->length : 0u));
+    HOLDS(memcmp(patch, wanted, sizeof patch) == 0);
+}
+
 /*
  * FF, a 16-bit jump and a value, alone or after the entry 00 01. By the rule it is sound if the
  * jump is 255 or more and stays in the page.
@@ -216,6 +240,7 @@ static void every_long_entry(void) {
             read_through(&w);
             apply(&w, sizeof base);
             spell(&w);
+            carry(&w);
             if (in_a_slot(jump, before)) {
                 read_and_build(&w, sizeof base);
             }
@@ -249,6 +274,7 @@ void every_payload(void) {
         apply(&payloads[k], 0);
         apply(&payloads[k], sizeof base);
         spell(&payloads[k]);
+        carry(&payloads[k]);
         if (payloads[k].length != 0) {
             read_and_build(&payloads[k], 0);
             read_and_build(&payloads[k], sizeof base);

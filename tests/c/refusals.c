@@ -6,14 +6,14 @@
 
 #include <string.h>
 
-enum { LENGTH, BYTE, COUNT, BLOCK, PLACE, POSITION, SHORT_JUMP };
+enum { LENGTH, BYTE, COUNT, BLOCK, KIND, PLACE, POSITION, SHORT_JUMP };
 
 typedef struct {
     unsigned calls;
     uint32_t number, paper;
-    int sort;       /* what is wrong: a length, a byte, n, the block, a reader's start or an entry */
+    int sort;       /* what is wrong: a length, a byte, n, block, kind, a reader's start, an entry */
     int role;       /* the buffer, for a length, a byte and an entry */
-    size_t at;      /* the length, the place of the byte or entry, n, a reader's place or position */
+    size_t at;      /* length, place of the byte or entry, n, kind, a reader's place or position */
     uint8_t value;  /* the byte */
     uint64_t block; /* the block asked for or, with Build, at fault */
     int64_t offset; /* where the payload breaks */
@@ -22,23 +22,28 @@ typedef struct {
 /* The block does not matter. */
 #define ANY UINT64_MAX
 
-#define MAPPED (BIT(WRITE_MAPPED) | BIT(READ_MAPPED))
-#define PAGES (BIT(COMPARE) | BIT(APPLY) | BIT(READ) | BIT(WRITE) | MAPPED)
-#define CUTS (BIT(CUT) | BIT(CUT_MAPPED))
-#define AREAS (BIT(READ) | BIT(WRITE) | BIT(BUILD) | MAPPED | CUTS)
-#define PATCHES (AREAS | BIT(SHOW) | BIT(HIGHEST))
-#define BLOCKS (BIT(SHOW) | BIT(READ) | BIT(WRITE) | MAPPED)
-#define SLOTS (BIT(SHOW) | BIT(READ) | BIT(BUILD) | BIT(HIGHEST))
 #define READS (BIT(READ) | BIT(READ_MAPPED))
+#define CARRIES (BIT(CARRY_OUT) | BIT(CARRY_OUT_MAPPED))
+#define MAPPED (BIT(CARRY_OUT_MAPPED) | BIT(READ_MAPPED))
+#define BASES (BIT(COMPARE) | BIT(APPLY) | READS)
+#define CUTS (BIT(CUT) | BIT(CUT_MAPPED))
+#define AREAS (READS | CARRIES | BIT(BUILD) | CUTS)
+#define PATCHES (AREAS | BIT(SHOW) | BIT(HIGHEST))
+#define BLOCKS (BIT(SHOW) | READS | CARRIES)
+#define SLOTS (BIT(SHOW) | BIT(READ) | BIT(BUILD) | BIT(HIGHEST))
 #define MAPS (BIT(LOOK_UP) | BIT(TALLY))
+#define PAYLOADS (BIT(APPLY) | CARRIES)
 
 /*
  * In the order of document 01: of two rows for one call the upper one is given. A read by the map
- * gives 11 after 5. Where the map says PATCH, as of block 0, its 6 and 7 are Read's.
+ * gives 11 after 5. Where the map says PATCH, as of block 0, its 6 and 7 are Read's. What is carried
+ * out is of the kind with which the row's number can be given; see spoil.
  */
 static const row rows[] = {
-    {PAGES, THX_BAD_PAGE_LENGTH, 1, LENGTH, BASE, 8191, 0, ANY, 0},
-    {PAGES, THX_BAD_PAGE_LENGTH, 1, LENGTH, PAGE, 8191, 0, ANY, 0},
+    {BASES, THX_BAD_PAGE_LENGTH, 1, LENGTH, BASE, 8191, 0, ANY, 0},
+    {BASES | CARRIES, THX_BAD_PAGE_LENGTH, 1, LENGTH, PAGE, 8191, 0, ANY, 0},
+    {BASES | CARRIES, THX_BAD_PAGE_LENGTH, 1, LENGTH, PAGE, 8193, 0, ANY, 0},
+    {BASES | CARRIES, THX_BAD_PAGE_LENGTH, 1, LENGTH, PAGE, 0, 0, ANY, 0}, /* no page of zeros */
     {PATCHES | BIT(FORMAT), THX_BAD_AREA_LENGTH, 2, LENGTH, PATCH, 2047, 0, ANY, 0},
     {AREAS | BIT(FORMAT), THX_BAD_AREA_LENGTH, 2, LENGTH, FULL, 4095, 0, ANY, 0},
     {AREAS | BIT(FORMAT), THX_BAD_AREA_LENGTH, 2, LENGTH, FULL, 36864, 0, ANY, 0}, /* m over n */
@@ -58,9 +63,17 @@ static const row rows[] = {
     {AREAS, THX_BAD_HEADER, 3, BYTE, FULL, 13, 0, ANY, 0},
     {AREAS, THX_BAD_HEADER, 3, BYTE, FULL, 17, 2, ANY, 0},
     {AREAS, THX_BAD_HEADER, 3, BYTE, FULL, 4095, 1, ANY, 0},
-    {BLOCKS, THX_BAD_BLOCK, 5, BLOCK, 0, 0, 0, 5, 0}, /* a large page */
-    {BIT(LOOK_UP) | MAPPED, THX_BAD_BLOCK, 5, BLOCK, 0, 0, 0, 3, 0},
+    {BLOCKS, THX_BAD_BLOCK, 5, BLOCK, 0, 0, 0, 5, 0},
+    {BIT(LOOK_UP) | BLOCKS, THX_BAD_BLOCK, 5, BLOCK, 0, 0, 0, 3, 0},
     {CUTS, THX_BAD_BLOCK, 5, BLOCK, 0, 0, 0, 4, 0}, /* k above n; k = 3 is none */
+    {CARRIES, THX_BAD_SLOT, 6, KIND, 0, 3, 0, ANY, 0},
+    {CARRIES, THX_BAD_SLOT, 6, KIND, 0, 255, 0, ANY, 0},
+    {CARRIES, THX_BAD_SLOT, 6, KIND, 0, 256, 0, ANY, 0}, /* 0, 1 and 2 if cut to a byte */
+    {CARRIES, THX_BAD_SLOT, 6, KIND, 0, 257, 0, ANY, 0},
+    {CARRIES, THX_BAD_SLOT, 6, KIND, 0, 258, 0, ANY, 0},
+    {CARRIES, THX_BAD_SLOT, 6, KIND, 0, 0x80000000, 0, ANY, 0},
+    {CARRIES, THX_BAD_SLOT, 6, KIND, 0, 0x80000001, 0, ANY, 0},
+    {CARRIES, THX_BAD_SLOT, 6, KIND, 0, 0xFFFFFFFF, 0, ANY, 0},
     {BIT(READ_MAPPED), THX_BAD_PAIR, 11, BYTE, MAP, 0, 0x07, 0, 0},
     {BIT(READ_MAPPED), THX_BAD_PAIR, 11, BYTE, MAP, 0, 0x0E, 1, 0},
     {BIT(READ_MAPPED), THX_BAD_PAIR, 11, BYTE, MAP, 0, 0x36, 2, 0},
@@ -78,11 +91,14 @@ static const row rows[] = {
     {SLOTS, THX_BAD_SLOT, 6, BYTE, PATCH, 1535, 1, 1, 0},
     {SLOTS, THX_BAD_SLOT, 6, BYTE, PATCH, 1536, 4, 2, 0},
     {READS | BIT(BUILD), THX_NO_FULL_PAGE, 8, LENGTH, FULL, 12288, 0, 1, 0},
-    {BIT(WRITE) | BIT(WRITE_MAPPED), THX_NO_FULL_PAGE, 8, LENGTH, FULL, 20480, 0, 2, 0},
-    {BIT(APPLY), THX_BAD_PAYLOAD, 7, LENGTH, PAYLOAD, 505, 0, 0, 0},
-    {BIT(APPLY), THX_BAD_PAYLOAD, 7, BYTE, PAYLOAD, 0, 255, 0, 0}, /* ends inside its entry */
-    {BIT(APPLY), THX_BAD_PAYLOAD, 7, SHORT_JUMP, PAYLOAD, 0, 0, 0, 0},
-    {BIT(APPLY), THX_BAD_PAYLOAD, 7, LENGTH, PAYLOAD, 3, 0, 0, 2}, /* ends inside the next entry */
+    {CARRIES, THX_NO_FULL_PAGE, 8, LENGTH, FULL, 20480, 0, 2, 0},
+    {CARRIES, THX_NO_FULL_PAGE, 8, LENGTH, FULL, 4096, 0, 0, 0}, /* a full area without a place */
+    {PAYLOADS, THX_BAD_PAYLOAD, 7, LENGTH, PAYLOAD, 0, 0, 0, 0},
+    {PAYLOADS, THX_BAD_PAYLOAD, 7, LENGTH, PAYLOAD, 505, 0, 0, 0},
+    {PAYLOADS, THX_BAD_PAYLOAD, 7, LENGTH, PAYLOAD, 506, 0, 0, 0}, /* entries, but too many */
+    {PAYLOADS, THX_BAD_PAYLOAD, 7, BYTE, PAYLOAD, 0, 255, 0, 0}, /* ends inside its entry */
+    {PAYLOADS, THX_BAD_PAYLOAD, 7, SHORT_JUMP, PAYLOAD, 0, 0, 0, 0},
+    {PAYLOADS, THX_BAD_PAYLOAD, 7, LENGTH, PAYLOAD, 3, 0, 0, 2}, /* ends inside the next entry */
     {READS | BIT(BUILD), THX_BAD_PAYLOAD, 7, BYTE, PATCH, 520, 255, 0, 0},
     {READS | BIT(BUILD), THX_BAD_PAYLOAD, 7, SHORT_JUMP, PATCH, 520, 0, 0, 0},
     {READS | BIT(BUILD), THX_BAD_PAYLOAD, 7, BYTE, PATCH, 514, 3, 0, 2}, /* payload length 3 */
@@ -121,9 +137,20 @@ static void short_jump(ask *a, const row *r) {
     }
 }
 
+/*
+ * Makes an ask wrong. To be refused with 1 and 8 a FULL_REF is carried out, with 7 a PATCH; a later
+ * call for another row may change that, and then what was made wrong here is not looked at.
+ */
 static void spoil(ask *a, const row *r) {
     if (r->block != ANY) {
         a->block = r->block;
+    }
+    if (r->sort == KIND) {
+        a->kind = (uint32_t)r->at;
+    } else if (r->number == THX_BAD_PAGE_LENGTH || r->number == THX_NO_FULL_PAGE) {
+        a->kind = THX_KIND_FULL;
+    } else if (r->number == THX_BAD_PAYLOAD) {
+        a->kind = THX_KIND_PATCH;
     }
     if (r->sort == LENGTH) {
         a->length[r->role] = r->at;
@@ -187,26 +214,34 @@ void every_refusal(void) {
     }
 }
 
+/* An ask made wrong in what the call does not look at: done, for each block and, if told one, kind. */
+static void try_done(int call, const row *r) {
+    uint32_t kinds = carries(call) ? 3 : 1;
+    ask a = sound_ask(call);
+    spoil(&a, r);
+    for (a.block = 0; a.block <= (cuts(call) ? 3u : 2u); a.block++) {
+        for (a.kind = 0; a.kind < kinds; a.kind++) {
+            answer wanted = answer_of(&a);
+            CHECK(wanted.number == THX_DONE);
+            try_call(&a, &wanted);
+        }
+    }
+}
+
 /*
  * What a call does not look at is no fault. A cut is done whatever the slots, payloads, places and
  * pairs are, in the blocks that it drops and in those that it keeps; highest is done whatever the
- * payloads are.
+ * payloads are; carrying out whatever the slots, places and pairs are, its own block's and others.
  */
 void every_fault_left(void) {
-    static const int calls[] = {CUT, CUT_MAPPED, HIGHEST};
+    static const int calls[] = {CUT, CUT_MAPPED, HIGHEST, CARRY_OUT, CARRY_OUT_MAPPED};
     size_t call, at;
-    for (call = 0; call < 3; call++) {
+    for (call = 0; call < sizeof calls / sizeof calls[0]; call++) {
         for (at = 0; at < ROWS; at++) {
             const row *r = &rows[at];
-            int byte = r->sort == BYTE || r->sort == SHORT_JUMP;
+            int byte = (r->sort == BYTE || r->sort == SHORT_JUMP) && r->role != PAYLOAD;
             if (byte && takes(calls[call], r->role) && (r->calls & BIT(calls[call])) == 0) {
-                ask a = sound_ask(calls[call]);
-                spoil(&a, r);
-                for (a.block = 0; a.block <= 3; a.block++) {
-                    answer wanted = answer_of(&a);
-                    CHECK(wanted.number == THX_DONE);
-                    try_call(&a, &wanted);
-                }
+                try_done(calls[call], r);
             }
         }
     }

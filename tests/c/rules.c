@@ -55,10 +55,6 @@ static int reads(int call) {
     return call == READ || call == READ_MAPPED;
 }
 
-static int writes(int call) {
-    return call == WRITE || call == WRITE_MAPPED;
-}
-
 /* How many blocks there are: as told, or seen in the patch area. */
 static uint64_t blocks(const ask *a) {
     return takes(a->call, PATCH) ? (a->length[PATCH] - 512) / 512 : a->n;
@@ -75,7 +71,9 @@ static uint32_t length_refusal(const ask *a) {
     if (takes(a->call, BASE) && len[BASE] != 0 && len[BASE] != 8192) {
         return THX_BAD_PAGE_LENGTH;
     }
-    if (takes(a->call, PAGE) && len[PAGE] != 8192) {
+    /* Carrying out looks at the page for FULL_REF alone. */
+    if (takes(a->call, PAGE) && len[PAGE] != 8192
+        && (!carries(a->call) || a->kind == THX_KIND_FULL)) {
         return THX_BAD_PAGE_LENGTH;
     }
     if (takes(a->call, PATCH) && (len[PATCH] < 512 || len[PATCH] % 512 != 0)) {
@@ -127,13 +125,32 @@ static uint32_t step_refusal(const ask *a) {
     return THX_DONE;
 }
 
+/* Every entry is 00 07, so an odd payload ends inside one. */
+static int sound_payload(const ask *a) {
+    size_t payload = a->length[PAYLOAD];
+    return payload != 0 && payload <= 504 && payload % 2 == 0;
+}
+
+/* 6, 8 and 7 of a decision, once the block is right; the payload is looked at for PATCH alone. */
+static uint32_t decision_refusal(const ask *a) {
+    if (a->kind > 2) {
+        return THX_BAD_SLOT;
+    }
+    if (a->kind == THX_KIND_FULL && a->block >= places(a)) {
+        return THX_NO_FULL_PAGE;
+    }
+    if (a->kind == THX_KIND_PATCH && !sound_payload(a)) {
+        return THX_BAD_PAYLOAD;
+    }
+    return THX_DONE;
+}
+
 /*
  * 5, 6, 8, 7 and 11, once the lengths are right. The headers and slots of the scene are sound, and
  * no pair of its map is 3.
  */
 static uint32_t later_refusal(const ask *a) {
-    size_t payload = a->length[PAYLOAD];
-    int has_block = a->call == SHOW || reads(a->call) || writes(a->call) || a->call == LOOK_UP;
+    int has_block = a->call == SHOW || reads(a->call) || carries(a->call) || a->call == LOOK_UP;
     if (has_block && a->block >= blocks(a)) {
         return THX_BAD_BLOCK;
     }
@@ -149,14 +166,13 @@ static uint32_t later_refusal(const ask *a) {
     if (reads(a->call) && read_kind(a) == THX_KIND_FULL && a->block >= places(a)) {
         return THX_NO_FULL_PAGE;
     }
-    if (writes(a->call) && a->block % 3 == 2 && a->block >= places(a)) {
-        return THX_NO_FULL_PAGE;
+    if (carries(a->call)) {
+        return decision_refusal(a);
     }
     if (a->call == BUILD && blocks(a) > 1 && places(a) < 2) {
         return THX_NO_FULL_PAGE;
     }
-    /* Every entry is 00 07, so an odd payload ends inside one. */
-    if (a->call == APPLY && (payload == 0 || payload > 504 || payload % 2 != 0)) {
+    if (a->call == APPLY && !sound_payload(a)) {
         return THX_BAD_PAYLOAD;
     }
     if (a->call == NEXT) {
@@ -173,11 +189,14 @@ static uint32_t later_refusal(const ask *a) {
 static void set_members(const ask *a, int64_t rest[4]) {
     const difference *differs = page_difference(a);
     uint32_t kind = slot_kind(a->block);
-    if (a->call == COMPARE || writes(a->call)) {
+    if (a->call == COMPARE) {
         rest[0] = differs->kind;
         rest[1] = differs->length;
-        rest[2] = a->call == COMPARE ? differs->entries : 0;
-        rest[3] = a->call == COMPARE ? differs->last : 0;
+        rest[2] = differs->entries;
+        rest[3] = differs->last;
+    } else if (carries(a->call)) {
+        rest[0] = a->kind;
+        rest[1] = a->kind == THX_KIND_PATCH ? (int64_t)a->length[PAYLOAD] : 0;
     } else if (a->call == APPLY) {
         rest[0] = (int64_t)a->length[PAYLOAD] / 2;
         rest[1] = rest[0] - 1;
@@ -258,29 +277,33 @@ static void page_bytes(const ask *a, uint8_t *const bytes[ROLES]) {
     }
 }
 
-static void write_bytes(const ask *a, uint8_t *const bytes[ROLES]) {
-    const difference *differs = page_difference(a);
+/* The slot of the kind, and the block's place, if it has one. */
+static void carry_bytes(const ask *a, uint8_t *const bytes[ROLES]) {
     uint8_t *slot = bytes[PATCH] + 512 + 512 * a->block;
     memset(slot, 0, 512);
-    slot[0] = (uint8_t)differs->kind;
-    if (differs->kind == THX_KIND_PATCH) {
+    slot[0] = (uint8_t)a->kind;
+    if (a->kind == THX_KIND_PATCH) {
         slot[1] = 1;
-        slot[2] = (uint8_t)differs->length;
-        memcpy(slot + 8, differs->stream, 4);
+        slot[2] = (uint8_t)(a->length[PAYLOAD] % 256);
+        slot[3] = (uint8_t)(a->length[PAYLOAD] / 256);
+        memcpy(slot + 8, bytes[PAYLOAD], a->length[PAYLOAD]);
     }
     if (a->block < places(a)) {
         uint8_t *place = bytes[FULL] + 4096 + 8192 * a->block;
-        memset(place, differs->kind == THX_KIND_FULL ? 5 : 0, 8192);
+        memset(place, 0, 8192);
+        if (a->kind == THX_KIND_FULL) {
+            memcpy(place, bytes[PAGE], 8192);
+        }
     }
 }
 
-/* The block's own pair for the kind that was written: its two bits of its byte, and no others. */
+/* The block's own pair for the kind that was stored: its two bits of its byte, and no others. */
 static void pair_bytes(const ask *a, uint8_t *const bytes[ROLES]) {
     static const uint8_t others[4] = {0xFC, 0xF3, 0xCF, 0x3F};
     static const uint8_t own[3][4] = {
         {0x00, 0x00, 0x00, 0x00}, {0x02, 0x08, 0x20, 0x80}, {0x01, 0x04, 0x10, 0x40}};
     uint8_t *byte = bytes[MAP] + a->block / 4;
-    *byte = (uint8_t)((*byte & others[a->block % 4]) | own[page_difference(a)->kind][a->block % 4]);
+    *byte = (uint8_t)((*byte & others[a->block % 4]) | own[a->kind][a->block % 4]);
 }
 
 /* Slots, places and pairs of blocks k and up, block by block; other pairs of the map stay. */
@@ -305,10 +328,10 @@ void change(const ask *a, uint8_t *const bytes[ROLES]) {
         memcpy(bytes[PAYLOAD], page_difference(a)->stream, page_difference(a)->length);
     } else if (a->call == APPLY || reads(a->call)) {
         page_bytes(a, bytes);
-    } else if (a->call == WRITE) {
-        write_bytes(a, bytes);
-    } else if (a->call == WRITE_MAPPED) {
-        write_bytes(a, bytes);
+    } else if (a->call == CARRY_OUT) {
+        carry_bytes(a, bytes);
+    } else if (a->call == CARRY_OUT_MAPPED) {
+        carry_bytes(a, bytes);
         pair_bytes(a, bytes);
     } else if (cuts(a->call)) {
         cut_bytes(a, bytes);

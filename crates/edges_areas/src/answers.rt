@@ -1,11 +1,12 @@
 // What the program prints of its calls' answers.
 use building::Built;
+use carrying::Written;
 use cases::say;
 use cutting::Extent;
 use cutting::Shortened;
 use reading::Reading;
 use store::Formatted;
-use writing::Written;
+use stream::Compared;
 
 pub(crate) fn formatted(answer: Formatted) {
     match answer {
@@ -25,6 +26,25 @@ pub(crate) fn reading(answer: Reading) {
         }
         Reading::Refused { refusal, offset } => {
             say::refused_at(refusal, offset);
+        }
+    }
+}
+
+pub(crate) fn compared(answer: Compared) {
+    match answer {
+        Compared::Done {
+            kind,
+            length,
+            entries,
+            last,
+        } => {
+            say::done(kind);
+            say::number(length as u64);
+            say::number(entries as u64);
+            say::position(last);
+        }
+        Compared::Refused(r) => {
+            say::refused(r);
         }
     }
 }

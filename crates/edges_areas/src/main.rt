@@ -3,15 +3,17 @@
 // cases and what must be printed were written by hand from the paper.
 mod answers;
 
+use carrying::Written;
 use cases::delta::delta;
 use cases::fields;
 use cases::fields::field;
 use cases::make::buffer;
 use cases::make::make_or_keep;
 use cases::say;
+use layout::Kind;
 use layout::Layout;
 use reading::Reading;
-use writing::Written;
+use stream::Compared;
 
 // The calls by their first letters.
 const FORMAT: u8 = b'f';
@@ -28,6 +30,11 @@ const BUILD: u8 = b'b';
 const MAPPED: u8 = b'm';
 
 const KEEP: u8 = b'k';
+
+// Carry out a decision of the line's own, and the same with the map.
+const OUT: u8 = b'o';
+
+const NOTE: u8 = b'n';
 
 // Cut, and Cut with the map.
 const CUT: u8 = b'c';
@@ -108,36 +115,83 @@ fn build(line: &[u8], patch: &[u8], full: &[u8]) {
     delta(b"map", &was, lent);
 }
 
-// The write that this call names.
-fn write_by(
+// The carrying out that this call names.
+fn carry_by(
     call: u8,
     patch: &mut [u8],
     full: &mut [u8],
     map: &mut [u8],
     block: usize,
-    base: &[u8],
+    kind: u32,
+    payload: &[u8],
     page: &[u8],
 ) -> Written {
-    if call == KEEP {
-        return writing::mapped::write_mapped(patch, full, map, block, base, page);
+    if call == KEEP || call == NOTE {
+        return carrying::mapped::carry_out_mapped(patch, full, map, block, kind, payload, page);
     }
-    writing::write(patch, full, block, base, page)
+    carrying::carry_out(patch, full, block, kind, payload, page)
 }
 
-// write | name | patch | full | block | base | page, and keep with one more, | map
+// How much of Compare's buffer is its payload.
+fn payload_length(kind: Kind, length: usize) -> usize {
+    match kind {
+        Kind::Empty => 0,
+        Kind::Patch => length,
+        Kind::Full => 0,
+    }
+}
+
+// write | name | patch | full | block | base | page, and keep with one more, | map. What Compare decides is carried out.
 fn write(call: u8, line: &[u8], patch: &mut [u8], full: &mut [u8], map: &mut [u8]) {
     let block = fields::number(field(line, 4));
     let base = buffer(field(line, 5));
     let base_bytes = base.bytes;
     let page = buffer(field(line, 6));
     let page_bytes = page.bytes;
-    answers::written(write_by(
+    let modified = span::part(&page_bytes, 0, page.length);
+    let mut bytes = [0xeeu8; Layout::ROOM];
+    let room: &mut [u8] = &mut bytes;
+    let decided = stream::compare(span::part(&base_bytes, 0, base.length), modified, room);
+    answers::compared(decided);
+    match decided {
+        Compared::Refused(_) => {}
+        Compared::Done {
+            kind,
+            length,
+            entries: _,
+            last: _,
+        } => {
+            say::word(b"out");
+            answers::written(carry_by(
+                call,
+                patch,
+                full,
+                map,
+                block,
+                layout::number::kind_number(kind),
+                span::part(room, 0, payload_length(kind, length)),
+                modified,
+            ));
+        }
+    }
+}
+
+// out | name | patch | full | block | payload | page | | kind, and note with the map before the kind
+fn out(call: u8, line: &[u8], patch: &mut [u8], full: &mut [u8], map: &mut [u8]) {
+    let block = fields::number(field(line, 4));
+    let payload = buffer(field(line, 5));
+    let payload_bytes = payload.bytes;
+    let page = buffer(field(line, 6));
+    let page_bytes = page.bytes;
+    let kind = fields::number(field(line, 8));
+    answers::written(carry_by(
         call,
         patch,
         full,
         map,
         block,
-        span::part(&base_bytes, 0, base.length),
+        (kind % 4294967296) as u32,
+        span::part(&payload_bytes, 0, payload.length),
         span::part(&page_bytes, 0, page.length),
     ));
 }
@@ -162,6 +216,10 @@ fn store(call: u8, line: &[u8], patch: &mut [u8], full: &mut [u8], map: &mut [u8
         write(call, line, patch, full, map);
         return true;
     }
+    if call == OUT || call == NOTE {
+        out(call, line, patch, full, map);
+        return true;
+    }
     if call == CUT || call == TRIM {
         cut(call, line, patch, full, map);
         return true;
@@ -176,7 +234,7 @@ fn copied(lent: &[u8]) -> [u8; FULL_ROOM] {
     bytes
 }
 
-// Makes such a call, and tells what it changed. Only two of them are lent the map.
+// Makes such a call, and tells what it changed. Only three of them are lent the map.
 fn change(call: u8, line: &[u8], patch: &mut [u8], full: &mut [u8], map: &mut [u8]) {
     let patch_was = copied(patch);
     let full_was = copied(full);
@@ -185,7 +243,7 @@ fn change(call: u8, line: &[u8], patch: &mut [u8], full: &mut [u8], map: &mut [u
         delta(b"patch", &patch_was, patch);
         delta(b"full", &full_was, full);
     }
-    if call == KEEP || call == TRIM {
+    if call == KEEP || call == NOTE || call == TRIM {
         delta(b"map", &map_was, map);
     }
 }

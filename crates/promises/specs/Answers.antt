@@ -4,7 +4,7 @@ use Rattle.layout.specs.NumberLaws.{kind-one, refusal-one, refusal-some}
 use Rattle.store.specs.Format.{formattedNumber}
 use Rattle.store.specs.Judge.{JudgedNumbers, judgedNumbers}
 use Rattle.reading.specs.Read.{ReadNumbers, readingNumbers}
-use Rattle.writing.specs.Write.{WriteNumbers, writtenNumbers}
+use Rattle.carrying.specs.CarryOut.{CarryNumbers, writtenNumbers}
 use Rattle.store.specs.declared.Formatted.{Formatted}
 use Rattle.store.specs.declared.Formatted.the-variants.{Done as FormattedDone, Refused as FormattedRefused}
 use Rattle.store.specs.declared.Judged.{Judged}
@@ -17,8 +17,8 @@ use Rattle.cutting.specs.declared.Shortened.{Shortened}
 use Rattle.cutting.specs.declared.Shortened.the-variants.{Done as ShortenedDone, Refused as ShortenedRefused}
 use Rattle.cutting.specs.declared.Extent.{Extent}
 use Rattle.cutting.specs.declared.Extent.the-variants.{Done as ExtentDone, Refused as ExtentRefused}
-use Rattle.writing.specs.declared.Written.{Written}
-use Rattle.writing.specs.declared.Written.the-variants.{Done as WrittenDone, Refused as WrittenRefused}
+use Rattle.carrying.specs.declared.Written.{Written}
+use Rattle.carrying.specs.declared.Written.the-variants.{Done as WrittenDone, Refused as WrittenRefused}
 
 pub formatted-one : (a b : Formatted) → formattedNumber a ≡ formattedNumber b → a ≡ b
 formatted-one FormattedDone FormattedDone e = refl
@@ -40,10 +40,10 @@ reading-one (ReadingRefused r o) (ReadingRefused q u) e =
     λ i. ReadingRefused (refusal-one r q (ap (λ (x : ReadNumbers). x .number) e) i) (e i .offset)
 
 pub written-one : (a b : Written) → writtenNumbers a ≡ writtenNumbers b → a ≡ b
-written-one (WrittenDone k n) (WrittenDone j m) e = λ i. WrittenDone (kind-one k j (ap (λ (x : WriteNumbers). x .kind) e) i) (e i .length)
-written-one (WrittenDone k n) (WrittenRefused r) e = absurd (refusal-some r (sym (ap (λ (x : WriteNumbers). x .number) e)))
-written-one (WrittenRefused r) (WrittenDone k n) e = absurd (refusal-some r (ap (λ (x : WriteNumbers). x .number) e))
-written-one (WrittenRefused r) (WrittenRefused q) e = ap WrittenRefused (refusal-one r q (ap (λ (x : WriteNumbers). x .number) e))
+written-one (WrittenDone k n) (WrittenDone j m) e = λ i. WrittenDone (kind-one k j (ap (λ (x : CarryNumbers). x .kind) e) i) (e i .length)
+written-one (WrittenDone k n) (WrittenRefused r) e = absurd (refusal-some r (sym (ap (λ (x : CarryNumbers). x .number) e)))
+written-one (WrittenRefused r) (WrittenDone k n) e = absurd (refusal-some r (ap (λ (x : CarryNumbers). x .number) e))
+written-one (WrittenRefused r) (WrittenRefused q) e = ap WrittenRefused (refusal-one r q (ap (λ (x : CarryNumbers). x .number) e))
 
 pub shortened-one : (a b : Shortened) → shortenedNumber a ≡ shortenedNumber b → a ≡ b
 shortened-one ShortenedDone ShortenedDone e = refl

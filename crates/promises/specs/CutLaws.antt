@@ -31,13 +31,13 @@ use Rattle.cutting.specs.Reach.{OneMore}
 use Rattle.cutting.specs.ReachLaws.{extent-is, same-sort}
 use Rattle.cutting.specs.Given.{highest-number}
 use Rattle.store.specs.FrameLaws.{none-in}
-use Rattle.promises.specs.Words.{blocks, places, PagesFit, LengthsFit, FrameFits}
+use Rattle.promises.specs.Words.{blocks, places, AreasFit, PagesFit, LengthsFit, FrameFits}
 use Rattle.promises.specs.FrameLaws.{frame-same, lengths-moved, headers-moved}
 use Rattle.promises.specs.Cells.{cell-within, cells-ext}
 use Rattle.promises.specs.StoreLaws.{place-cells}
 use Rattle.promises.specs.Tables.{read-same}
 use Rattle.promises.specs.ReadLaws.{reads-empty}
-use Rattle.promises.specs.CutWords.{AreasFit, Dropped, NonEmpty}
+use Rattle.promises.specs.CutWords.{Dropped, NonEmpty}
 use Rattle.promises.specs.CutTables.{cut-accepted, cut-fitting}
 
 -- Both areas emptied from the slot and the place of block K on

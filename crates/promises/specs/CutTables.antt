@@ -3,13 +3,12 @@ use Prim.Native.Nat.{ℕ, zero, suc, _≤_, _<_}
 use native.Mathlib.Omega.{arith}
 use mathlib.Core.Path.{_≡_, refl, sym, ap, _∙_, subst}
 use mathlib.Core.Bool.{Bool, true, false, not, cond}
-use mathlib.Core.Logic.{_↔_, inl}
+use mathlib.Core.Logic.{_↔_}
 use mathlib.Core.List.{List, [], _∷_, _++_}
 use lib.Dec.{eqb, ltb}
 use lib.ListN.{length}
 use borrow.Author.Tests.{le-ltb, lt-ltb, ltb-true, ltb-false, eq-eqb, le-leb}
-use Rattle.span.specs.Bytes.{zeros, part}
-use Rattle.span.specs.Laws.{zeros-length}
+use Rattle.span.specs.Bytes.{part}
 use Rattle.layout.specs.Sizes.{slotAt, patchHead, blocksAtMost}
 use Rattle.layout.specs.Refusals.{_⇐_, firstOf, orElse, decided}
 use Rattle.layout.specs.RefusalLaws.{or-skip, or-some}
@@ -23,7 +22,6 @@ use Rattle.headers.specs.Meaning.{patch-header-length, head-none, head-like}
 use Rattle.slots.specs.Slots.{SlotNumbers}
 use Rattle.blockmap.specs.Pairs.{mapBytes}
 use Rattle.store.specs.Block.{slotOf, slotRows}
-use Rattle.store.specs.Frame.{frameRows}
 use Rattle.store.specs.FrameLaws.{lengthsFit}
 use Rattle.store.specs.ShowLaws.{alone}
 use Rattle.cutting.specs.Cut.{cutRows, cutDone, cutRefused, cutBy, cutOutcome}
@@ -32,40 +30,12 @@ use Rattle.cutting.specs.Highest.{highestRows, highestNumbers}
 use Rattle.cutting.specs.CutLaws.{cut-rows, cut-number, cut-mapped-number}
 use Rattle.cutting.specs.HighestLaws.{highest-rows}
 use Rattle.cutting.specs.Given.{highest-number}
-use Rattle.promises.specs.Words.{blocks, PagesFit, LengthsFit, FrameRefuses, SoundSlot, MapFits}
-use Rattle.promises.specs.FrameLaws.{Tells, tells-no, no-tells, tells-pages, tells-lengths, frameNumber, FrameIs, frame-refused}
-use Rattle.promises.specs.FrameLaws.{frame-right, frame-is, frame-gives, frame-zero, frame-some, HeadIs, head-refused, head-right}
+use Rattle.promises.specs.Words.{blocks, LengthsFit, AreasRefuse, AreasFit, SoundSlot, MapFits}
+use Rattle.promises.specs.FrameLaws.{Tells, tells-no, no-tells, tells-lengths, HeadIs, head-refused, head-right}
 use Rattle.promises.specs.FrameLaws.{head-is, head-gives, head-some}
 use Rattle.promises.specs.SlotLaws.{Sort, of-empty, of-patch, of-full, of-none, sort-of}
-use Rattle.promises.specs.CutWords.{AreasRefuse, AreasFit, CutGives, CutMappedGives, PatchSized, HighestGives}
-
--- 2 and the headers: the frame of any call, with pages that fit
-
-module _ (P : ℕ) (patch full : List ℕ) where
-  no-pages : PagesFit P [] (zeros P)
-  no-pages = record { base-length = inl refl; page-length = zeros-length P }
-
-  to-frame : {k : ℕ} → AreasRefuse P patch full k → FrameRefuses P patch full [] (zeros P) k
-  to-frame (AreasRefuse.lengths h) = FrameRefuses.lengths no-pages h
-  to-frame (AreasRefuse.patch-head l r) = FrameRefuses.patch-head no-pages l r
-  to-frame (AreasRefuse.full-head l e z r) = FrameRefuses.full-head no-pages l e z r
-
-  of-frame : {k : ℕ} → FrameRefuses P patch full [] (zeros P) k → AreasRefuse P patch full k
-  of-frame (FrameRefuses.pages h) = absurd (h no-pages)
-  of-frame (FrameRefuses.lengths p h) = AreasRefuse.lengths h
-  of-frame (FrameRefuses.patch-head p l r) = AreasRefuse.patch-head l r
-  of-frame (FrameRefuses.full-head p l e z r) = AreasRefuse.full-head l e z r
-
-  -- the number that they give
-  abbrev pub areasNumber : ℕ
-  areasNumber = frameNumber P patch full [] (zeros P)
-
-  areas-number : firstOf (frameRows P [] [] patch full) ≡ areasNumber
-  unfolding frameNumber frameRows firstOf orElse lengthRows
-  areas-number = rw (tells-pages P [] (zeros P) .1 no-pages)
-
-  areas-zero : AreasFit P patch full → areasNumber ≡ 0
-  areas-zero h = frame-zero P patch full [] (zeros P) (record { pages = no-pages; lengths = h .lengths; headers = h .headers })
+use Rattle.promises.specs.AreaLaws.{areasNumber, areas-number, AreasAre, areas-refused, areas-right, areas-are, areas-gives, areas-zero, areas-some}
+use Rattle.promises.specs.CutWords.{CutGives, CutMappedGives, PatchSized, HighestGives}
 
 -- Cut
 
@@ -84,25 +54,21 @@ module _ (P : ℕ) (patch full : List ℕ) (K : ℕ) where
   rows h = cut-by-frame ∙ or-skip (areasNumber P patch full) _ (areas-zero P patch full h)
 
   cut-given : CutGives P patch full K (firstOf (cutRows P [] patch full K))
-  cut-given = go (areasNumber P patch full) refl (frame-is P patch full [] (zeros P))
+  cut-given = go (areasNumber P patch full) refl (areas-are P patch full)
     where
       inside : AreasFit P patch full → (t : Bool) → ltb (blocks patch) K ≡ t → CutGives P patch full K (cond t 5 0)
       inside h true e = CutGives.above h (ltb-true (blocks patch) K e)
       inside h false e = CutGives.done h (ltb-false (blocks patch) K e)
 
-      go : (k : ℕ) → areasNumber P patch full ≡ k → FrameIs P patch full [] (zeros P) k
+      go : (k : ℕ) → areasNumber P patch full ≡ k → AreasAre P patch full k
           → CutGives P patch full K (firstOf (cutRows P [] patch full K))
-      go k e (frame-refused r) = rw (cut-by-frame, e, or-some k (cond (ltb (blocks patch) K) 5 0) (frame-some P patch full [] (zeros P) r))
-          (CutGives.frame (of-frame P patch full r))
-      go k e (frame-right f) =
-          let h : AreasFit P patch full = record { lengths = f .lengths; headers = f .headers } in
-          rw (rows h) (inside h (ltb (blocks patch) K) refl)
+      go k e (areas-refused r) = rw (cut-by-frame, e, or-some k (cond (ltb (blocks patch) K) 5 0) (areas-some P patch full r))
+          (CutGives.frame r)
+      go k e (areas-right h) = rw (rows h) (inside h (ltb (blocks patch) K) refl)
 
   gives-cut : (k : ℕ) → CutGives P patch full K k → firstOf (cutRows P [] patch full K) ≡ k
   gives-cut k (CutGives.frame r) =
-      cut-by-frame
-      ∙ rw (frame-gives P patch full [] (zeros P) (to-frame P patch full r))
-      (or-some k (cond (ltb (blocks patch) K) 5 0) (frame-some P patch full [] (zeros P) (to-frame P patch full r)))
+      cut-by-frame ∙ rw (areas-gives P patch full r) (or-some k (cond (ltb (blocks patch) K) 5 0) (areas-some P patch full r))
   gives-cut k (CutGives.above h l) = rows h ∙ rw (lt-ltb (blocks patch) K l)
   gives-cut k (CutGives.done h l) = rows h ∙ rw (le-ltb (blocks patch) K l)
 
@@ -117,7 +83,7 @@ module _ (P : ℕ) (patch full : List ℕ) (K : ℕ) where
   cut-accepted e = go (cut-table 0 .0 e)
     where
       go : CutGives P patch full K 0 → AreasFit P patch full × (K ≤ blocks patch)
-      go (CutGives.frame r) = absurd (frame-some P patch full [] (zeros P) (to-frame P patch full r) refl)
+      go (CutGives.frame r) = absurd (areas-some P patch full r refl)
       go (CutGives.done h l) = (h, l)
 
 -- Cut with a lent map

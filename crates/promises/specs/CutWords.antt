@@ -4,24 +4,12 @@ use mathlib.Core.Path.{_≡_}
 use mathlib.Core.List.{List}
 use lib.ListN.{length}
 use Rattle.span.specs.Bytes.{zeros, part}
-use Rattle.layout.specs.Sizes.{blocksAtMost, patchHead, fullHead, slotAt}
-use Rattle.headers.specs.Headers.{patchHeader, fullHeader}
+use Rattle.layout.specs.Sizes.{blocksAtMost, patchHead, slotAt}
+use Rattle.headers.specs.Headers.{patchHeader}
 use Rattle.slots.specs.Slots.{emptySlot}
 use Rattle.blockmap.specs.Pairs.{mapBytes}
 use Rattle.store.specs.Block.{slotOf, placeOf}
-use Rattle.promises.specs.Words.{blocks, places, LengthsFit, HeadersFit, HeadRefuses, SameFrame, SoundSlot, MapFits}
-
--- 2 and the headers, for a call on both areas that is lent no page
-pub data AreasRefuse (P : ℕ) (patch full : List ℕ) : ℕ → Type 0 where
-  lengths : (LengthsFit P patch full → ⊥) → AreasRefuse P patch full 2
-  patch-head : {k : ℕ} → LengthsFit P patch full → HeadRefuses (patchHeader P) patchHead patch k → AreasRefuse P patch full k
-  full-head : {k : ℕ} → LengthsFit P patch full → part 0 patchHead patch ≡ patchHeader P → (length full ≡ 0 → ⊥)
-      → HeadRefuses (fullHeader P) fullHead full k
-      → AreasRefuse P patch full k
-
-pub record AreasFit (P : ℕ) (patch full : List ℕ) : Type 0 where
-  pub lengths : LengthsFit P patch full
-  pub headers : HeadersFit P patch full
+use Rattle.promises.specs.Words.{blocks, places, LengthsFit, HeadRefuses, AreasRefuse, AreasFit, SameFrame, SoundSlot, MapFits}
 
 -- "Refusals: 2, 9, headers, 5 for K above n (K equal to n changes nothing)"
 pub data CutGives (P : ℕ) (patch full : List ℕ) (K : ℕ) : ℕ → Type 0 where

@@ -17,7 +17,6 @@ use Rattle.layout.specs.Refusals.{firstOf}
 use Rattle.slots.specs.Slots.{emptySlot, patchSlot, fullSlot, slotNumbers, slotImage}
 use Rattle.slots.specs.Meaning.{empty-numbers}
 use Rattle.stream.specs.Calls.{pageOf, kindFor}
-use Rattle.writing.specs.Write.{decidedStream, decidedKind}
 use Rattle.blockmap.specs.Pairs.{mapBytes, pairAt}
 use Rattle.blockmap.specs.Pack.{pairOf, byteOf, withPair, setPair, clearPairs}
 use Rattle.blockmap.specs.SetPair.{PairsCleared}
@@ -29,8 +28,8 @@ use Rattle.building.specs.Build.{BuildOutcome}
 use Rattle.cutting.specs.Highest.{extent, nonEmpty, HighestNumbers, highestNumbers}
 use Rattle.cutting.specs.Reach.{OneMore}
 use Rattle.cutting.specs.ReachLaws.{one-more-one}
-use Rattle.promises.specs.Words.{blocks, places, SoundSlot, MapFits}
-use Rattle.promises.specs.CutWords.{AreasFit, CutGives, Dropped, HighestGives, NonEmpty}
+use Rattle.promises.specs.Words.{blocks, places, AreasFit, SoundSlot, MapFits}
+use Rattle.promises.specs.CutWords.{CutGives, Dropped, HighestGives, NonEmpty}
 use Rattle.promises.specs.Cells.{put-length, put-here, put-head, put-other}
 use Rattle.promises.specs.FrameLaws.{lengths-by}
 use Rattle.promises.specs.CutTables.{cut-table, mapped-as-cut, slot-right}
@@ -45,7 +44,7 @@ use Rattle.promises.specs.MapWords.{Mapped, mapped, MappedCutProgram, cu
 use Rattle.promises.specs.MapStore.{with}
 use Rattle.promises.specs.DemandTwo.{drops, cut-gives, clears-pairs, one-more, highest-gives}
 use Rattle.promises.specs.Sample.{sample, sample-fresh, two-blocks, two-places, takes, areas-fit, cut-takes, page, one, many, one-fits}
-use Rattle.promises.specs.Sample.{two as page-two, two-fits, many-fits, stream-one, to, puts, place-ones, reads}
+use Rattle.promises.specs.Sample.{two as page-two, two-fits, stream-one, to, puts, place-ones, reads, one-fit, many-fit}
 use Rattle.promises.specs.Wrong.{T, LastsLeave, ReadsAsBase}
 use Rattle.promises.specs.MapsWrong.{MapBuilt, right-map-built, start, start-fresh, one-byte, one-kind, wrote}
 
@@ -101,7 +100,7 @@ not-slots-only-run claim =
     none-left : JustLastsBy (outcome pageSize) slotsOnly sample (puts 0 (many 1) ∷ wipe 0 ∷ []) []
     none-left w =
         rw (
-          eq-eqb (outcome pageSize sample (to 0 (many 1)) .number) 0 (takes [] (to 0 (many 1)) (lit< tt) (many-fits 1)),
+          eq-eqb (outcome pageSize sample (to 0 (many 1)) .number) 0 (takes [] (to 0 (many 1)) (lit< tt) (many-fit 1)),
           eq-eqb (cutting pageSize (T (many 1)) 0 .number) 0 (cut-takes (puts 0 (many 1) ∷ []) 0 (lit≤ tt)),
         )
         (λ i. absurd (List·Memᴰ·not-nil i), λ e. absurd (covered (eqb 0 (w .block)) (leb 0 (w .block)) w (le-leb 0 (w .block) (omega arith)) e))
@@ -123,7 +122,7 @@ not-keeps-all-run claim =
     wiped : (w : Lent) → lastTo 0 (acceptedBy (outcome pageSize) keepsAll sample (puts 0 one ∷ wipe 0 ∷ [])) ≡ some (write w) → ⊥
     wiped w =
         rw (
-          eq-eqb (outcome pageSize sample (to 0 one) .number) 0 (takes [] (to 0 one) (lit< tt) one-fits),
+          eq-eqb (outcome pageSize sample (to 0 one) .number) 0 (takes [] (to 0 one) (lit< tt) one-fit),
           eq-eqb (cutting pageSize (T one) 0 .number) 0 (cut-takes (puts 0 one ∷ []) 0 (lit≤ tt)),
         )
         (λ e. let z : _≡_ {A = ℕ} 0 1 = cc e in omega arith)
@@ -292,10 +291,10 @@ right-highest = (λ patch e. one-more patch e, λ patch k. highest-gives patch k
 
 -- the slot after `one` was written to a block is a sound PATCH slot and not EMPTY
 patch-of-one : (b : ℕ) → b < 2 → slotOf (next pageSize sample (to b one) .patch) b ≡ patchSlot (0 ∷ 7 ∷ [])
-unfolding decidedKind decidedStream slotImage kindFor run
+unfolding slotImage kindFor run
 patch-of-one b h =
     ap (λ (c : Cell). c .slot)
-    (cell-here pageSize sample (to b one) (eq-eqb (outcome pageSize sample (to b one) .number) 0 (takes [] (to b one) h one-fits)))
+    (cell-here pageSize sample (to b one) (eq-eqb (outcome pageSize sample (to b one) .number) 0 (takes [] (to b one) h one-fit)))
     ∙ ap (λ (w : List ℕ). slotImage (kindFor (length w)) w) stream-one
 
 not-empty : patchSlot (0 ∷ 7 ∷ []) ≡ emptySlot → ⊥

@@ -40,8 +40,9 @@ use Rattle.store.specs.Judge.{judgeRows, judgedNumbers, Judge}
 use Rattle.store.specs.Show.{showRows, Show}
 use Rattle.reading.specs.Read.{ReadNumbers, readRows, readingNumbers, Read}
 use Rattle.reading.specs.Mapped.{readMappedRows, ReadMapped}
-use Rattle.writing.specs.Write.{WriteNumbers, writeRows, writtenNumbers, Write}
-use Rattle.writing.specs.Mapped.{writeMappedRows, WriteMapped}
+use Rattle.carrying.specs.Puts.{Decision}
+use Rattle.carrying.specs.CarryOut.{CarryNumbers, carryRows, writtenNumbers, CarryOut}
+use Rattle.carrying.specs.Mapped.{carryMappedRows, CarryOutMapped}
 use Rattle.building.specs.Build.{faultRows, blockFault, BuildNumbers, builtNumbers, Build}
 use Rattle.cutting.specs.Cut.{cutRows, shortenedNumber, Cut}
 use Rattle.cutting.specs.Mapped.{cutMappedRows, CutMapped}
@@ -52,19 +53,19 @@ use Rattle.cutting.specs.declared.Extent.{Extent}
 use Rattle.cutting.specs.declared.Extent.the-variants.{Done as ExtentDone, Refused as ExtentRefused}
 use Rattle.store.specs.Given.{format-exactly, judge-exactly, show-exactly, show-some}
 use Rattle.reading.specs.Given.{read-exactly, read-told, read-mapped-exactly, read-mapped-told}
-use Rattle.writing.specs.Given.{write-exactly, write-mapped-exactly}
+use Rattle.carrying.specs.Given.{carry-exactly, carry-mapped-exactly}
 use Rattle.building.specs.Given.{block-exactly, allRows, build-exactly, build-told}
 use Rattle.store.specs.declared.Formatted.{Formatted}
 use Rattle.store.specs.declared.Judged.{Judged}
 use Rattle.store.specs.declared.Judged.the-variants.{Done as JudgedDone, Refused as JudgedRefused}
 use Rattle.reading.specs.declared.Reading.{Reading}
 use Rattle.reading.specs.declared.Reading.the-variants.{Done as ReadingDone, Refused as ReadingRefused}
-use Rattle.writing.specs.declared.Written.{Written}
-use Rattle.writing.specs.declared.Written.the-variants.{Done as WrittenDone, Refused as WrittenRefused}
+use Rattle.carrying.specs.declared.Written.{Written}
+use Rattle.carrying.specs.declared.Written.the-variants.{Done as WrittenDone, Refused as WrittenRefused}
 use Rattle.building.specs.declared.Built.{Built}
 use Rattle.promises.specs.Words.{OfBlock}
-use Rattle.promises.specs.Kept.{format-kept, compare-kept, apply-kept, show-kept, read-kept, write-kept, build-kept}
-use Rattle.promises.specs.Kept.{write-mapped-kept, read-mapped-kept, cut-mapped-kept}
+use Rattle.promises.specs.Kept.{format-kept, compare-kept, apply-kept, show-kept, read-kept, carry-kept, build-kept}
+use Rattle.promises.specs.Kept.{carry-mapped-kept, read-mapped-kept, cut-mapped-kept}
 use Rattle.promises.specs.CutLaws.{cut-kept}
 
 -- a refusal is a number from the table
@@ -117,10 +118,9 @@ module _ (P : ℕ) where
       → Exactly (readRows P patch full b base page) (readingNumbers a .number)
   read-refuses patch full b base page a after x = rw (x .numbers) (read-exactly P patch full b base page)
 
-  pub write-refuses : (patch full : List ℕ) (b : ℕ) (base page : List ℕ) (a : Written) (p f : List ℕ)
-      → Write P patch full b base page a p f
-      → Exactly (writeRows P patch full b base page) (writtenNumbers a .number)
-  write-refuses patch full b base page a p f x = rw (x .numbers) (write-exactly P patch full b base page)
+  pub carry-out-refuses : (patch full : List ℕ) (b : ℕ) (d : Decision) (a : Written) (p f : List ℕ) → CarryOut P patch full b d a p f
+      → Exactly (carryRows P [] patch full b d) (writtenNumbers a .number)
+  carry-out-refuses patch full b d a p f x = rw (x .numbers) (carry-exactly P patch full b d)
 
   -- with a lent map: "9 for a short map in 01's place; on reads only, 11 for pair 3, after 5"
   pub read-mapped-refuses : (patch full map : List ℕ) (b : ℕ) (base page : List ℕ) (a : Reading) (after : List ℕ)
@@ -128,10 +128,10 @@ module _ (P : ℕ) where
       → Exactly (readMappedRows P patch full map b base page) (readingNumbers a .number)
   read-mapped-refuses patch full map b base page a after x = rw (x .numbers) (read-mapped-exactly P patch full map b base page)
 
-  pub write-mapped-refuses : (patch full map : List ℕ) (b : ℕ) (base page : List ℕ) (a : Written) (p f m : List ℕ)
-      → WriteMapped P patch full map b base page a p f m
-      → Exactly (writeMappedRows P patch full map b base page) (writtenNumbers a .number)
-  write-mapped-refuses patch full map b base page a p f m x = rw (x .numbers) (write-mapped-exactly P patch full map b base page)
+  pub carry-out-mapped-refuses : (patch full map : List ℕ) (b : ℕ) (d : Decision) (a : Written) (p f m : List ℕ)
+      → CarryOutMapped P patch full map b d a p f m
+      → Exactly (carryMappedRows P patch full map b d) (writtenNumbers a .number)
+  carry-out-mapped-refuses patch full map b d a p f m x = rw (x .numbers) (carry-mapped-exactly P patch full map b d)
 
   -- "2, 9, headers, 5 for K above n"
   pub cut-refuses : (patch full : List ℕ) (K : ℕ) (a : Shortened) (p f : List ℕ) → Cut P patch full K a p f
@@ -186,10 +186,10 @@ module _ (P : ℕ) where
   read-keeps patch full b base page a after x h =
       x .bytes ∙ read-kept P patch full b base page (λ e. h (ap (λ (n : ReadNumbers). n .number) (x .numbers) ∙ e))
 
-  pub write-keeps : (patch full : List ℕ) (b : ℕ) (base page : List ℕ) (a : Written) (p f : List ℕ) → Write P patch full b base page a p f
+  pub carry-out-keeps : (patch full : List ℕ) (b : ℕ) (d : Decision) (a : Written) (p f : List ℕ) → CarryOut P patch full b d a p f
       → (writtenNumbers a .number ≡ 0 → ⊥) → (p ≡ patch) × (f ≡ full)
-  write-keeps patch full b base page a p f x h =
-      let k = write-kept P patch full b base page (λ e. h (ap (λ (n : WriteNumbers). n .number) (x .numbers) ∙ e)) in
+  carry-out-keeps patch full b d a p f x h =
+      let k = carry-kept P patch full b d (λ e. h (ap (λ (n : CarryNumbers). n .number) (x .numbers) ∙ e)) in
       (x .patch-bytes ∙ k .0, x .full-bytes ∙ k .1)
 
   pub read-mapped-keeps : (patch full map : List ℕ) (b : ℕ) (base page : List ℕ) (a : Reading) (after : List ℕ)
@@ -198,10 +198,10 @@ module _ (P : ℕ) where
   read-mapped-keeps patch full map b base page a after x h =
       x .bytes ∙ read-mapped-kept P patch full map b base page (λ e. h (ap (λ (n : ReadNumbers). n .number) (x .numbers) ∙ e))
 
-  pub write-mapped-keeps : (patch full map : List ℕ) (b : ℕ) (base page : List ℕ) (a : Written) (p f m : List ℕ)
-      → WriteMapped P patch full map b base page a p f m → (writtenNumbers a .number ≡ 0 → ⊥) → (p ≡ patch) × (f ≡ full) × (m ≡ map)
-  write-mapped-keeps patch full map b base page a p f m x h =
-      let k = write-mapped-kept P patch full map b base page (λ e. h (ap (λ (n : WriteNumbers). n .number) (x .numbers) ∙ e)) in
+  pub carry-out-mapped-keeps : (patch full map : List ℕ) (b : ℕ) (d : Decision) (a : Written) (p f m : List ℕ)
+      → CarryOutMapped P patch full map b d a p f m → (writtenNumbers a .number ≡ 0 → ⊥) → (p ≡ patch) × (f ≡ full) × (m ≡ map)
+  carry-out-mapped-keeps patch full map b d a p f m x h =
+      let k = carry-mapped-kept P patch full map b d (λ e. h (ap (λ (n : CarryNumbers). n .number) (x .numbers) ∙ e)) in
       (x .patch-bytes ∙ k .0, x .full-bytes ∙ k .1, x .map-bytes ∙ k .2)
 
   pub cut-keeps : (patch full : List ℕ) (K : ℕ) (a : Shortened) (p f : List ℕ) → Cut P patch full K a p f → (shortenedNumber a ≡ 0 → ⊥)
@@ -272,10 +272,10 @@ pub read-zeros : (a : Reading) → (readingNumbers a .number ≡ 0 → ⊥)
 read-zeros (ReadingDone k) h = absurd (h refl)
 read-zeros (ReadingRefused r o) h = refl
 
-pub write-zeros : (a : Written) → (writtenNumbers a .number ≡ 0 → ⊥)
+pub carry-out-zeros : (a : Written) → (writtenNumbers a .number ≡ 0 → ⊥)
     → writtenNumbers a ≡ record { number = writtenNumbers a .number; kind = 0; length = 0 }
-write-zeros (WrittenDone k n) h = absurd (h refl)
-write-zeros (WrittenRefused r) h = refl
+carry-out-zeros (WrittenDone k n) h = absurd (h refl)
+carry-out-zeros (WrittenRefused r) h = refl
 
 pub highest-zeros : (a : Extent) → (extentNumbers a .number ≡ 0 → ⊥)
     → extentNumbers a ≡ record { number = extentNumbers a .number; blocks = 0 }

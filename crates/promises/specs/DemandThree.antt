@@ -6,9 +6,13 @@
 -- "In demand 3 an accepted cut, lent both areas whole and the run's map if it has one, wipes earlier writes to the blocks it covers, and
 -- only the blocks it covers may have another base after it; two runs are compared where their bases agree at the end."
 --
+-- Request 06: "demand 3 for runs decided by Compare, where each write carries out the kind and payload of a Compare that answered 0, with the
+-- page it compared." So a write of a run carries out a decision, any one, on a block; that the decisions come from Compare is used where
+-- bases come in, in (b) and (c), and for Highest: a sound payload from elsewhere, `00 00` over zeros, stands and changes nothing.
+--
 -- The words are in `RunWords`: `after P s os` are both areas after the run os from s, and `accepted P s os` those of its operations that
 -- were accepted when their turn came. An operation is a write, `write w`, or a cut at K, `wipe K`. Nothing is assumed of a run: its blocks,
--- bases and pages are any, of any lengths, and its cuts are at any number, K = 0, K = n and K above n among them. A write stands at a block
+-- kinds, payloads and pages are any, of any lengths, and its cuts are at any number, K = 0, K = n and K above n among them. A write stands at a block
 -- where it is the last accepted operation that has to do with it: `lastTo b (accepted P s os) ≡ some (write w)`.
 --
 -- "Demand 3 now includes the map: after any run from fresh areas and a zero map, lent to every write of the run, it equals the built one."
@@ -27,11 +31,14 @@ use Rattle.blockmap.specs.Pairs.{mapBytes}
 use Rattle.stream.specs.Calls.{pageOf}
 use Rattle.building.specs.Build.{BuildOutcome, buildOutcome, buildDone}
 use Rattle.promises.specs.Words.{blocks, PagesFit}
+use Rattle.promises.specs.Decisions.{ComparedBy}
+use Rattle.promises.specs.DecisionLaws.{compared-by}
+use Rattle.promises.specs.CarryWords.{PageFits, ReadAs}
 use Rattle.promises.specs.Runs.{NoRepeats, write}
-use Rattle.promises.specs.RunWords.{Areas, readAt, Lent, Cut, Operation, after, accepted, lastTo, JustLasts, decision, Decided}
+use Rattle.promises.specs.RunWords.{Areas, readAt, Lent, Cut, Operation, after, accepted, lastTo, JustLasts, Decided}
 use Rattle.promises.specs.RunWords.{FollowsBases, KeepsBases, OverBaseAt, OverBases, ChangedAt, FreshAreas}
 use Rattle.promises.specs.FreshLaws.{fresh-one}
-use Rattle.promises.specs.RunLaws.{last-decided, keeps-over, follows-over, lasts-leave-same, lasts-list, reads-last, reads-base}
+use Rattle.promises.specs.RunLaws.{keeps-over, follows-over, lasts-leave-same, lasts-list, reads-last, reads-given, reads-base}
 use Rattle.promises.specs.RunLaws.{build-accepts, two-blocks, runs-agreeing}
 use Rattle.promises.specs.HighLaws.{run-highest-done, run-highest}
 use Rattle.store.specs.Block.{slotOf, placeOf}
@@ -44,6 +51,11 @@ use Rattle.promises.specs.MapWords.{JustLastsWith, FollowsBasesWith, Kee
 use Rattle.promises.specs.MapRunLaws.{run-is, accepted-is, built-at-end, built-changes-nothing, length-kept, later-kept, reads-by-map}
 use Rattle.promises.specs.MapRunLaws.{pairs-at-end, short-run, short-accepts, short-nine, short-cut-nine, lasts-leave-with}
 use Rattle.promises.specs.MapRunLaws.{lasts-list-with, lasts-alike, two-runs-with, keeps-over-with, follows-over-with}
+
+-- a write that carries out the kind and payload of a Compare that answered 0 is decided over the page that its base stands for
+pub compare-is-decided : (w : Lent) (base base′ : List ℕ) → ComparedBy pageSize base (w .decision) → pageOf pageSize base′ ≡ pageOf pageSize base
+    → Decided pageSize (pageOf pageSize base′) w
+compare-is-decided w base base′ d e = rw e (compared-by pageSize base (w .decision) d)
 
 module _ (s : Areas) (fresh : FreshAreas pageSize s) (os : List Operation) where
   -- (a) "only each block's last accepted write, in any order of blocks", where no later accepted cut covers it: every list of just those is
@@ -70,13 +82,14 @@ module _ (s : Areas) (fresh : FreshAreas pageSize s) (os : List Operation) where
   -- kind and its payload are Compare's over it;
   pub reads-as-last : (b : ℕ) → b < blocks (s .patch) → (w : Lent) → lastTo b (accepted pageSize s os) ≡ some (write w)
       → (base page : List ℕ) → PagesFit pageSize base page → Decided pageSize (pageOf pageSize base) w
-      → readAt pageSize (after pageSize s os) b base page ≡ readDone (decision pageSize w .kind) (w .page)
+      → readAt pageSize (after pageSize s os) b base page ≡ readDone (w .decision .kind) (w .decision .page)
   reads-as-last b n w e base page f d = reads-last pageSize s fresh (lit≤ tt) os b n base page f w e d
 
-  -- so over any base that stands for the page which that write had as its base
-  pub decided-over-its-base : (b : ℕ) (w : Lent) → lastTo b (accepted pageSize s os) ≡ some (write w)
-      → (base : List ℕ) → pageOf pageSize base ≡ pageOf pageSize (w .base) → Decided pageSize (pageOf pageSize base) w
-  decided-over-its-base b w e base q = rw q (last-decided pageSize s os b w e)
+  -- and as the base, the base with the payload's entries, or the page, over any base, whoever made the decision
+  pub reads-as-decided : (b : ℕ) → b < blocks (s .patch) → (w : Lent) → lastTo b (accepted pageSize s os) ≡ some (write w)
+      → (base page x : List ℕ) → PagesFit pageSize base page → ReadAs pageSize base (w .decision) x
+      → readAt pageSize (after pageSize s os) b base page ≡ readDone (w .decision .kind) x
+  reads-as-decided b n w e base page x f r = reads-given pageSize s fresh (lit≤ tt) os b n base page f w e x r
 
   -- and over any base where no write stands
   pub reads-as-base : (b : ℕ) → b < blocks (s .patch) → ((w : Lent) → lastTo b (accepted pageSize s os) ≡ some (write w) → ⊥)
@@ -182,10 +195,17 @@ module _ (x : Mapped) (fresh : FreshWith pageSize x) (os : List Operation) where
     -- so it gives the page of the write that stands at a block, over any base page that this write was decided over
     pub map-reads-as-last : (b : ℕ) → b < blocks (x .areas .patch) → (w : Lent) → lastTo b (acceptedWith pageSize x os) ≡ some (write w)
         → (base page : List ℕ) → PagesFit pageSize base page → Decided pageSize (pageOf pageSize base) w
-        → readByMap pageSize (afterWith pageSize x os) b base page ≡ readDone (decision pageSize w .kind) (w .page)
+        → readByMap pageSize (afterWith pageSize x os) b base page ≡ readDone (w .decision .kind) (w .decision .page)
     map-reads-as-last b n w e base page f d =
         reads-by-map pageSize x fresh long (lit≤ tt) os b base page
         ∙ reads-as-last (x .areas) (fresh .fresh) os b n w (ap (lastTo b) (sym (same-with-map .0)) ∙ e) base page f d
+
+    pub map-reads-as-decided : (b : ℕ) → b < blocks (x .areas .patch) → (w : Lent) → lastTo b (acceptedWith pageSize x os) ≡ some (write w)
+        → (base page y : List ℕ) → PagesFit pageSize base page → ReadAs pageSize base (w .decision) y
+        → readByMap pageSize (afterWith pageSize x os) b base page ≡ readDone (w .decision .kind) y
+    map-reads-as-decided b n w e base page y f r =
+        reads-by-map pageSize x fresh long (lit≤ tt) os b base page
+        ∙ reads-as-decided (x .areas) (fresh .fresh) os b n w (ap (lastTo b) (sym (same-with-map .0)) ∙ e) base page y f r
 
     -- or the base where no write stands
     pub map-reads-as-base : (b : ℕ) → b < blocks (x .areas .patch)
@@ -196,12 +216,12 @@ module _ (x : Mapped) (fresh : FreshWith pageSize x) (os : List Operation) where
         reads-by-map pageSize x fresh long (lit≤ tt) os b base page
         ∙ reads-as-base (x .areas) (fresh .fresh) os b n (λ w q. e w (ap (lastTo b) (same-with-map .0) ∙ q)) base page f
 
-  -- a map too short for its store: no operation is accepted, none changes a byte, and a cut, and a write whose pages fit, gives 9
+  -- a map too short for its store: no operation is accepted, none changes a byte, and a cut, and a write whose page is not refused, gives 9
   module _ (short : length (x .map) < mapRoom (x .areas)) where
     pub short-map-keeps : (acceptedWith pageSize x os ≡ []) × (afterWith pageSize x os ≡ x)
     short-map-keeps = (short-accepts pageSize x fresh short os, short-run pageSize x fresh short os)
 
-    pub short-map-gives : (w : Lent) → PagesFit pageSize (w .base) (w .page) → mapped pageSize x w .written .number ≡ 9
+    pub short-map-gives : (w : Lent) → PageFits pageSize (w .decision) → mapped pageSize x w .areas .number ≡ 9
     short-map-gives = short-nine pageSize x fresh short
 
     pub short-map-cut-gives : (K : Cut) → cutMapped pageSize x K .areas .number ≡ 9

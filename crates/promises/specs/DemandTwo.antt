@@ -5,21 +5,23 @@
 -- starts". "A 16-bit jump below 255 makes the payload unsound ... two sound payloads that list the same positions and values are the same
 -- bytes." Cut drops "blocks K and up ... in one go", and Highest "gives one more than the highest non-EMPTY block, or 0".
 --
--- `writeOutcome`, `readOutcome`, `Show`, `cutOutcome` and `highestNumbers` are what the contracts of Write, Read, Show, Cut and Highest cite;
--- the other words are in `Words` and `CutWords`. Any lists
--- are areas, bases and pages here, and any number is a block.
+-- Request 06 splits the write: "Compare then decides, and a second call ... carries out a decision ... Demand 2 holds for the pair".
+--
+-- `carryOutcome`, `compareNumbers`, `readOutcome`, `Show`, `cutOutcome` and `highestNumbers` are what the contracts of Carry out, Compare, Read,
+-- Show, Cut and Highest cite; the other words are in `Words`, `CarryWords`, `Decisions` and `CutWords`. Any lists are areas, bases, payloads and
+-- pages here, and any number is a block or a kind.
 use Prim.Native.Nat.{ℕ, _+_, _*_, _≤_, _<_}
-use mathlib.Core.Path.{_≡_}
+use mathlib.Core.Path.{_≡_, refl}
 use mathlib.Core.Bool.{true, false}
 use mathlib.Core.Logic.{_↔_, _⊎_}
 use mathlib.Core.List.{List, [], _∷_, _++_}
 use lib.Dec.{lit≤}
-use lib.ListN.{length}
+use lib.ListN.{length, take}
 use Rattle.span.specs.Bytes.{zeros}
 use Rattle.layout.specs.Sizes.{pageSize, slotAt, payloadAt}
 use Rattle.slots.specs.Slots.{emptySlot, patchSlot, fullSlot}
 use Rattle.payload.specs.Entries.{start, payloadStream, sound, breaksAt, applied}
-use Rattle.stream.specs.Calls.{pageOf}
+use Rattle.stream.specs.Calls.{pageOf, compareNumbers, compareBuffer}
 use Rattle.payload.specs.Listing.{listed}
 use Rattle.payload.specs.Spelling.{Spelt, Spelled, joined, Coded, Stays, Bytes}
 use Rattle.payload.specs.OneSpelling as spelling
@@ -29,11 +31,12 @@ use Rattle.writer.specs.Writer.{placed}
 use Rattle.writer.specs.ReadBack.{pokes}
 use Rattle.store.specs.Block.{slotOf, placeOf}
 use Rattle.reading.specs.Read.{ReadOutcome, readOutcome, readDone, readRefused}
-use Rattle.writing.specs.Write.{WriteOutcome, writeOutcome}
+use Rattle.carrying.specs.Puts.{Decision}
+use Rattle.carrying.specs.CarryOut.{CarryOutcome, carryOutcome}
+use Rattle.carrying.specs.Mapped.{MappedCarry, carryMappedOutcome}
 use Rattle.blockmap.specs.Pairs.{pairAt, patchPair, fullPair, reservedPair}
 use Rattle.blockmap.specs.SetPair.{PairSet}
 use Rattle.reading.specs.Mapped.{readMappedOutcome}
-use Rattle.writing.specs.Mapped.{MappedOutcome, writeMappedOutcome}
 use Rattle.store.specs.Show.{Show}
 use Rattle.blockmap.specs.SetPair.{PairsCleared}
 use Rattle.cutting.specs.Cut.{CutOutcome, cutOutcome}
@@ -44,67 +47,112 @@ use Rattle.cutting.specs.ReachLaws.{one-least}
 use Rattle.promises.specs.CutWords.{CutGives, CutMappedGives, Dropped, HighestGives, NonEmpty}
 use Rattle.promises.specs.CutTables.{cut-table, cut-accepted, mapped-as-cut, cut-mapped-table, highest-table}
 use Rattle.promises.specs.CutLaws.{cut-drops, dropped-one, cut-nothing, dropped-reads, kept-reads, cut-clears, highest-is}
-use Rattle.promises.specs.Words.{blocks, places, PagesFit, FrameFits, PatchOf, SoundSlot, PatchFits, ShowsNothing, Large, streamOf, Stored}
-use Rattle.promises.specs.Words.{WriteGives, ReadGives, MapFits, WriteMappedGives, MapAt, ReadMappedGives, PairFor}
-use Rattle.promises.specs.Tables.{write-table, read-table}
-use Rattle.promises.specs.StoreLaws.{write-stored}
+use Rattle.promises.specs.Words.{blocks, places, PagesFit, AreasFit, FrameFits, PatchOf, SoundSlot, PatchFits, ShowsNothing, Large}
+use Rattle.promises.specs.Words.{streamOf, Stored, ReadGives, MapFits, MapAt, ReadMappedGives, PairFor}
+use Rattle.promises.specs.CarryWords.{CarryGives, CarryMappedGives, PairGives, Carried, ReadAs}
+use Rattle.promises.specs.Decisions.{ComparedBy}
+use Rattle.promises.specs.Tables.{read-table}
+use Rattle.promises.specs.CarryTables.{carry-table, carry-mapped-table, mapped-as-carry, carry-fitting}
+use Rattle.promises.specs.StoreLaws as stored
+use Rattle.promises.specs.CarriedLaws.{carried-length, carried-one}
+use Rattle.promises.specs.PairLaws.{carried-kind, others-read, pair-table, kind-empty, kind-patch, kind-full, pair-stored, reads-back}
+use Rattle.promises.specs.PairLaws as pair
 use Rattle.promises.specs.ReadLaws.{reads-empty, reads-patch, reads-unsound, reads-spelled, reads-unspelled, reads-full}
 use Rattle.promises.specs.ReadLaws.{reads-missing, reads-sound, zero-bases}
-use Rattle.promises.specs.SpellingLaws.{slots-one, reads-below, own-slot, writes-same}
-use Rattle.promises.specs.WriteLaws.{write-length, kind-empty, kind-patch, kind-full, no-room, reads-back, others-read}
-use Rattle.promises.specs.MapTables.{write-mapped-table, written-as-write, accepted-is-write, kept-pair, reads-back-by-map}
-use Rattle.promises.specs.MapTables.{others-by-map}
+use Rattle.promises.specs.SpellingLaws.{slots-one, reads-below, own-slot, carries-same}
+use Rattle.promises.specs.MapTables.{kept-pair, reads-back-by-map, others-by-map}
+use Rattle.promises.specs.MapTables as mapped
 use Rattle.promises.specs.MapTables.{read-mapped-table, by-map-0, by-map-1, by-map-1-missing, by-map-2, by-map-2-other, by-map-3}
 use Rattle.promises.specs.ShowLaws.{shown-payload, shown-in-place, nothing-shown}
 
-module _ (patch full : List ℕ) (b : ℕ) (base page : List ℕ) where
-  abbrev pub outcome : WriteOutcome
-  outcome = writeOutcome pageSize patch full b base page
+-- Carrying out. "A second call, with or without a lent map, carries out a decision (kind 0, 1 or 2, payload, page) on a block, answering the
+-- kind and the payload's length, 0 unless PATCH. It looks at the payload only for PATCH, taking any sound one, and at the page only for
+-- FULL_REF." Any decision, whoever made it
+module _ (patch full : List ℕ) (b : ℕ) (d : Decision) where
+  abbrev pub outcome : CarryOutcome
+  outcome = carryOutcome pageSize patch full b d
 
-  abbrev pub read : ReadOutcome
-  read = readOutcome pageSize patch full b base page
-
-  -- Every number that Write and Read give, and just when: the tables are `WriteGives` and `ReadGives`
-
-  pub write-gives : (k : ℕ) → (outcome .number ≡ k) ↔ WriteGives pageSize patch full b base page k
-  write-gives = write-table pageSize patch full b base page
-
-  pub read-gives : (k : ℕ) → (read .number ≡ k) ↔ ReadGives pageSize patch full b base page k
-  read-gives = read-table pageSize patch full b base page
-
-  -- "refuses for room only if the full area has no place for that block"
-  pub write-room : FrameFits pageSize patch full base page → b < blocks patch
-      → (outcome .number ≡ 8) ↔ (Large pageSize base page × (places pageSize full ≤ b))
-  write-room = no-room pageSize patch full b base page
+  -- every number that it gives, and just when
+  pub carry-gives : (k : ℕ) → (outcome .number ≡ k) ↔ CarryGives pageSize patch full b d k
+  carry-gives = carry-table pageSize patch full b d
 
   module _ (done : outcome .number ≡ 0) where
-    -- The kind stored, and the stream's length
+    pub kind-stored : outcome .kind ≡ d .kind
+    kind-stored = carried-kind pageSize patch full b d done
 
-    pub empty-iff : (outcome .kind ≡ 0) ↔ (page ≡ pageOf pageSize base)
-    empty-iff = kind-empty pageSize patch full b base page done
-
-    pub patch-iff : (outcome .kind ≡ 1) ↔ ((1 ≤ length (streamOf pageSize base page)) × (length (streamOf pageSize base page) ≤ 504))
-    patch-iff = kind-patch pageSize patch full b base page done
-
-    pub full-iff : (outcome .kind ≡ 2) ↔ (504 < length (streamOf pageSize base page))
-    full-iff = kind-full pageSize patch full b base page done
-
-    pub stream-length : outcome .length ≡ length (streamOf pageSize base page)
-    stream-length = write-length pageSize patch full b base page done
+    pub length-stored : (d .kind ≡ 1 → outcome .length ≡ length (d .payload)) × ((d .kind ≡ 1 → ⊥) → outcome .length ≡ 0)
+    length-stored = carried-length pageSize patch full b d done
 
     -- afterwards the slot is the sound one of that kind, the place holds the page or zeros, and no other byte is changed
-    pub stores : Stored pageSize patch full b base page (outcome .kind) (outcome .patch) (outcome .full)
-    stores = write-stored pageSize patch full b base page done
+    pub carries : Carried pageSize patch full b d (outcome .patch) (outcome .full)
+    carries = stored.carries pageSize patch full b d done
+
+    -- and no other areas are those
+    pub carries-only : (p f : List ℕ) → Carried pageSize patch full b d p f → (p ≡ outcome .patch) × (f ≡ outcome .full)
+    carries-only = carried-one pageSize patch full b d done
+
+    -- Read then gives the base, the base with the payload's entries, or the page, over any base and into any page
+    pub reads-decided : (base page x : List ℕ) → PagesFit pageSize base page → ReadAs pageSize base d x
+        → readOutcome pageSize (outcome .patch) (outcome .full) b base page ≡ readDone (d .kind) x
+    reads-decided = pair.reads-decided pageSize patch full b d done
+
+  -- and every other block reads as before, whatever it holds and whether or not the call was refused
+  pub others : (c : ℕ) → (c ≡ b → ⊥) → (base page : List ℕ)
+      → readOutcome pageSize (outcome .patch) (outcome .full) c base page ≡ readOutcome pageSize patch full c base page
+  others = others-read pageSize patch full b d
+
+-- The pair of calls. What a Compare that answered 0 gives is a decision: its kind, the first `length` bytes of its buffer, its page
+pub compare-decides : (base page buffer : List ℕ) → compareNumbers pageSize base page buffer .number ≡ 0
+    → ComparedBy pageSize base
+    (record {
+      kind = compareNumbers pageSize base page buffer .kind;
+      payload = take (compareNumbers pageSize base page buffer .length) (compareBuffer pageSize base page buffer);
+      page = page;
+    })
+compare-decides base page buffer e = record { buffer = buffer; answered = e; kind = refl; payload = λ q. refl }
+
+-- "Demand 2 holds for the pair": carrying out what Compare decided over a base
+module _ (patch full : List ℕ) (b : ℕ) (base : List ℕ) (d : Decision) (decided : ComparedBy pageSize base d) where
+  -- no number is left but those of the areas, 5 and 8
+  pub pair-gives : (k : ℕ) → (outcome patch full b d .number ≡ k) ↔ PairGives pageSize patch full b base (d .page) k
+  pair-gives = pair-table pageSize (lit≤ tt) patch full b base d decided
+
+  -- "refuses for room only if the full area has no place for that block"
+  pub pair-room : AreasFit pageSize patch full → b < blocks patch
+      → (outcome patch full b d .number ≡ 8) ↔ (Large pageSize base (d .page) × (places pageSize full ≤ b))
+  pair-room = pair.pair-room pageSize (lit≤ tt) patch full b base d decided
+
+  module _ (done : outcome patch full b d .number ≡ 0) where
+    -- The kind stored
+
+    pub empty-iff : (outcome patch full b d .kind ≡ 0) ↔ (d .page ≡ pageOf pageSize base)
+    empty-iff = kind-empty pageSize (lit≤ tt) patch full b base d decided done
+
+    pub patch-iff : (outcome patch full b d .kind ≡ 1)
+        ↔ ((1 ≤ length (streamOf pageSize base (d .page))) × (length (streamOf pageSize base (d .page)) ≤ 504))
+    patch-iff = kind-patch pageSize (lit≤ tt) patch full b base d decided done
+
+    pub full-iff : (outcome patch full b d .kind ≡ 2) ↔ (504 < length (streamOf pageSize base (d .page)))
+    full-iff = kind-full pageSize (lit≤ tt) patch full b base d decided done
+
+    -- the slot and the place are those of the page over its base
+    pub stores : Stored pageSize patch full b base (d .page) (outcome patch full b d .kind) (outcome patch full b d .patch)
+        (outcome patch full b d .full)
+    stores = pair-stored pageSize (lit≤ tt) patch full b base d decided done
 
     -- "Reading back over the same base gives the written page": over a base that stands for the same page, into any page
     pub read-back : (base′ page′ : List ℕ) → pageOf pageSize base′ ≡ pageOf pageSize base → length page′ ≡ pageSize
-        → readOutcome pageSize (outcome .patch) (outcome .full) b base′ page′ ≡ readDone (outcome .kind) page
-    read-back = reads-back pageSize patch full b base page (lit≤ tt) done
+        → readOutcome pageSize (outcome patch full b d .patch) (outcome patch full b d .full) b base′ page′
+        ≡ readDone (outcome patch full b d .kind) (d .page)
+    read-back = reads-back pageSize (lit≤ tt) patch full b base d decided done
 
-  -- and every other block reads as before, whatever it holds and whether or not the write was refused
-  pub others : (c : ℕ) → (c ≡ b → ⊥) → (base′ page′ : List ℕ)
-      → readOutcome pageSize (outcome .patch) (outcome .full) c base′ page′ ≡ readOutcome pageSize patch full c base′ page′
-  others = others-read pageSize patch full b base page
+-- Read. Every number that it gives, and just when: the table is `ReadGives`
+module _ (patch full : List ℕ) (b : ℕ) (base page : List ℕ) where
+  abbrev pub read : ReadOutcome
+  read = readOutcome pageSize patch full b base page
+
+  pub read-gives : (k : ℕ) → (read .number ≡ k) ↔ ReadGives pageSize patch full b base page k
+  read-gives = read-table pageSize patch full b base page
 
   -- Every sound slot from elsewhere
 
@@ -136,7 +184,7 @@ module _ (patch full : List ℕ) (b : ℕ) (base page : List ℕ) where
     patch-slot-below = reads-below pageSize patch full b base page fits below
 
     -- a slot of which every entry changes its byte is determined by the base and the page that it gives, wherever it came from: it is the
-    -- one that Write stores for that page, so writing what was read leaves the patch area as it is
+    -- one that Compare's own decision stores for that page, so writing what was read leaves the patch area as it is
     module _ (bytes : Bytes patch) (payload : List ℕ) (p : PatchOf (slotOf patch b) payload) (is-sound : sound pageSize payload ≡ true)
         (changes : Changes (pageOf pageSize base) (listed (payloadStream pageSize payload))) where
       abbrev pub given : List ℕ
@@ -145,10 +193,9 @@ module _ (patch full : List ℕ) (b : ℕ) (base page : List ℕ) where
       pub patch-slot-own : slotOf patch b ≡ patchSlot (streamOf pageSize base given)
       patch-slot-own = own-slot pageSize patch full b base page fits below bytes payload p is-sound changes
 
-      pub write-leaves : (writeOutcome pageSize patch full b base given .number ≡ 0)
-          × (writeOutcome pageSize patch full b base given .kind ≡ 1)
-          × (writeOutcome pageSize patch full b base given .patch ≡ patch)
-      write-leaves = writes-same pageSize patch full b base page fits below bytes payload p is-sound changes
+      pub write-leaves : (d : Decision) → ComparedBy pageSize base d → d .page ≡ given
+          → (outcome patch full b d .number ≡ 0) × (outcome patch full b d .kind ≡ 1) × (outcome patch full b d .patch ≡ patch)
+      write-leaves = carries-same pageSize patch full b base page fits below bytes payload p is-sound changes (lit≤ tt)
 
     pub full-slot : slotOf patch b ≡ fullSlot → b < places pageSize full
         → read ≡ readDone 2 (placeOf pageSize full b)
@@ -190,44 +237,49 @@ zero-base = zero-bases pageSize
 -- With a lent map. "We want writes that update a lent map, and reads that go by it: pair 0 gives the base without touching the slot, pair
 -- 2 needs a sound PATCH (any other slot is 6), pair 1 takes the full page. ... Refusals: 9 for a short map in 01's place; on reads only, 11
 -- for pair 3, after 5."
-module _ (patch full map : List ℕ) (b : ℕ) (base page : List ℕ) where
-  abbrev pub outcomeWith : MappedOutcome
-  outcomeWith = writeMappedOutcome pageSize patch full map b base page
+module _ (patch full map : List ℕ) (b : ℕ) (d : Decision) where
+  abbrev pub outcomeWith : MappedCarry
+  outcomeWith = carryMappedOutcome pageSize patch full map b d
 
+  pub carry-mapped-gives : (k : ℕ) → (outcomeWith .areas .number ≡ k) ↔ CarryMappedGives pageSize patch full map b d k
+  carry-mapped-gives = carry-mapped-table pageSize patch full map b d
+
+  -- with a map that fits it answers and stores as without one, refused or not
+  pub carries-as-carry : MapFits patch map → outcomeWith .areas ≡ outcome patch full b d
+  carries-as-carry = mapped-as-carry pageSize patch full map b d
+
+  module _ (done : outcomeWith .areas .number ≡ 0) where
+    pub accepted-as-carry : outcomeWith .areas ≡ outcome patch full b d
+    accepted-as-carry = carries-as-carry (carry-fitting pageSize patch full map b d done)
+
+    -- the block's own pair is that of the kind, and nothing else of the map is changed: no other pair, used or not, no other byte
+    pub keeps-map : (v : ℕ) × PairFor (outcomeWith .areas .kind) v × PairSet map b v (outcomeWith .map)
+    keeps-map = kept-pair pageSize patch full map b d done
+
+    -- reading by the map gives what the decision says, and for one of Compare's the written page
+    pub reads-decided-by-map : (base page x : List ℕ) → PagesFit pageSize base page → ReadAs pageSize base d x
+        → readMappedOutcome pageSize (outcomeWith .areas .patch) (outcomeWith .areas .full) (outcomeWith .map) b base page
+        ≡ readDone (d .kind) x
+    reads-decided-by-map = mapped.reads-decided-by-map pageSize patch full map b d done
+
+    pub read-back-by-map : (base : List ℕ) → ComparedBy pageSize base d
+        → (base′ page′ : List ℕ) → pageOf pageSize base′ ≡ pageOf pageSize base → length page′ ≡ pageSize
+        → readMappedOutcome pageSize (outcomeWith .areas .patch) (outcomeWith .areas .full) (outcomeWith .map) b base′ page′
+        ≡ readDone (outcomeWith .areas .kind) (d .page)
+    read-back-by-map = reads-back-by-map pageSize patch full map b d done (lit≤ tt)
+
+  -- and every other block reads by the map as before, whatever it holds and whether or not the call was refused
+  pub map-others : (c : ℕ) → (c ≡ b → ⊥) → (base page : List ℕ)
+      → readMappedOutcome pageSize (outcomeWith .areas .patch) (outcomeWith .areas .full) (outcomeWith .map) c base page
+      ≡ readMappedOutcome pageSize patch full map c base page
+  map-others = others-by-map pageSize patch full map b d
+
+module _ (patch full map : List ℕ) (b : ℕ) (base page : List ℕ) where
   abbrev pub readBy : ReadOutcome
   readBy = readMappedOutcome pageSize patch full map b base page
 
-  -- Every number that they give, and just when
-
-  pub write-mapped-gives : (k : ℕ) → (outcomeWith .written .number ≡ k) ↔ WriteMappedGives pageSize patch full map b base page k
-  write-mapped-gives = write-mapped-table pageSize patch full map b base page
-
   pub read-mapped-gives : (k : ℕ) → (readBy .number ≡ k) ↔ ReadMappedGives pageSize patch full map b base page k
   read-mapped-gives = read-mapped-table pageSize patch full map b base page
-
-  -- a write with a map that fits answers and stores as Write does, refused or not
-  pub writes-as-write : MapFits patch map → outcomeWith .written ≡ outcome patch full b base page
-  writes-as-write = written-as-write pageSize patch full map b base page
-
-  module _ (done : outcomeWith .written .number ≡ 0) where
-    pub accepted-as-write : outcomeWith .written ≡ outcome patch full b base page
-    accepted-as-write = accepted-is-write pageSize patch full map b base page done
-
-    -- the block's own pair is that of the kind stored, and nothing else of the map is changed: no other pair, used or not, no other byte
-    pub keeps-map : (v : ℕ) × PairFor (outcomeWith .written .kind) v × PairSet map b v (outcomeWith .map)
-    keeps-map = kept-pair pageSize patch full map b base page done
-
-    -- reading back by the map gives the written page
-    pub read-back-by-map : (base′ page′ : List ℕ) → pageOf pageSize base′ ≡ pageOf pageSize base → length page′ ≡ pageSize
-        → readMappedOutcome pageSize (outcomeWith .written .patch) (outcomeWith .written .full) (outcomeWith .map) b base′ page′
-        ≡ readDone (outcomeWith .written .kind) page
-    read-back-by-map = reads-back-by-map pageSize patch full map b base page done (lit≤ tt)
-
-  -- and every other block reads by the map as before, whatever it holds and whether or not the write was refused
-  pub map-others : (c : ℕ) → (c ≡ b → ⊥) → (base′ page′ : List ℕ)
-      → readMappedOutcome pageSize (outcomeWith .written .patch) (outcomeWith .written .full) (outcomeWith .map) c base′ page′
-      ≡ readMappedOutcome pageSize patch full map c base′ page′
-  map-others = others-by-map pageSize patch full map b base page
 
   -- The whole outcome of a read, by the block's pair
 

@@ -23,11 +23,11 @@ use Rattle.promises.specs.SlotLaws.{image-empty, image-patch, image-full
 use Rattle.promises.specs.CutWords.{PatchSized, HighestGives, NonEmpty}
 use Rattle.promises.specs.CutTables.{highest-table}
 use Rattle.promises.specs.CutLaws.{highest-is}
-use Rattle.promises.specs.Decisions.{Decision, Cell, Fit, Compared}
+use Rattle.promises.specs.Decisions.{Cell, Fit, Compared}
 use Rattle.promises.specs.DecisionLaws.{compared-fit, fit-kind}
 use Rattle.promises.specs.Runs.{write, wipe}
 use Rattle.promises.specs.StandingLaws.{write-left, blank-left}
-use Rattle.promises.specs.RunWords.{Areas, Lent, Operation, after, accepted, lastTo, decision, OverBases, ChangedAt, FreshAreas}
+use Rattle.promises.specs.RunWords.{Decision, Areas, Lent, Operation, after, accepted, lastTo, OverBases, ChangedAt, FreshAreas}
 use Rattle.promises.specs.RunStore.{cellAt, store}
 use Rattle.promises.specs.RunStoreLaws.{store-laws}
 use Rattle.promises.specs.RunReads.{Held}
@@ -98,13 +98,13 @@ module _ (P : ℕ) (s : Areas) (h : FreshAreas P s) (small : P ≤ 65536) (os : 
                   u
                   (ap (λ (c : Cell). c .slot)
                   (write-left (store P) (store-laws P) s (fresh P s h) os b (in-frame P s h small os b n) w (last-is P s os b ∙ e))
-                  ∙ compared-empty P small (pageOf P (bases b)) (decision P w) (over b n w e) .1 q);
+                  ∙ compared-empty P small (pageOf P (bases b)) (w .decision) (over b n w e) .1 q);
             }
 
     of-changed : (b : ℕ) → b < blocks (s .patch) → ChangedAt P bases s os b → NonEmpty (after P s os .patch) b
     of-changed b n c e =
         c .differs
-        (compared-empty P small (pageOf P (bases b)) (decision P (c .last)) (over b n (c .last) (c .stands)) .0
+        (compared-empty P small (pageOf P (bases b)) (c .last .decision) (over b n (c .last) (c .stands)) .0
         (sym (ap (λ (x : Cell). x .slot)
         (write-left (store P) (store-laws P) s (fresh P s h) os b (in-frame P s h small os b n) (c .last)
         (last-is P s os b ∙ c .stands)))

@@ -25,9 +25,10 @@ use Rattle.store.specs.Format.{FormatOutcome, formatRows, formatOutcome}
 use Rattle.store.specs.Show.{showRows, showPlace}
 use Rattle.reading.specs.Read.{ReadOutcome, readRows, readOutcome}
 use Rattle.reading.specs.Mapped.{readMappedRows, readMappedOutcome}
-use Rattle.writing.specs.Write.{WriteOutcome, writeRefused, writeOutcome}
-use Rattle.writing.specs.Mapped.{MappedOutcome, writeMappedRows, writeMappedOutcome}
-use Rattle.writing.specs.Given.{write-mapped-number}
+use Rattle.carrying.specs.Puts.{Decision}
+use Rattle.carrying.specs.CarryOut.{CarryOutcome, carryOutcome}
+use Rattle.carrying.specs.Mapped.{carryMappedOutcome}
+use Rattle.carrying.specs.CarryLaws.{carry-not, map-not as carry-map-not}
 use Rattle.cutting.specs.Cut.{CutOutcome}
 use Rattle.cutting.specs.Mapped.{cutMappedOutcome}
 use Rattle.cutting.specs.CutLaws.{cut-not, map-not}
@@ -35,7 +36,6 @@ use Rattle.building.specs.Build.{placeRows, blockFault, buildFault, BuildOutcom
 use Rattle.building.specs.Build.{buildRefused}
 use Rattle.store.specs.declared.Place.{Place}
 use Rattle.promises.specs.Words.{OfBlock, slot-6, payload-7, page-8, place-10}
-use Rattle.promises.specs.StoreLaws.{write-not}
 
 -- what every refusal of some rows gives back, any refusal of theirs gives back
 kept : {A B : Type 0} (number : A → ℕ) (field : A → B) (d : A) (r : ℕ → A) (x : B) → number d ≡ 0 → ((k : ℕ) → field (r k) ≡ x)
@@ -83,27 +83,21 @@ read-kept P patch full b base page h =
     kept (λ (o : ReadOutcome). o .number) (λ (o : ReadOutcome). o .page) _ _ page refl (λ k. refl)
     (firstOf (readRows P patch full b base page)) h
 
-pub write-kept : (P : ℕ) (patch full : List ℕ) (b : ℕ) (base page : List ℕ) → (writeOutcome P patch full b base page .number ≡ 0 → ⊥)
-    → (writeOutcome P patch full b base page .patch ≡ patch) × (writeOutcome P patch full b base page .full ≡ full)
-write-kept P patch full b base page h =
-    let e = write-not P patch full b base page h in
-    (ap (λ (o : WriteOutcome). o .patch) e, ap (λ (o : WriteOutcome). o .full) e)
+pub carry-kept : (P : ℕ) (patch full : List ℕ) (b : ℕ) (d : Decision) → (carryOutcome P patch full b d .number ≡ 0 → ⊥)
+    → (carryOutcome P patch full b d .patch ≡ patch) × (carryOutcome P patch full b d .full ≡ full)
+carry-kept P patch full b d h =
+    let e = carry-not P [] patch full b d h in
+    (ap (λ (o : CarryOutcome). o .patch) e, ap (λ (o : CarryOutcome). o .full) e)
 
 -- with a lent map: the map too
-pub write-mapped-kept : (P : ℕ) (patch full map : List ℕ) (b : ℕ) (base page : List ℕ)
-    → (writeMappedOutcome P patch full map b base page .written .number ≡ 0 → ⊥)
-    → (writeMappedOutcome P patch full map b base page .written .patch ≡ patch)
-    × (writeMappedOutcome P patch full map b base page .written .full ≡ full)
-    × (writeMappedOutcome P patch full map b base page .map ≡ map)
-unfolding writeMappedOutcome
-write-mapped-kept P patch full map b base page h =
-    let k : ℕ = firstOf (writeMappedRows P patch full map b base page) in
-    let e : writeMappedOutcome P patch full map b base page ≡ record { written = writeRefused k patch full; map = map } =
-    decided-refused _ _ k k refl (λ q. h (write-mapped-number P patch full map b base page ∙ q)) in (
-      ap (λ (o : MappedOutcome). o .written .patch) e,
-      ap (λ (o : MappedOutcome). o .written .full) e,
-      ap (λ (o : MappedOutcome). o .map) e,
-    )
+pub carry-mapped-kept : (P : ℕ) (patch full map : List ℕ) (b : ℕ) (d : Decision)
+    → (carryMappedOutcome P patch full map b d .areas .number ≡ 0 → ⊥)
+    → (carryMappedOutcome P patch full map b d .areas .patch ≡ patch) × (carryMappedOutcome P patch full map b d .areas .full ≡ full)
+    × (carryMappedOutcome P patch full map b d .map ≡ map)
+unfolding carryMappedOutcome
+carry-mapped-kept P patch full map b d h =
+    let e = carry-not P _ patch full b d h in
+    (ap (λ (o : CarryOutcome). o .patch) e, ap (λ (o : CarryOutcome). o .full) e, carry-map-not P patch full map b d h)
 
 pub read-mapped-kept : (P : ℕ) (patch full map : List ℕ) (b : ℕ) (base page : List ℕ)
     → (readMappedOutcome P patch full map b base page .number ≡ 0 → ⊥) → readMappedOutcome P patch full map b base page .page ≡ page

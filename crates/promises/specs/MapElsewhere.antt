@@ -1,11 +1,12 @@
 -- A store from elsewhere, and the map that Build made of it. The request speaks of runs from fresh areas; a shop opens a store, builds its
--- map, and then lends it to every write and cut. So it is stated here too: from any areas that Build accepts, with the map that it left, any run of
--- writes and cuts that are lent the map ends with areas that Build accepts and with the map that it makes of them, and reads by it are Read's.
-use Prim.Native.Nat.{ℕ, _≤_, _<_}
+-- map, and then lends it to every write and cut. So it is stated here too: from any areas that Build accepts, with the map that it left, any
+-- run of writes and cuts that are lent the map ends with areas that Build accepts and with the map that it makes of them, and reads by it are
+-- Read's. A write carries out any decision, whoever made it.
+use Prim.Native.Nat.{ℕ, _<_}
 use mathlib.Core.Path.{_≡_, refl, sym, ap, _∙_}
 use mathlib.Core.Bool.{Bool, true, false}
 use mathlib.Core.List.{List, [], _∷_}
-use lib.Dec.{eqb, lit≤}
+use lib.Dec.{eqb}
 use native.Mathlib.Omega.{arith}
 use native.Mathlib.Decide.{decLt}
 use lib.ListN.{length}
@@ -16,18 +17,20 @@ use Rattle.layout.specs.FirstFaultLaws.{none-below}
 use Rattle.slots.specs.Slots.{slotNumbers}
 use Rattle.slots.specs.Meaning.{empty-numbers}
 use Rattle.store.specs.Block.{slotOf, placeOf, slotRows, fullRows, payloadRows}
+use Rattle.carrying.specs.Puts.{order}
 use Rattle.building.specs.Build.{placeRows, blockFault, BuildOutcome, buildDone}
 use Rattle.building.specs.BuildLaws.{no-strays, block-empty, build-zero, build-done}
 use Rattle.building.specs.BuildWords.{SoundFrame, PairsOf}
 use Rattle.building.specs.BuildMeaningLaws.{frame-iff, pairs-are}
 use Rattle.building.specs.declared.Built.the-variants.{Done}
-use Rattle.promises.specs.Words.{blocks, LengthsFit, HeadersFit, Stored}
+use Rattle.promises.specs.Words.{blocks, LengthsFit, HeadersFit}
 use Rattle.promises.specs.FrameLaws.{lengths-moved, headers-moved}
-use Rattle.promises.specs.StoreLaws.{write-not, write-stored}
+use Rattle.promises.specs.StoreLaws.{StoredAt, carry-stored}
+use Rattle.promises.specs.Kept.{carry-kept}
 use Rattle.promises.specs.Runs.{run, write, wipe, left-cell}
 use Rattle.promises.specs.RunWords.{Areas, readAt, Lent, Cut, Operation, outcome, taken, next, cutTaken, cutNext, after, accepted}
 use Rattle.promises.specs.RunStore.{cellAt, store}
-use Rattle.promises.specs.RunStoreLaws.{accepted-write, cell-here, cut-not-taken, drops, store-laws}
+use Rattle.promises.specs.RunStoreLaws.{cell-here, cut-not-taken, drops, store-laws}
 use Rattle.promises.specs.RunReads.{Held}
 use Rattle.promises.specs.RunReadLaws.{left-held, held-fine}
 use Rattle.promises.specs.RunBuild.{builds}
@@ -53,15 +56,15 @@ same-block P patch full patch′ full′ b e f g = rw (e, f, g)
 
 -- A write leaves none
 
-module _ (P : ℕ) (small : P ≤ 65536) (s : Areas) (w : Lent) (fine : Fine P s) where
+module _ (P : ℕ) (s : Areas) (w : Lent) (fine : Fine P s) where
   module _ (e : taken P s w ≡ true) where
-    done : Stored P (s .patch) (s .full) (w .block) (w .base) (w .page) (outcome P s w .kind) (outcome P s w .patch) (outcome P s w .full)
-    done = write-stored P (s .patch) (s .full) (w .block) (w .base) (w .page) (accepted-write P s w e)
+    done : StoredAt P (w .block) (w .decision) (order (w .decision .kind)) s (next P s w)
+    done = carry-stored P (s .patch) (s .full) (w .block) (w .decision) (eqb-true (outcome P s w .number) 0 e)
 
     held : Held P (next P s w .full) (w .block) (cellAt P (next P s w) (w .block))
     held =
         rw (cell-here P s w e)
-        (left-held P small (next P s w) (w .block) _
+        (left-held P (next P s w) (w .block) _
         (left-cell w (ap (λ (f : Areas). taken P f w) (store-laws P .frame-kept s (write w)) ∙ sym (store-laws P .by-frame s (write w)) ∙ e)
         refl))
 
@@ -90,8 +93,8 @@ module _ (P : ℕ) (small : P ≤ 65536) (s : Areas) (w : Lent) (fine : Fine P s
             sound = sound-next e;
           }
       go false e =
-          let kept = write-not P (s .patch) (s .full) (w .block) (w .base) (w .page) (eqb-false (outcome P s w .number) 0 e) in
-          rw kept fine
+          let kept = carry-kept P (s .patch) (s .full) (w .block) (w .decision) (eqb-false (outcome P s w .number) 0 e) in
+          rw (kept .0, kept .1) fine
 
 -- and neither does a cut: what it drops is EMPTY, and its place is clean
 fine-cut : (P : ℕ) (s : Areas) (K : Cut) → Fine P s → Fine P (cutNext P s K)
@@ -120,15 +123,15 @@ fine-cut P s K fine = go (cutTaken P s K) refl
         }
     go false e = rw (cut-not-taken P s K e) fine
 
-fine-after : (P : ℕ) → P ≤ 65536 → (s : Areas) → Fine P s → (os : List Operation) → Fine P (after P s os)
+fine-after : (P : ℕ) (s : Areas) → Fine P s → (os : List Operation) → Fine P (after P s os)
 unfolding run
-fine-after P small s fine [] = fine
-fine-after P small s fine (write w ∷ os) = fine-after P small (next P s w) (fine-next P small s w fine) os
-fine-after P small s fine (wipe K ∷ os) = fine-after P small (cutNext P s K) (fine-cut P s K fine) os
+fine-after P s fine [] = fine
+fine-after P s fine (write w ∷ os) = fine-after P (next P s w) (fine-next P s w fine) os
+fine-after P s fine (wipe K ∷ os) = fine-after P (cutNext P s K) (fine-cut P s K fine) os
 
 -- What Build accepts
 
-module _ (P : ℕ) (small : P ≤ 65536) (s : Areas) (map : List ℕ) (accepts : buildInto P s map .number ≡ 0) where
+module _ (P : ℕ) (s : Areas) (map : List ℕ) (accepts : buildInto P s map .number ≡ 0) where
   frame : SoundFrame P (s .patch) (s .full) map
   frame = frame-iff P (s .patch) (s .full) map .0 (build-zero P (s .patch) (s .full) map accepts .0)
 
@@ -166,7 +169,7 @@ module _ (P : ℕ) (small : P ≤ 65536) (s : Areas) (map : List ℕ) (accepts :
 
     built : buildInto P (after P s os) (laid (after P s os) map) ≡ buildDone (laid (after P s os) map)
     built =
-        let f : Fine P (after P s os) = fine-after P small s fine os in
+        let f : Fine P (after P s os) = fine-after P s fine os in
         builds P (after P s os .patch) (after P s os .full) (f .sound) (f .lengths) (f .headers) (laid (after P s os) map)
         (laid-long (after P s os) map long)
         ∙ ap buildDone (laid-twice (after P s os) map long)
@@ -192,14 +195,14 @@ module _ (s : Areas) (map : List ℕ) (accepts : buildInto pageSize s map .numbe
   pub same-from-elsewhere : (acceptedWith pageSize opened os ≡ accepted pageSize s os)
       × (afterWith pageSize opened os .areas ≡ after pageSize s os)
   same-from-elsewhere = (
-    accepted-elsewhere pageSize (lit≤ tt) s map accepts os,
-    ap (λ (x : Mapped). x .areas) (run-elsewhere pageSize (lit≤ tt) s map accepts os),
+    accepted-elsewhere pageSize s map accepts os,
+    ap (λ (x : Mapped). x .areas) (run-elsewhere pageSize s map accepts os),
   )
 
   -- Build accepts what the run leaves, and changes no byte of the map
   pub built-from-elsewhere : buildInto pageSize (afterWith pageSize opened os .areas) (afterWith pageSize opened os .map)
       ≡ buildDone (afterWith pageSize opened os .map)
-  built-from-elsewhere = built-elsewhere pageSize (lit≤ tt) s map accepts os
+  built-from-elsewhere = built-elsewhere pageSize s map accepts os
 
   -- so each pair says what its block's slot is,
   pub pairs-from-elsewhere : PairsOf (afterWith pageSize opened os .areas .patch) (afterWith pageSize opened os .map)
@@ -215,5 +218,5 @@ module _ (s : Areas) (map : List ℕ) (accepts : buildInto pageSize s map .numbe
   pub reads-from-elsewhere : (b : ℕ) (base page : List ℕ)
       → readByMap pageSize (afterWith pageSize opened os) b base page ≡ readAt pageSize (afterWith pageSize opened os .areas) b base page
   reads-from-elsewhere b base page =
-      reads-elsewhere pageSize (lit≤ tt) s map accepts os b base page
+      reads-elsewhere pageSize s map accepts os b base page
       ∙ ap (λ (t : Areas). readAt pageSize t b base page) (sym (same-from-elsewhere .1))

@@ -5,7 +5,7 @@ use native.Mathlib.Decide.{decLt}
 use mathlib.Core.Path.{_≡_, refl, sym, ap, _∙_}
 use mathlib.Core.Bool.{true, false}
 use mathlib.Core.Logic.{_↔_, _⊎_, inl, inr, ⊎-elim}
-use mathlib.Core.Option.{Option·none-ne-some}
+use mathlib.Core.Option.{some, Option·none-ne-some}
 use mathlib.Core.List.{List, [], _∷_, map, List·Memᴰ·head, List·Memᴰ·not-nil}
 use lib.ListN.{length, getD}
 use borrow.Author.Tests.{le-leb, lt-leb}
@@ -18,8 +18,7 @@ use Rattle.blockmap.specs.Pack.{pairOf}
 use Rattle.blockmap.specs.PackLaws.{packed-zero}
 use Rattle.stream.specs.Calls.{pageOf}
 use Rattle.store.specs.Block.{slotOf}
-use Rattle.reading.specs.Read.{ReadOutcome}
-use Rattle.writing.specs.Mapped.{MappedOutcome}
+use Rattle.reading.specs.Read.{ReadOutcome, readDone}
 use Rattle.building.specs.Build.{BuildOutcome, builtMap, buildDone}
 use Rattle.building.specs.MapLaws.{built-length, laid-later, laid-length}
 use Rattle.building.specs.BuildWords.{PairsOf}
@@ -32,10 +31,12 @@ use Rattle.promises.specs.RunWords.{Areas, readAt, Lent, Cut, Operation,
 use Rattle.promises.specs.RunStore.{store}
 use Rattle.promises.specs.RunStoreLaws.{store-laws}
 use Rattle.promises.specs.FreshLaws.{fresh-lengths, fresh-cell, fresh-one}
-use Rattle.promises.specs.MapTables.{write-short}
+use Rattle.promises.specs.CarryWords.{PageFits, ReadAs}
+use Rattle.promises.specs.CarryTables.{carry-short}
 use Rattle.promises.specs.Tables.{read-by-page}
 use Rattle.promises.specs.CutTables.{cut-short}
-use Rattle.promises.specs.RunLaws.{lasts-leave-same, lasts-list, kept, build-accepts, runs-agreeing, keeps-over, follows-over}
+use Rattle.promises.specs.RunLaws.{lasts-leave-same, lasts-list, kept, reads-given, build-accepts, runs-agreeing}
+use Rattle.promises.specs.RunLaws.{keeps-over, follows-over}
 use Rattle.promises.specs.Beside.{run-with, taking-with, run-without-room, taking-without-room}
 use Rattle.promises.specs.MapWords.{Mapped, mapRoom, Long, mapPart, buildInto, readByMap, mapped, afterWith, acceptedWith}
 use Rattle.promises.specs.MapWords.{cutMapped, JustLastsWith, FollowsBasesWith, KeepsBasesWith, OverBasesWith, FreshWith, SameRoom, Alike}
@@ -137,6 +138,14 @@ module _ (P : ℕ) (x : Mapped) (h : FreshWith P x) where
           (ap (λ (o : BuildOutcome). o .number) (build-accepts P (x .areas) (h .fresh) small os (x .map) (long-after os)))
           (laid (after P (x .areas) os) (x .map)) (laid-part (after P (x .areas) os) (x .map) (long-after os)) b base page)
 
+      -- so a block at which a write stands reads by the map as the decision says, whoever made it
+      pub reads-given-by-map : (b : ℕ) → b < blocks (x .areas .patch) → (w : Lent) → lastTo b (acceptedWith P x os) ≡ some (write w)
+          → (base page : List ℕ) → PagesFit P base page → (y : List ℕ) → ReadAs P base (w .decision) y
+          → readByMap P (afterWith P x os) b base page ≡ readDone (w .decision .kind) y
+      reads-given-by-map b n w e base page f y r =
+          reads-by-map b base page
+          ∙ reads-given P (x .areas) (h .fresh) small os b n base page f w (ap (lastTo b) (sym (accepted-is os)) ∙ e) y r
+
       pub pairs-at-end : PairsOf (afterWith P x os .areas .patch) (afterWith P x os .map)
       pairs-at-end =
           pairs-are P (afterWith P x os .areas .patch) (afterWith P x os .areas .full) (x .map) Done (afterWith P x os .map)
@@ -157,11 +166,9 @@ module _ (P : ℕ) (x : Mapped) (h : FreshWith P x) where
     pub short-accepts : (os : List Operation) → acceptedWith P x os ≡ []
     short-accepts os = taking-without-room (store P) (beside P) (store-laws P) (beside-laws P) (x .areas) (x .map) none os
 
-    pub short-nine : (w : Lent) → PagesFit P (w .base) (w .page) → mapped P x w .written .number ≡ 9
+    pub short-nine : (w : Lent) → PageFits P (w .decision) → mapped P x w .areas .number ≡ 9
     short-nine w f =
-        ap (λ (o : MappedOutcome). o .written .number)
-        (write-short P (x .areas .patch) (x .areas .full) (x .map) (w .block) (w .base) (w .page) f
-        (fresh-lengths P (x .areas) (h .fresh)) short)
+        carry-short P (x .areas .patch) (x .areas .full) (x .map) (w .block) (w .decision) f (fresh-lengths P (x .areas) (h .fresh)) short
 
     pub short-cut-nine : (K : Cut) → cutMapped P x K .areas .number ≡ 9
     short-cut-nine K = cut-short P (x .areas .patch) (x .areas .full) (x .map) K (fresh-lengths P (x .areas) (h .fresh)) short

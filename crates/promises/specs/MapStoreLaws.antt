@@ -19,25 +19,26 @@ use Rattle.blockmap.specs.PackLaws.{packed-same}
 use Rattle.blockmap.specs.SetLaws.{putAt, set-laid, set-packed}
 use Rattle.blockmap.specs.ClearLaws.{noneFrom, clear-laid, clear-packed}
 use Rattle.store.specs.Block.{slotOf}
-use Rattle.writing.specs.Write.{WriteOutcome}
-use Rattle.writing.specs.Mapped.{MappedOutcome, keptBy}
-use Rattle.writing.specs.MappedLaws.{mapped-accepted, mapped-refused}
+use Rattle.carrying.specs.Puts.{order}
+use Rattle.carrying.specs.CarryOut.{CarryOutcome}
+use Rattle.carrying.specs.CarryLaws.{map-done, map-not}
 use Rattle.cutting.specs.Cut.{CutOutcome}
-use Rattle.cutting.specs.CutLaws.{map-done, map-not}
+use Rattle.cutting.specs.CutLaws.{map-done as cut-map-done, map-not as cut-map-not}
 use Rattle.building.specs.Build.{builtMap}
 use Rattle.building.specs.MapLaws.{laid-length, built-length}
-use Rattle.promises.specs.Words.{blocks, Stored}
+use Rattle.promises.specs.Words.{blocks}
 use Rattle.span.specs.EmptiedLaws.{emptied-length}
-use Rattle.promises.specs.StoreLaws.{write-not, Accepted, accepted, write-stored}
-use Rattle.promises.specs.Kept.{write-mapped-kept, cut-mapped-kept}
-use Rattle.promises.specs.MapTables.{reaches, fitting, stored-numbers}
+use Rattle.promises.specs.CarryTables.{mapped-as-carry, carry-fitting}
+use Rattle.promises.specs.StoreLaws.{StoredAt, slot-anew, carry-stored}
+use Rattle.promises.specs.Kept.{carry-kept, carry-mapped-kept, cut-mapped-kept}
+use Rattle.promises.specs.MapTables.{reaches, fit-numbers}
 use Rattle.promises.specs.CutTables.{cut-accepted, mapped-as-cut, cut-fitting}
 use Rattle.promises.specs.Runs.{write, wipe}
 use Rattle.promises.specs.RunWords.{Areas, Lent, Cut, outcome, cutting, taken, next, cutTaken, cutNext}
 use Rattle.promises.specs.RunStore.{store}
 use Rattle.promises.specs.RunStoreLaws.{accepted-write, accepted-cut, cut-not-taken, drops}
 use Rattle.promises.specs.Beside.{BesideLaws}
-use Rattle.promises.specs.MapWords.{Mapped, mapRoom, Long, mapped, cutMapped, takesWithBy, doesWithBy}
+use Rattle.promises.specs.MapWords.{mapRoom, Long, mapped, cutMapped, takesWithBy, doesWithBy}
 use Rattle.promises.specs.MapStore.{with, laid, beside}
 
 -- a map that is long enough is so with the built one laid over it
@@ -50,17 +51,19 @@ laid-long s map long =
 -- The built map after a write
 
 module _ (P : ℕ) (s : Areas) (w : Lent) (e : taken P s w ≡ true) where
-  a : Accepted P (s .patch) (s .full) (w .block) (w .base) (w .page)
-  a = accepted P (s .patch) (s .full) (w .block) (w .base) (w .page) (accepted-write P s w e)
+  done : StoredAt P (w .block) (w .decision) (order (w .decision .kind)) s (next P s w)
+  done = carry-stored P (s .patch) (s .full) (w .block) (w .decision) (eqb-true (outcome P s w .number) 0 e)
 
-  done : Stored P (s .patch) (s .full) (w .block) (w .base) (w .page) (outcome P s w .kind) (outcome P s w .patch) (outcome P s w .full)
-  done = write-stored P (s .patch) (s .full) (w .block) (w .base) (w .page) (accepted-write P s w e)
+  slot-kind : slotNumbers (slotOf (outcome P s w .patch) (w .block)) .kind ≡ w .decision .kind
+  slot-kind =
+      ap (λ (l : List ℕ). slotNumbers l .kind) (done .slot-is ∙ slot-anew (w .decision) (slotOf (s .patch) (w .block)))
+      ∙ fit-numbers P (w .decision) (accepted-write P s w e .fit) .1
 
   -- it is the one before it, with the block's own pair set
-  built-next : setPair (builtMap (s .patch)) (w .block) (pairOf (outcome P s w .kind)) ≡ builtMap (next P s w .patch)
+  built-next : setPair (builtMap (s .patch)) (w .block) (pairOf (w .decision .kind)) ≡ builtMap (next P s w .patch)
   unfolding builtMap
   built-next =
-      set-packed before n (w .block) v (a .below)
+      set-packed before n (w .block) v (accepted-write P s w e .below)
       ∙ packed-same (putAt before (w .block) v) after n (λ c h. pair c (eqb c (w .block)) refl)
       ∙ ap (λ (l : ℕ). packed after (blocksIn l)) (sym (done .frame .patch-length))
     where
@@ -68,7 +71,7 @@ module _ (P : ℕ) (s : Areas) (w : Lent) (e : taken P s w ≡ true) where
       n = blocks (s .patch)
 
       v : ℕ
-      v = pairOf (outcome P s w .kind)
+      v = pairOf (w .decision .kind)
 
       before : ℕ → ℕ
       before c = pairOf (slotNumbers (slotOf (s .patch) c) .kind)
@@ -79,8 +82,7 @@ module _ (P : ℕ) (s : Areas) (w : Lent) (e : taken P s w ≡ true) where
       pair : (c : ℕ) (t : Bool) → eqb c (w .block) ≡ t → cond (eqb c (w .block)) v (before c) ≡ after c
       pair c true q =
           let r : c ≡ w .block = eqb-true c (w .block) q in
-          rw q (ap pairOf (sym (ap (λ (i : ℕ). slotNumbers (slotOf (outcome P s w .patch) i) .kind) r
-          ∙ stored-numbers P (w .base) (w .page) (done .stored) .1)))
+          rw q (ap pairOf (sym (ap (λ (i : ℕ). slotNumbers (slotOf (outcome P s w .patch) i) .kind) r ∙ slot-kind)))
       pair c false q =
           rw q (ap (λ (l : List ℕ). pairOf (slotNumbers l .kind)) (sym (done .other-slots c (eqb-false c (w .block) q))))
 
@@ -88,55 +90,43 @@ module _ (P : ℕ) (s : Areas) (w : Lent) (e : taken P s w ≡ true) where
 
 module _ (P : ℕ) (s : Areas) (map : List ℕ) (w : Lent) where
   module _ (long : Long s map) where
-    with-accepted : taken P s w ≡ true → mapped P (with s (laid s map)) w ≡ keptBy (outcome P s w) (laid s map) (w .block)
-    with-accepted e = mapped-accepted P (s .patch) (s .full) (laid s map) (w .block) (w .base) (w .page) (laid-long s map long) (accepted-write P s w e)
-
-    with-refused : taken P s w ≡ false → mapped P (with s (laid s map)) w ≡ record { written = outcome P s w; map = laid s map }
-    with-refused e = mapped-refused P (s .patch) (s .full) (laid s map) (w .block) (w .base) (w .page) (laid-long s map long)
-        (eqb-false (outcome P s w .number) 0 e)
+    same : mapped P (with s (laid s map)) w .areas ≡ outcome P s w
+    same = mapped-as-carry P (s .patch) (s .full) (laid s map) (w .block) (w .decision) (laid-long s map long)
 
     same-taken : takesWithBy (mapped P) (cutMapped P) (with s (laid s map)) (write w) ≡ taken P s w
-    same-taken = go (taken P s w) refl
-      where
-        go : (t : Bool) → taken P s w ≡ t → takesWithBy (mapped P) (cutMapped P) (with s (laid s map)) (write w) ≡ taken P s w
-        go true e = ap (λ (o : MappedOutcome). eqb (o .written .number) 0) (with-accepted e)
-        go false e = ap (λ (o : MappedOutcome). eqb (o .written .number) 0) (with-refused e)
+    same-taken = ap (λ (o : CarryOutcome). eqb (o .number) 0) same
+
+    map-next : (t : Bool) → taken P s w ≡ t → mapped P (with s (laid s map)) w .map ≡ laid (next P s w) map
+    map-next true e =
+        let n : mapped P (with s (laid s map)) w .areas .number ≡ 0 = ap (λ (o : CarryOutcome). o .number) same
+        ∙ eqb-true (outcome P s w .number) 0 e in
+        let l : length (builtMap (s .patch)) ≡ mapBytes (blocks (s .patch)) = built-length (s .patch) in
+        let b : w .block < blocks (s .patch) = accepted-write P s w e .below in
+        let own-byte : w .block / 4 < length (builtMap (s .patch)) =
+        reaches (blocks (s .patch)) (w .block) (length (builtMap (s .patch))) (omega arith) b in
+        map-done P (s .patch) (s .full) (laid s map) (w .block) (w .decision) n
+        ∙ set-laid map (builtMap (s .patch)) (w .block) (pairOf (w .decision .kind)) own-byte
+        ∙ ap (λ (x : List ℕ). splice map 0 x) (built-next P s w e)
+    map-next false e =
+        let h : outcome P s w .number ≡ 0 → ⊥ = eqb-false (outcome P s w .number) 0 e in
+        map-not P (s .patch) (s .full) (laid s map) (w .block) (w .decision)
+        (λ q. h (sym (ap (λ (o : CarryOutcome). o .number) same) ∙ q))
+        ∙ ap (λ (x : List ℕ). splice map 0 (builtMap x)) (sym (carry-kept P (s .patch) (s .full) (w .block) (w .decision) h .0))
 
     moved : doesWithBy (mapped P) (cutMapped P) (with s (laid s map)) (write w) ≡ with (next P s w) (laid (next P s w) map)
-    moved = go (taken P s w) refl
-      where
-        left : MappedOutcome → Mapped
-        left o = with (record { patch = o .written .patch; full = o .written .full }) (o .map)
-
-        own-byte : taken P s w ≡ true → w .block / 4 < length (builtMap (s .patch))
-        own-byte e =
-            let l : length (builtMap (s .patch)) ≡ mapBytes (blocks (s .patch)) = built-length (s .patch) in
-            let b : w .block < blocks (s .patch) = a P s w e .below in
-            reaches (blocks (s .patch)) (w .block) (length (builtMap (s .patch))) (omega arith) b
-
-        go : (t : Bool) → taken P s w ≡ t
-            → doesWithBy (mapped P) (cutMapped P) (with s (laid s map)) (write w) ≡ with (next P s w) (laid (next P s w) map)
-        go true e =
-            ap left (with-accepted e)
-            ∙ ap (with (next P s w))
-            (set-laid map (builtMap (s .patch)) (w .block) (pairOf (outcome P s w .kind)) (own-byte e)
-            ∙ ap (λ (l : List ℕ). splice map 0 l) (built-next P s w e))
-        go false e =
-            let kept : next P s w ≡ s = ap (λ (o : WriteOutcome). record { patch = o .patch; full = o .full })
-            (write-not P (s .patch) (s .full) (w .block) (w .base) (w .page) (eqb-false (outcome P s w .number) 0 e)) in
-            ap left (with-refused e) ∙ ap (λ (t : Areas). with (next P s w) (laid t map)) (sym kept)
+    moved = λ i. with (record { patch = same i .patch; full = same i .full }) (map-next (taken P s w) refl i)
 
   -- a map that is too short
   module _ (short : length map < mapRoom s) where
-    refuses : mapped P (with s map) w .written .number ≡ 0 → ⊥
-    refuses e = omega (arith, short, fitting P (s .patch) (s .full) map (w .block) (w .base) (w .page) e)
+    refuses : mapped P (with s map) w .areas .number ≡ 0 → ⊥
+    refuses e = omega (arith, short, carry-fitting P (s .patch) (s .full) map (w .block) (w .decision) e)
 
     pub not-taken-short : takesWithBy (mapped P) (cutMapped P) (with s map) (write w) ≡ false
-    not-taken-short = ne-eqb (mapped P (with s map) w .written .number) 0 refuses
+    not-taken-short = ne-eqb (mapped P (with s map) w .areas .number) 0 refuses
 
     pub nothing-short : doesWithBy (mapped P) (cutMapped P) (with s map) (write w) ≡ with s map
     nothing-short =
-        let k = write-mapped-kept P (s .patch) (s .full) map (w .block) (w .base) (w .page) refuses in
+        let k = carry-mapped-kept P (s .patch) (s .full) map (w .block) (w .decision) refuses in
         λ i. with (record { patch = k .0 i; full = k .1 i }) (k .2 i)
 
 -- The built map after a cut: the one before it, with the pairs of the blocks that were dropped cleared
@@ -190,11 +180,11 @@ module _ (P : ℕ) (s : Areas) (map : List ℕ) (K : Cut) where
         let l : length (builtMap (s .patch)) ≡ mapBytes (blocks (s .patch)) = built-length (s .patch) in
         let most : K ≤ blocks (s .patch) = cut-accepted P (s .patch) (s .full) K (accepted-cut P s K e) .1 in
         let reach : K + (blocks (s .patch) - K) ≤ 4 * length (builtMap (s .patch)) = omega (arith, l, most) in
-        map-done P (s .patch) (s .full) (laid s map) K done
+        cut-map-done P (s .patch) (s .full) (laid s map) K done
         ∙ clear-laid map (builtMap (s .patch)) K (blocks (s .patch) - K) reach
         ∙ ap (λ (x : List ℕ). splice map 0 x) (built-cut P s K e)
     cut-map false e =
-        map-not P (s .patch) (s .full) (laid s map) K
+        cut-map-not P (s .patch) (s .full) (laid s map) K
         (λ q. eqb-false (cutting P s K .number) 0 e (sym (ap (λ (o : CutOutcome). o .number) cut-same) ∙ q))
         ∙ ap (λ (t : Areas). laid t map) (sym (cut-not-taken P s K e))
 

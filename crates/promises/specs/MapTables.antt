@@ -1,5 +1,6 @@
--- The numbers that Write with a lent map and Read by the map give, and the whole outcome by the block's pair, from the rows of the
--- definitions to the words of the demands and back.
+-- The numbers that Read by the map gives, and the whole outcome by the block's pair, from the rows of the definitions to the words of the
+-- demands and back. And carrying out with a lent map: the block's own pair, and how blocks read by the map after it; its numbers are in
+-- `CarryTables`.
 use Prim.Native.Nat.{ℕ, zero, suc, _/_, _≤_, _<_}
 use native.Mathlib.Omega.{arith}
 use native.Mathlib.Decide.{decLt}
@@ -13,7 +14,7 @@ use borrow.Author.Tests.{lt-ltb, le-ltb, le-leb, lt-leb, eq-eqb, ne-eqb}
 use Rattle.layout.specs.Refusals.{firstOf, orElse, decided}
 use Rattle.layout.specs.RefusalLaws.{first-hit, first-skip}
 use Rattle.layout.specs.Lengths.{lengthRows}
-use Rattle.slots.specs.Slots.{SlotNumbers, slotNumbers, soundSlot, isPatch, payloadOf}
+use Rattle.slots.specs.Slots.{SlotNumbers, slotNumbers, soundSlot, isPatch, payloadOf, slotImage}
 use Rattle.slots.specs.SlotLaws.{patch-told}
 use Rattle.slots.specs.Meaning.{empty-numbers, full-numbers, patch-numbers}
 use Rattle.payload.specs.Entries.{sound, offsetWith}
@@ -24,6 +25,7 @@ use Rattle.blockmap.specs.SetLaws.{pair-set, kind-back}
 use Rattle.blockmap.specs.PackLaws.{pair-of-below}
 use Rattle.blockmap.specs.Calls.{shortMap}
 use Rattle.stream.specs.Calls.{pagesFit, pageOf, pageRows}
+use Rattle.stream.specs.Kinds.{accepted-fits}
 use Rattle.store.specs.Block.{slotOf, placeOf}
 use Rattle.store.specs.Frame.{frameRows}
 use Rattle.store.specs.FrameLaws.{lengthsFit}
@@ -33,21 +35,23 @@ use Rattle.reading.specs.Parts.{kindOutcome}
 use Rattle.reading.specs.ReadLaws.{read-slot}
 use Rattle.reading.specs.MappedLaws.{mapped-looked, mapped-within, kind-empty, kind-not, kind-missing, kind-full, slot-as}
 use Rattle.reading.specs.MappedLaws.{mapped-frame as read-mapped-frame, frame as rowsFrame, looked, byKind, mapped-rows}
-use Rattle.writing.specs.Write.{WriteOutcome, writeRefused, writeOutcome}
-use Rattle.writing.specs.Mapped.{MappedOutcome, writeMappedOutcome}
-use Rattle.writing.specs.MappedLaws.{mapped-frame, mapped-accepted, mapped-refused}
-use Rattle.promises.specs.Words.{blocks, places, PagesFit, LengthsFit, FrameFits, FrameRefuses, PatchOf, MapFits}
-use Rattle.promises.specs.Words.{MapRefuses, pages, lengths, short, header, WriteMappedGives, ReadableBy, MapAt, ReadMappedGives}
-use Rattle.promises.specs.Words.{PairFor, empty-0, patch-2, full-1, StoredAs, Stored}
+use Rattle.carrying.specs.Puts.{Decision, order}
+use Rattle.carrying.specs.CarryOut.{CarryOutcome, carryOutcome}
+use Rattle.carrying.specs.Mapped.{carryMappedOutcome}
+use Rattle.carrying.specs.CarryLaws.{map-done}
+use Rattle.promises.specs.Words.{blocks, places, PagesFit, FrameFits, FrameRefuses, PatchOf, MapFits}
+use Rattle.promises.specs.Words.{MapRefuses, pages, lengths, short, header, ReadableBy, MapAt, ReadMappedGives}
+use Rattle.promises.specs.Words.{PairFor, empty-0, patch-2, full-1}
 use Rattle.promises.specs.FrameLaws.{tells-no, no-tells, tells-pages, tells-lengths, frameNumber, FrameIs, frame-refused, frame-right}
-use Rattle.promises.specs.FrameLaws.{frame-is, frame-gives, frame-zero, frame-some, lengths-moved, headers-moved}
-use Rattle.promises.specs.FrameLaws.{frame-same}
-use Rattle.promises.specs.Kept.{write-mapped-kept}
-use Rattle.promises.specs.SlotLaws.{patch-of, Sort, of-empty, of-patch, of-full, of-none, sort-of}
-use Rattle.promises.specs.Tables.{write-table}
-use Rattle.promises.specs.StoreLaws.{Accepted, accepted, write-stored}
+use Rattle.promises.specs.FrameLaws.{frame-is, frame-gives, frame-zero, frame-some, frame-same}
+use Rattle.promises.specs.Kept.{carry-mapped-kept}
+use Rattle.promises.specs.SlotLaws.{patch-of, image-empty, image-patch, image-full, Sort, of-empty, of-patch, of-full, of-none, sort-of}
+use Rattle.promises.specs.Decisions.{Fit, ComparedBy}
+use Rattle.promises.specs.CarryWords.{ReadAs}
+use Rattle.promises.specs.CarryTables.{Accepted, accepted, mapped-as-carry, carry-fitting}
+use Rattle.promises.specs.StoreLaws.{StoredAt, slot-anew, carry-stored}
 use Rattle.promises.specs.ReadLaws.{reads-patch, reads-unsound, base-fits}
-use Rattle.promises.specs.WriteLaws.{reads-back}
+use Rattle.promises.specs.PairLaws.{carried-kind, left-fits, reads-decided, reads-back}
 
 -- What comes before any block
 
@@ -113,91 +117,6 @@ module _ (P : ℕ) (patch full map base page : List ℕ) where
   map-some (lengths p h) e = omega arith
   map-some (short p l s) e = omega arith
   map-some (header l r) e = frame-some P patch full base page r e
-
--- Write with a lent map
-
--- a map that fits has the byte of every block
-pub reaches : (n b l : ℕ) → mapBytes n ≤ l → b < n → b / 4 < l
-unfolding mapBytes
-reaches n b l h k = omega arith
-
-module _ (P : ℕ) (patch full map : List ℕ) (b : ℕ) (base page : List ℕ) where
-  write-refused : {k : ℕ} → MapRefuses P patch full map base page k
-      → writeMappedOutcome P patch full map b base page ≡ record { written = writeRefused k patch full; map = map }
-  unfolding mapFrame
-  write-refused {k} r =
-      mapped-frame P patch full map b base page k (map-gives P patch full map base page r) (map-some P patch full map base page r)
-
-  pub write-short : PagesFit P base page → LengthsFit P patch full → length map < mapBytes (blocks patch)
-      → writeMappedOutcome P patch full map b base page ≡ record { written = writeRefused 9 patch full; map = map }
-  write-short p l s = write-refused (short p l s)
-
-  -- with a map that fits, Write's own outcome
-  pub written-as-write : MapFits patch map
-      → writeMappedOutcome P patch full map b base page .written ≡ writeOutcome P patch full b base page
-  written-as-write l = go (writeOutcome P patch full b base page .number) refl
-    where
-      go : (k : ℕ) → writeOutcome P patch full b base page .number ≡ k
-          → writeMappedOutcome P patch full map b base page .written ≡ writeOutcome P patch full b base page
-      go zero e = ap (λ (o : MappedOutcome). o .written) (mapped-accepted P patch full map b base page l e)
-      go (suc k) e = ap (λ (o : MappedOutcome). o .written) (mapped-refused P patch full map b base page l (λ q. omega (arith, e, q)))
-
-  pub write-mapped-table : (k : ℕ)
-      → (writeMappedOutcome P patch full map b base page .written .number ≡ k) ↔ WriteMappedGives P patch full map b base page k
-  write-mapped-table k = (
-    λ e. subst (λ (j : ℕ). WriteMappedGives P patch full map b base page j) e (given mapped refl (map-frame-is P patch full map base page)),
-    gives,
-  )
-    where
-      mapped : ℕ
-      mapped = mapFrame P patch full map base page
-
-      number : (o : MappedOutcome) → ℕ
-      number o = o .written .number
-
-      given : (j : ℕ) → mapFrame P patch full map base page ≡ j → MapFrameIs P patch full map base page j
-          → WriteMappedGives P patch full map b base page (writeMappedOutcome P patch full map b base page .written .number)
-      given j e (map-refused r) =
-          subst (λ (i : ℕ). WriteMappedGives P patch full map b base page i) (sym (ap number (write-refused r))) (WriteMappedGives.frame r)
-      given j e (map-right f l) =
-          WriteMappedGives.inside l (write-table P patch full b base page _ .0
-          (sym (ap (λ (o : WriteOutcome). o .number) (written-as-write l))))
-
-      gives : WriteMappedGives P patch full map b base page k → writeMappedOutcome P patch full map b base page .written .number ≡ k
-      gives (WriteMappedGives.frame r) = ap number (write-refused r)
-      gives (WriteMappedGives.inside l g) =
-          ap (λ (o : WriteOutcome). o .number) (written-as-write l) ∙ write-table P patch full b base page k .1 g
-
-  -- accepted: the map fits, the write is Write's, and one pair is set
-  pub fitting : writeMappedOutcome P patch full map b base page .written .number ≡ 0 → MapFits patch map
-  fitting e =
-      elim (decLt (length map) (mapBytes (blocks patch))) [
-        | yes s ↦ absurd (unfit s (map-frame-is P patch full map base page))
-        | no s ↦ omega arith
-      ]
-    where
-      unfit : length map < mapBytes (blocks patch) → {j : ℕ} → MapFrameIs P patch full map base page j → ⊥
-      unfit s (map-refused r) =
-          map-some P patch full map base page r (sym (ap (λ (o : MappedOutcome). o .written .number) (write-refused r)) ∙ e)
-      unfit s (map-right f l) = omega (arith, s, l)
-
-  module _ (e : writeMappedOutcome P patch full map b base page .written .number ≡ 0) where
-    pub accepted-is-write : writeMappedOutcome P patch full map b base page .written ≡ writeOutcome P patch full b base page
-    accepted-is-write = written-as-write (fitting e)
-
-    write-zero : writeOutcome P patch full b base page .number ≡ 0
-    write-zero = sym (ap (λ (o : WriteOutcome). o .number) accepted-is-write) ∙ e
-
-    pub accepted-sets-pair : PairSet map b (pairOf (writeOutcome P patch full b base page .kind))
-        (writeMappedOutcome P patch full map b base page .map)
-    accepted-sets-pair =
-        let k : ℕ = writeOutcome P patch full b base page .kind in
-        let a : Accepted P patch full b base page = accepted P patch full b base page write-zero in
-        let l : MapFits patch map = fitting e in
-        let r : b / 4 < length map = reaches (blocks patch) b (length map) l (a .below) in
-        let s : pairOf k < reservedPair = pair-of-below k in
-        rw (ap (λ (o : MappedOutcome). o .map) (mapped-accepted P patch full map b base page l write-zero))
-        (pair-set map b (pairOf k) r (omega arith))
 
 -- Read by the map
 
@@ -383,59 +302,95 @@ pair-for (suc zero) h = patch-2
 pair-for (suc (suc zero)) h = full-1
 pair-for (suc (suc (suc k))) h = absurd (omega arith)
 
--- a stored slot is a sound one of the kind that the write answers
-pub stored-numbers : {k : ℕ} {s c : List ℕ} (P : ℕ) (base page : List ℕ) → StoredAs P base page k s c
-    → (slotNumbers s .number ≡ 0) × (slotNumbers s .kind ≡ k) × (k < 3)
-stored-numbers P base page (StoredAs.empty e) =
-    (ap (λ (x : SlotNumbers). x .number) empty-numbers, ap (λ (x : SlotNumbers). x .kind) empty-numbers, omega arith)
-stored-numbers P base page (StoredAs.patch some room-for) =
-    let e = patch-numbers _ room-for some in
-    (ap (λ (x : SlotNumbers). x .number) e, ap (λ (x : SlotNumbers). x .kind) e, omega arith)
-stored-numbers P base page (StoredAs.full l) =
-    (ap (λ (x : SlotNumbers). x .number) full-numbers, ap (λ (x : SlotNumbers). x .kind) full-numbers, omega arith)
+-- Carrying out with a lent map
 
--- an accepted write: its pair in words, and reading it back by the map
-module _ (P : ℕ) (patch full map : List ℕ) (b : ℕ) (base page : List ℕ)
-    (done : writeMappedOutcome P patch full map b base page .written .number ≡ 0) where
-  same : writeMappedOutcome P patch full map b base page .written ≡ writeOutcome P patch full b base page
-  same = accepted-is-write P patch full map b base page done
+-- a map that fits has the byte of every block
+pub reaches : (n b l : ℕ) → mapBytes n ≤ l → b < n → b / 4 < l
+unfolding mapBytes
+reaches n b l h k = omega arith
 
-  stored : Stored P patch full b base page (writeOutcome P patch full b base page .kind) (writeOutcome P patch full b base page .patch)
-      (writeOutcome P patch full b base page .full)
-  stored = write-stored P patch full b base page (write-zero P patch full map b base page done)
+-- the slot of a decision that can be carried out is a sound one of its kind
+pub fit-numbers : (P : ℕ) (d : Decision) → Fit P d
+    → (slotNumbers (slotImage (d .kind) (d .payload)) .number ≡ 0)
+    × (slotNumbers (slotImage (d .kind) (d .payload)) .kind ≡ d .kind)
+    × (d .kind < 3)
+fit-numbers P d (Fit.empty e) = rw (e, image-empty (d .payload), empty-numbers) (refl, refl, omega arith)
+fit-numbers P d (Fit.patch e low high u) =
+    rw (e, image-patch (d .payload), patch-numbers (d .payload) high low) (refl, refl, omega arith)
+fit-numbers P d (Fit.full e l) = rw (e, image-full (d .payload), full-numbers) (refl, refl, omega arith)
 
-  pub kept-pair : (v : ℕ) × PairFor (writeMappedOutcome P patch full map b base page .written .kind) v
-      × PairSet map b v (writeMappedOutcome P patch full map b base page .map)
-  kept-pair =
-      let k : ℕ = writeOutcome P patch full b base page .kind in (
-        pairOf k,
-        rw same (pair-for k (stored-numbers P base page (stored .stored) .2)),
-        accepted-sets-pair P patch full map b base page done,
-      )
+-- accepted: both areas are as without a map, and one pair is set
+module _ (P : ℕ) (patch full map : List ℕ) (b : ℕ) (d : Decision) (done : carryMappedOutcome P patch full map b d .areas .number ≡ 0) where
+  fitting : MapFits patch map
+  fitting = carry-fitting P patch full map b d done
 
-  pub reads-back-by-map : P ≤ 65536 → (base′ page′ : List ℕ) → pageOf P base′ ≡ pageOf P base → length page′ ≡ P
-      → readMappedOutcome P (writeMappedOutcome P patch full map b base page .written .patch)
-      (writeMappedOutcome P patch full map b base page .written .full) (writeMappedOutcome P patch full map b base page .map) b base′ page′
-      ≡ readDone (writeMappedOutcome P patch full map b base page .written .kind) page
-  reads-back-by-map small base′ page′ e l =
+  pub accepted-is-carry : carryMappedOutcome P patch full map b d .areas ≡ carryOutcome P patch full b d
+  accepted-is-carry = mapped-as-carry P patch full map b d fitting
+
+  carry-zero : carryOutcome P patch full b d .number ≡ 0
+  carry-zero = sym (ap (λ (o : CarryOutcome). o .number) accepted-is-carry) ∙ done
+
+  a : Accepted P patch full b d
+  a = accepted P patch full b d carry-zero
+
+  stored : StoredAt P b d (order (d .kind)) (record { patch = patch; full = full })
+      (record { patch = carryOutcome P patch full b d .patch; full = carryOutcome P patch full b d .full })
+  stored = carry-stored P patch full b d carry-zero
+
+  pub accepted-sets-pair : PairSet map b (pairOf (d .kind)) (carryMappedOutcome P patch full map b d .map)
+  accepted-sets-pair =
+      let r : b / 4 < length map = reaches (blocks patch) b (length map) fitting (a .below) in
+      let s : pairOf (d .kind) < reservedPair = pair-of-below (d .kind) in
+      rw (map-done P patch full map b d done) (pair-set map b (pairOf (d .kind)) r (omega arith))
+
+  -- the pair in words, by the kind that is answered
+  pub kept-pair : (v : ℕ) × PairFor (carryMappedOutcome P patch full map b d .areas .kind) v
+      × PairSet map b v (carryMappedOutcome P patch full map b d .map)
+  kept-pair = (
+    pairOf (d .kind),
+    rw (accepted-is-carry, carried-kind P patch full b d carry-zero) (pair-for (d .kind) (fit-numbers P d (a .fit) .2)),
+    accepted-sets-pair,
+  )
+
+  -- so the block reads by the map as by its slot
+  read-by-either : (base page : List ℕ) → PagesFit P base page
+      → readMappedOutcome P (carryOutcome P patch full b d .patch) (carryOutcome P patch full b d .full)
+      (carryMappedOutcome P patch full map b d .map) b base page
+      ≡ readOutcome P (carryOutcome P patch full b d .patch) (carryOutcome P patch full b d .full) b base page
+  read-by-either base page p =
       let f = stored .frame in
-      let a = accepted P patch full b base page (write-zero P patch full map b base page done) in
-      let n = stored-numbers P base page (stored .stored) in
-      let set = accepted-sets-pair P patch full map b base page done in
-      let at : MapAt P (writeOutcome P patch full b base page .patch) (writeOutcome P patch full b base page .full)
-      (writeMappedOutcome P patch full map b base page .map) b base′ page′ =
-      record {
-        frame = record {
-          pages = base-fits P base base′ page page′ (a .fits .pages) l e;
-          lengths = lengths-moved P patch full _ _ f (a .fits .lengths);
-          headers = headers-moved P patch full _ _ f (a .fits .headers);
-        };
-        room-for = rw (f .patch-length, set .size) (fitting P patch full map b base page done);
+      let n = fit-numbers P d (a .fit) in
+      let set = accepted-sets-pair in
+      let image : slotOf (carryOutcome P patch full b d .patch) b ≡ slotImage (d .kind) (d .payload) =
+      stored .slot-is ∙ slot-anew d (slotOf patch b) in
+      pair-agrees P _ _ _ b base page
+      (record {
+        frame = left-fits P patch full b d carry-zero base page p;
+        room-for = rw (f .patch-length, set .size) fitting;
         below = rw (f .patch-length) (a .below);
-      } in
-      rw same
-      (pair-agrees P _ _ _ b base′ page′ at (n .0) (set .here ∙ ap pairOf (sym (n .1)))
-      ∙ reads-back P patch full b base page small (write-zero P patch full map b base page done) base′ page′ e l)
+      })
+      (ap (λ (s : List ℕ). slotNumbers s .number) image ∙ n .0)
+      (set .here ∙ ap pairOf (sym (ap (λ (s : List ℕ). slotNumbers s .kind) image ∙ n .1)))
+
+  -- any decision, whoever made it
+  pub reads-decided-by-map : (base page x : List ℕ) → PagesFit P base page → ReadAs P base d x
+      → readMappedOutcome P (carryMappedOutcome P patch full map b d .areas .patch) (carryMappedOutcome P patch full map b d .areas .full)
+      (carryMappedOutcome P patch full map b d .map) b base page
+      ≡ readDone (d .kind) x
+  reads-decided-by-map base page x p r =
+      rw accepted-is-carry (read-by-either base page p ∙ reads-decided P patch full b d carry-zero base page x p r)
+
+  -- a decision of Compare
+  pub reads-back-by-map : P ≤ 65536 → (base : List ℕ) → ComparedBy P base d
+      → (base′ page′ : List ℕ) → pageOf P base′ ≡ pageOf P base → length page′ ≡ P
+      → readMappedOutcome P (carryMappedOutcome P patch full map b d .areas .patch) (carryMappedOutcome P patch full map b d .areas .full)
+      (carryMappedOutcome P patch full map b d .map) b base′ page′
+      ≡ readDone (carryMappedOutcome P patch full map b d .areas .kind) (d .page)
+  reads-back-by-map small base by base′ page′ e l =
+      let fits : PagesFit P base (d .page) = tells-pages P base (d .page) .0 (accepted-fits P base (d .page) (by .buffer) (by .answered)) in
+      rw accepted-is-carry
+      (read-by-either base′ page′ (base-fits P base base′ (d .page) page′ fits l e)
+      ∙ reads-back P small patch full b base d by carry-zero base′ page′ e l)
 
 -- a read by the map goes by what comes before any block, n, m, the block's pair, its slot and its place
 module _ (P : ℕ) (patch full map patch′ full′ map′ : List ℕ) (c : ℕ) (base page : List ℕ)
@@ -463,28 +418,27 @@ module _ (P : ℕ) (patch full map patch′ full′ map′ : List ℕ) (c : ℕ)
           ∙ (λ i. orElse (frames i) (orElse (firstOf (looks i)) (firstOf (kinds i))))
           ∙ sym (mapped-rows P patch full map c base page)
 
--- so every other block reads by the map as before, whether or not the write was refused
-pub others-by-map : (P : ℕ) (patch full map : List ℕ) (b : ℕ) (base page : List ℕ) (c : ℕ) → (c ≡ b → ⊥) → (base′ page′ : List ℕ)
-    → readMappedOutcome P (writeMappedOutcome P patch full map b base page .written .patch)
-    (writeMappedOutcome P patch full map b base page .written .full) (writeMappedOutcome P patch full map b base page .map) c base′ page′
-    ≡ readMappedOutcome P patch full map c base′ page′
-others-by-map P patch full map b base page c other base′ page′ = go (writeMappedOutcome P patch full map b base page .written .number) refl
+-- so every other block reads by the map as before, whether or not it was refused
+pub others-by-map : (P : ℕ) (patch full map : List ℕ) (b : ℕ) (d : Decision) (c : ℕ) → (c ≡ b → ⊥) → (base page : List ℕ)
+    → readMappedOutcome P (carryMappedOutcome P patch full map b d .areas .patch) (carryMappedOutcome P patch full map b d .areas .full)
+    (carryMappedOutcome P patch full map b d .map) c base page
+    ≡ readMappedOutcome P patch full map c base page
+others-by-map P patch full map b d c other base page = go (carryMappedOutcome P patch full map b d .areas .number) refl
   where
-    go : (k : ℕ) → writeMappedOutcome P patch full map b base page .written .number ≡ k
-        → readMappedOutcome P (writeMappedOutcome P patch full map b base page .written .patch)
-        (writeMappedOutcome P patch full map b base page .written .full) (writeMappedOutcome P patch full map b base page .map) c base′
-        page′
-        ≡ readMappedOutcome P patch full map c base′ page′
+    go : (k : ℕ) → carryMappedOutcome P patch full map b d .areas .number ≡ k
+        → readMappedOutcome P (carryMappedOutcome P patch full map b d .areas .patch) (carryMappedOutcome P patch full map b d .areas .full)
+        (carryMappedOutcome P patch full map b d .map) c base page
+        ≡ readMappedOutcome P patch full map c base page
     go zero e =
-        let s = stored P patch full map b base page e in
+        let s = stored P patch full map b d e in
         let f = s .frame in
-        let set = accepted-sets-pair P patch full map b base page e in
-        let l : MapFits patch map = fitting P patch full map b base page e in
-        rw (same P patch full map b base page e)
-        (read-mapped-same P patch full map _ _ _ c base′ page′
-        (long-frame P _ _ _ base′ page′ (rw (f .patch-length, set .size) l) ∙ frame-same P patch full _ _ f base′ page′
-        ∙ sym (long-frame P patch full map base′ page′ l))
+        let set = accepted-sets-pair P patch full map b d e in
+        let l : MapFits patch map = carry-fitting P patch full map b d e in
+        rw (accepted-is-carry P patch full map b d e)
+        (read-mapped-same P patch full map _ _ _ c base page
+        (long-frame P _ _ _ base page (rw (f .patch-length, set .size) l) ∙ frame-same P patch full _ _ f base page
+        ∙ sym (long-frame P patch full map base page l))
         (f .patch-length) (f .full-length) (set .others c other) (s .other-slots c other) (s .other-places c other))
     go (suc k) e =
-        let kept = write-mapped-kept P patch full map b base page (λ z. omega (arith, e, z)) in
-        λ i. readMappedOutcome P (kept .0 i) (kept .1 i) (kept .2 i) c base′ page′
+        let kept = carry-mapped-kept P patch full map b d (λ z. omega (arith, e, z)) in
+        λ i. readMappedOutcome P (kept .0 i) (kept .1 i) (kept .2 i) c base page

@@ -13,10 +13,11 @@ use Rattle.blockmap.specs.Pairs.{mapBytes}
 use Rattle.stream.specs.Calls.{pageOf}
 use Rattle.reading.specs.Read.{ReadOutcome}
 use Rattle.reading.specs.Mapped.{readMappedOutcome}
-use Rattle.writing.specs.Mapped.{MappedOutcome, writeMappedOutcome}
+use Rattle.carrying.specs.Mapped.{MappedCarry, carryMappedOutcome}
 use Rattle.cutting.specs.Mapped.{MappedCut, cutMappedOutcome}
 use Rattle.building.specs.Build.{BuildOutcome, buildOutcome}
 use Rattle.promises.specs.Words.{blocks}
+use Rattle.promises.specs.Decisions.{ComparedBy}
 use Rattle.promises.specs.Runs.{run, taking, write, wipe}
 use Rattle.promises.specs.RunWords.{Areas, Lent, Cut, Operation, lastTo, Follows, Decided, FreshAreas}
 
@@ -47,10 +48,10 @@ readByMap P x b base page = readMappedOutcome P (x .areas .patch) (x .areas .ful
 -- `CutsWrong` have others.
 
 abbrev pub MappedProgram : Type 0
-MappedProgram = Mapped → Lent → MappedOutcome
+MappedProgram = Mapped → Lent → MappedCarry
 
 abbrev pub mapped : ℕ → MappedProgram
-mapped P x w = writeMappedOutcome P (x .areas .patch) (x .areas .full) (x .map) (w .block) (w .base) (w .page)
+mapped P x w = carryMappedOutcome P (x .areas .patch) (x .areas .full) (x .map) (w .block) (w .decision)
 
 abbrev pub MappedCutProgram : Type 0
 MappedCutProgram = Mapped → Cut → MappedCut
@@ -59,12 +60,12 @@ abbrev pub cutMapped : ℕ → MappedCutProgram
 cutMapped P x K = cutMappedOutcome P (x .areas .patch) (x .areas .full) (x .map) K
 
 abbrev pub takesWithBy : MappedProgram → MappedCutProgram → Mapped → Operation → Bool
-takesWithBy writes drops x (write w) = eqb (writes x w .written .number) 0
+takesWithBy writes drops x (write w) = eqb (writes x w .areas .number) 0
 takesWithBy writes drops x (wipe K) = eqb (drops x K .areas .number) 0
 
 abbrev pub doesWithBy : MappedProgram → MappedCutProgram → Mapped → Operation → Mapped
 doesWithBy writes drops x (write w) = record {
-  areas = record { patch = writes x w .written .patch; full = writes x w .written .full };
+  areas = record { patch = writes x w .areas .patch; full = writes x w .areas .full };
   map = writes x w .map;
 }
 doesWithBy writes drops x (wipe K) = record {
@@ -93,10 +94,10 @@ JustLastsWith P x os ls = (w : Lent) → List·Memᴰ w ls ↔ (lastTo (w .block
 abbrev pub FollowsBasesWith : ℕ → (ℕ → List ℕ) → Mapped → List Operation → (ℕ → List ℕ) → Type 0
 FollowsBasesWith P start x os end = Follows P start (acceptedWith P x os) end
 
--- "each block always with the same base page"
+-- each accepted write was decided by a Compare over its block's base: "each block always with the same base page"
 abbrev pub KeepsBasesWith : ℕ → (ℕ → List ℕ) → Mapped → List Operation → Type 0
 KeepsBasesWith P bases x os =
-    (w : Lent) → List·Memᴰ (write w) (acceptedWith P x os) → pageOf P (w .base) ≡ pageOf P (bases (w .block))
+    (w : Lent) → List·Memᴰ (write w) (acceptedWith P x os) → ComparedBy P (bases (w .block)) (w .decision)
 
 -- what is needed of either: the write that stands at a block at the end was decided over the block's base page then
 abbrev pub OverBasesWith : ℕ → (ℕ → List ℕ) → Mapped → List Operation → Type 0

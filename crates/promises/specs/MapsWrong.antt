@@ -4,7 +4,6 @@ use Prim.Native.Nat.{ℕ, zero, suc, _/_, _%_, _≤_, _<_}
 use native.Mathlib.Omega.{arith}
 use mathlib.Core.Path.{_≡_, refl, sym, ap, _∙_, subst}
 use mathlib.Core.Bool.{Bool, not, _&&_, cond}
-use mathlib.Core.Logic.{_⊎_, inl, inr}
 use mathlib.Core.List.{List, [], _∷_}
 use lib.Dec.{eqb, lit≤, lit<}
 use lib.ListN.{length, getD, set}
@@ -16,26 +15,26 @@ use Rattle.blockmap.specs.Pack.{pairOf, byteOf, withPair, setPair}
 use Rattle.stream.specs.Calls.{pageOf, kindFor}
 use Rattle.store.specs.Block.{slotOf, placeOf}
 use Rattle.reading.specs.Read.{ReadOutcome, readDone, readRefused}
-use Rattle.writing.specs.Write.{decidedStream, decidedKind, WriteOutcome}
-use Rattle.writing.specs.Mapped.{MappedOutcome, keptBy}
-use Rattle.writing.specs.MappedLaws.{mapped-accepted, mapped-refused}
+use Rattle.carrying.specs.CarryOut.{CarryOutcome}
+use Rattle.carrying.specs.Mapped.{MappedCarry}
+use Rattle.carrying.specs.CarryLaws.{map-done, map-not}
 use Rattle.building.specs.Build.{BuildOutcome, buildDone}
-use Rattle.promises.specs.Words.{blocks, places, PatchOf, WriteGives, FrameRefuses, MapFits, MapAt}
-use Rattle.promises.specs.Tables.{write-table}
-use Rattle.promises.specs.StoreLaws.{write-done}
+use Rattle.promises.specs.Words.{blocks, places, PatchOf, MapFits, MapAt}
+use Rattle.promises.specs.CarryWords.{CarryGives}
+use Rattle.promises.specs.CarryTables.{carry-table, mapped-as-carry}
 use Rattle.promises.specs.Decisions.{Cell}
 use Rattle.promises.specs.Runs.{run, write}
 use Rattle.promises.specs.RunWords.{Areas, readAt, Lent, Operation, outcome, after, next}
 use Rattle.promises.specs.FreshLaws.{fresh-cell}
 use Rattle.promises.specs.RunLaws.{run-fits}
-use Rattle.promises.specs.WriteLaws.{reads-back}
+use Rattle.promises.specs.PairLaws.{carried-kind, reads-back}
 use Rattle.promises.specs.MapWords.{Mapped, Long, buildInto, readByMap, MappedProgram, mapped, MappedCutProgram, cutMapped}
 use Rattle.promises.specs.MapWords.{doesWithBy, afterWithBy, FreshWith}
 use Rattle.promises.specs.MapStore.{with}
 use Rattle.promises.specs.MapTables.{by-map-0, by-map-1, by-map-2-other, by-map-3}
 use Rattle.promises.specs.DemandThree.{kept-is-built}
 use Rattle.promises.specs.Sample.{sample, sample-fresh, two-blocks, two-places, takes, page, one, two, one-fits, two-fits, stream-one}
-use Rattle.promises.specs.Sample.{to, puts}
+use Rattle.promises.specs.Sample.{to, puts, areas-fit, decides, decides-by, one-fit}
 
 -- Writes. "after any run from fresh areas and a zero map, lent to every write of the run, it equals the built one"
 
@@ -48,29 +47,29 @@ pub right-map-built : MapBuilt (mapped pageSize) (cutMapped pageSize)
 right-map-built x fresh long os = kept-is-built x fresh os long
 
 -- one that makes another map of what the right one leaves
-abbrev pub leaving : (Mapped → Lent → MappedOutcome → List ℕ) → MappedProgram
-leaving makes x w = record { written = mapped pageSize x w .written; map = makes x w (mapped pageSize x w) }
+abbrev pub leaving : (Mapped → Lent → MappedCarry → List ℕ) → MappedProgram
+leaving makes x w = record { areas = mapped pageSize x w .areas; map = makes x w (mapped pageSize x w) }
 
-abbrev pub done : MappedOutcome → Bool
-done o = eqb (o .written .number) 0
+abbrev pub done : MappedCarry → Bool
+done o = eqb (o .areas .number) 0
 
 -- the kind's own number for its pair: 1 for PATCH
-abbrev kindMap : Mapped → Lent → MappedOutcome → List ℕ
-kindMap x w o = cond (done o) (setPair (x .map) (w .block) (o .written .kind)) (o .map)
+abbrev kindMap : Mapped → Lent → MappedCarry → List ℕ
+kindMap x w o = cond (done o) (setPair (x .map) (w .block) (o .areas .kind)) (o .map)
 
 unfoldable pub kindForPair : MappedProgram
 kindForPair = leaving kindMap
 
 -- the pair set although the write was refused
-abbrev refusedMap : Mapped → Lent → MappedOutcome → List ℕ
+abbrev refusedMap : Mapped → Lent → MappedCarry → List ℕ
 refusedMap x w o = cond (done o) (o .map) (setPair (x .map) (w .block) patchPair)
 
 unfoldable pub thoughRefused : MappedProgram
 thoughRefused = leaving refusedMap
 
 -- the block's byte made anew, so that its neighbours' pairs are cleared
-abbrev byteMap : Mapped → Lent → MappedOutcome → List ℕ
-byteMap x w o = cond (done o) (set (x .map) (w .block / 4) (withPair 0 (w .block % 4) (pairOf (o .written .kind)))) (o .map)
+abbrev byteMap : Mapped → Lent → MappedCarry → List ℕ
+byteMap x w o = cond (done o) (set (x .map) (w .block / 4) (withPair 0 (w .block % 4) (pairOf (o .areas .kind)))) (o .map)
 
 unfoldable pub wholeByte : MappedProgram
 wholeByte = leaving byteMap
@@ -96,20 +95,26 @@ one-byte os map e = rw (two-blocks os, e) (lit≤ tt)
 
 -- what the right one leaves of `one` written to a block
 pub one-kind : (os : List Operation) (b : ℕ) → b < 2 → outcome pageSize (after pageSize sample os) (to b one) .kind ≡ 1
-unfolding decidedKind decidedStream kindFor
+unfolding kindFor
 one-kind os b h =
-    ap (λ (o : WriteOutcome). o .kind)
-    (write-done pageSize (after pageSize sample os .patch) (after pageSize sample os .full) b [] one (takes os (to b one) h one-fits))
+    carried-kind pageSize (after pageSize sample os .patch) (after pageSize sample os .full) b (decides [] one) (takes os (to b one) h one-fit)
     ∙ ap (λ (l : List ℕ). kindFor (length l)) stream-one
+
+abbrev pub keptBy : CarryOutcome → List ℕ → ℕ → MappedCarry
+keptBy o map b = record { areas = o; map = setPair map b (pairOf (o .kind)) }
 
 pub wrote : (os : List Operation) (v b : ℕ) → b < 2 → mapped pageSize (with (after pageSize sample os) (v ∷ [])) (to b one)
     ≡ keptBy (outcome pageSize (after pageSize sample os) (to b one)) (v ∷ []) b
 wrote os v b h =
-    mapped-accepted pageSize (after pageSize sample os .patch) (after pageSize sample os .full) (v ∷ []) b [] one
-    (one-byte os (v ∷ []) refl) (takes os (to b one) h one-fits)
+    let s : Areas = after pageSize sample os in
+    let takes-it = takes os (to b one) h one-fit in
+    let same = mapped-as-carry pageSize (s .patch) (s .full) (v ∷ []) b (decides [] one) (one-byte os (v ∷ []) refl) in
+    let set = map-done pageSize (s .patch) (s .full) (v ∷ []) b (decides [] one) (ap (λ (o : CarryOutcome). o .number) same ∙ takes-it)
+    ∙ ap (λ (k : ℕ). setPair (v ∷ []) b (pairOf k)) (sym (carried-kind pageSize (s .patch) (s .full) b (decides [] one) takes-it)) in
+    λ i. record { areas = same i; map = set i }
 
 -- after one write of a program that leaves the right areas, its map is the right one
-module _ (makes : Mapped → Lent → MappedOutcome → List ℕ) (claim : MapBuilt (leaving makes) (cutMapped pageSize)) where
+module _ (makes : Mapped → Lent → MappedCarry → List ℕ) (claim : MapBuilt (leaving makes) (cutMapped pageSize)) where
   after-one : (w : Lent) → makes start w (mapped pageSize start w) ≡ mapped pageSize start w .map
   unfolding run
   after-one w =
@@ -122,30 +127,28 @@ unfolding kindForPair run setPair withPair byteOf pairOf
 not-kind-for-pair claim =
     let e = after-one kindMap claim (to 0 one) in
     let z : _≡_ {A = ℕ} 1 2 = ap (λ (l : List ℕ). getD l 0 0)
-    (rw (wrote [] 0 0 (lit< tt), takes [] (to 0 one) (lit< tt) one-fits, one-kind [] 0 (lit< tt)) at e) in
+    (rw (wrote [] 0 0 (lit< tt), takes [] (to 0 one) (lit< tt) one-fit, one-kind [] 0 (lit< tt)) at e) in
     omega arith
 
--- a base of one byte is refused with 1
+-- kind 3 is refused with 6
 unfit : Lent
-unfit = record { block = 0; base = 0 ∷ []; page = one }
+unfit = record { block = 0; decision = record { kind = 3; payload = []; page = [] } }
 
-refused : outcome pageSize sample unfit .number ≡ 1
-unfolding unfit
+refused : outcome pageSize sample unfit .number ≡ 6
+unfolding unfit run
 refused =
-    write-table pageSize (sample .patch) (sample .full) 0 (0 ∷ []) one 1 .1
-    (WriteGives.frame (FrameRefuses.pages (λ f. wrong (f .base-length))))
-  where
-    wrong : (length {A = ℕ} (0 ∷ []) ≡ 0) ⊎ (length {A = ℕ} (0 ∷ []) ≡ pageSize) → ⊥
-    wrong (inl e) = omega arith
-    wrong (inr e) = omega arith
+    carry-table pageSize (sample .patch) (sample .full) 0 (unfit .decision) 6 .1
+    (CarryGives.kind (areas-fit []) (rw (two-blocks []) (lit< tt)) (lit< tt))
 
 pub not-though-refused : MapBuilt thoughRefused (cutMapped pageSize) → ⊥
 unfolding thoughRefused run setPair withPair byteOf unfit
 not-though-refused claim =
     let e = after-one refusedMap claim unfit in
-    let kept : mapped pageSize start unfit ≡ record { written = outcome pageSize sample unfit; map = 0 ∷ [] } =
-    mapped-refused pageSize (sample .patch) (sample .full) (0 ∷ []) 0 (0 ∷ []) one (one-byte [] (0 ∷ []) refl)
-    (λ q. omega (arith, refused, q)) in
+    let same = mapped-as-carry pageSize (sample .patch) (sample .full) (0 ∷ []) 0 (unfit .decision) (one-byte [] (0 ∷ []) refl) in
+    let left = map-not pageSize (sample .patch) (sample .full) (0 ∷ []) 0 (unfit .decision)
+    (λ q. omega (arith, refused, sym (ap (λ (o : CarryOutcome). o .number) same) ∙ q)) in
+    let kept : mapped pageSize start unfit ≡ record { areas = outcome pageSize sample unfit; map = 0 ∷ [] } =
+    λ i. record { areas = same i; map = left i } in
     let z : _≡_ {A = ℕ} 2 0 = ap (λ (l : List ℕ). getD l 0 0) (rw (kept, refused) at e) in
     omega arith
 
@@ -158,9 +161,9 @@ not-whole-byte claim =
     let end : Areas = next pageSize (T one) (to 1 one) in
     let more : List Operation = puts 0 one ∷ [] in
     let wrong-first : doesWithBy wholeByte (cutMapped pageSize) start (puts 0 one) ≡ with (T one) (2 ∷ []) =
-    rw (wrote [] 0 0 (lit< tt), takes [] (to 0 one) (lit< tt) one-fits, one-kind [] 0 (lit< tt)) refl in
+    rw (wrote [] 0 0 (lit< tt), takes [] (to 0 one) (lit< tt) one-fit, one-kind [] 0 (lit< tt)) refl in
     let wrong-then : doesWithBy wholeByte (cutMapped pageSize) (with (T one) (2 ∷ [])) (puts 1 one) ≡ with end (8 ∷ []) =
-    rw (wrote more 2 1 (lit< tt), takes more (to 1 one) (lit< tt) one-fits, one-kind more 1 (lit< tt)) refl in
+    rw (wrote more 2 1 (lit< tt), takes more (to 1 one) (lit< tt) one-fit, one-kind more 1 (lit< tt)) refl in
     let wrong : afterWithBy wholeByte (cutMapped pageSize) start os ≡ with end (8 ∷ []) =
     ap (λ (x : Mapped). doesWithBy wholeByte (cutMapped pageSize) x (puts 1 one)) wrong-first ∙ wrong-then in
     let first : doesWithBy (mapped pageSize) (cutMapped pageSize) start (puts 0 one) ≡ with (T one) (2 ∷ []) =
@@ -226,8 +229,8 @@ not-by-slot claim =
     let z : _≡_ {A = ℕ} 1 0 =
     sym (one-kind [] 0 (lit< tt))
     ∙ ap (λ (o : ReadOutcome). o .kind)
-    (sym (reads-back pageSize (sample .patch) (sample .full) 0 [] one (lit≤ tt) (takes [] (to 0 one) (lit< tt) one-fits) [] two refl
-    (two-fits .page-length)) ∙ e) in
+    (sym (reads-back pageSize (lit≤ tt) (sample .patch) (sample .full) 0 [] (decides [] one) (decides-by [] one one-fits)
+    (takes [] (to 0 one) (lit< tt) one-fit) [] two refl (two-fits .page-length)) ∙ e) in
     omega arith
 
 -- pair 1 only with a FULL_REF slot: block 0 is EMPTY, and the map says that it is full

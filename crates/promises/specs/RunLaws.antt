@@ -4,10 +4,10 @@ use native.Mathlib.Omega.{arith}
 use native.Mathlib.Nat.{mul-le-mul-left}
 use native.Mathlib.Decide.{decLt}
 use mathlib.Core.Path.{_≡_, refl, sym, ap, _∙_, subst}
-use mathlib.Core.Bool.{true, cond}
+use mathlib.Core.Bool.{cond}
 use mathlib.Core.Logic.{_⊎_, inl, inr, _↔_}
 use mathlib.Core.Option.{some}
-use mathlib.Core.List.{List, [], _∷_, map, List·Memᴰ, List·Memᴰ·head, List·Memᴰ·tail}
+use mathlib.Core.List.{List, [], _∷_, map}
 use lib.Dec.{ltb}
 use lib.ListN.{length}
 use borrow.Author.Tests.{lt-ltb, leb-false}
@@ -27,19 +27,20 @@ use Rattle.promises.specs.Words.{blocks, places, PagesFit, LengthsFit, F
 use Rattle.promises.specs.Tables.{read-by-page}
 use Rattle.promises.specs.StoreLaws.{base-page-length}
 use Rattle.promises.specs.RunBuild.{builds}
-use Rattle.promises.specs.Decisions.{Cell, cellFor, blankCell, pageIn}
-use Rattle.promises.specs.DecisionLaws.{blank-page, compared-fit, fit-kind}
+use Rattle.promises.specs.Decisions.{Cell, cellFor, blankCell, Fit, pageIn}
+use Rattle.promises.specs.DecisionLaws.{blank-page, compared-by, compared-fit, fit-kind, fit-page-in}
+use Rattle.promises.specs.CarryWords.{ReadAs}
 use Rattle.promises.specs.Runs.{NoRepeats, write, wipe, Fresh, standing, Lasts, lasts, OverAt, Over, Bases, ReadSame}
 use Rattle.promises.specs.LastLaws.{last-in}
-use Rattle.promises.specs.StandingLaws.{stands, lasts-are, lasts-apart, run-frame, standing-is, taking-accepts, run-left, write-left}
+use Rattle.promises.specs.StandingLaws.{stands, lasts-are, lasts-apart, run-frame, standing-is, run-left, write-left}
 use Rattle.promises.specs.StandingLaws.{blank-left, lasts-leave}
 use Rattle.promises.specs.SameLaws.{bases-over, same-at, same-iff-read-same}
-use Rattle.promises.specs.RunWords.{Areas, readAt, Lent, Operation, taken, after, accepted, lastTo, JustLasts, decision, Decided}
+use Rattle.promises.specs.RunWords.{Areas, readAt, Lent, Operation, after, accepted, lastTo, JustLasts, Decided}
 use Rattle.promises.specs.RunWords.{Follows, FollowsBases, KeepsBases, OverBaseAt, OverBases, FreshAreas}
 use Rattle.promises.specs.RunStore.{cellAt, frameOf, store}
-use Rattle.promises.specs.RunStoreLaws.{good-frame, store-laws}
+use Rattle.promises.specs.RunStoreLaws.{accepted-write, good-frame, store-laws}
 use Rattle.promises.specs.RunReads.{reading, readIn, Held}
-use Rattle.promises.specs.RunReadLaws.{reading-laws, decided-over, left-held, held-reads, held-fine}
+use Rattle.promises.specs.RunReadLaws.{reading-laws, left-held, held-reads, held-fine}
 use Rattle.promises.specs.FreshLaws.{fresh-lengths, fresh-headers, fresh-cell, fresh-one}
 
 -- The words of demand 3 are those of `Runs`
@@ -53,16 +54,12 @@ module _ (P : ℕ) (s : Areas) (os : List Operation) where
   unfolding Lasts
   just-lasts ls = (λ h w. rw (last-is (w .block)) (h w), λ h w. rw (← last-is (w .block)) (h w))
 
-  -- a write that is the last accepted one to a block was decided over its own base page
-  pub last-decided : (b : ℕ) (w : Lent) → lastTo b (accepted P s os) ≡ some (write w) → Decided P (pageOf P (w .base)) w
-  last-decided b w e = decided-over P (frameOf s) w (stands (store P) os (last-is b ∙ e) .0)
-
   pub keeps-over : (bases : ℕ → List ℕ) → KeepsBases P bases s os → OverBases P bases s os
   unfolding lastTo
   keeps-over bases h b n w e =
       let i = last-in _ (accepted P s os) e .0 in
       let q : w .block ≡ b = stands (store P) os (last-is b ∙ e) .1 in
-      rw (h w i ∙ ap (λ (c : ℕ). pageOf P (bases c)) q) at (last-decided b w e)
+      subst (λ (c : ℕ). Decided P (pageOf P (bases c)) w) q (compared-by P (bases (w .block)) (w .decision) (h w i))
 
   over-bases : (bases : ℕ → List ℕ) → OverBases P bases s os → Over (store P) (reading P) (λ b. pageOf P (bases b)) (frameOf s) os
   unfolding Over OverAt
@@ -70,28 +67,20 @@ module _ (P : ℕ) (s : Areas) (os : List Operation) where
 
 -- "only the blocks it covers may have another base after it" is enough: in the words of `Runs`, over the pages that the bases stand for
 
-follows-pages : (P : ℕ) (f : Areas) (start end : ℕ → List ℕ) (os : List Operation)
-    → ((w : Lent) → List·Memᴰ (write w) os → taken P f w ≡ true) → Follows P start os end
+follows-pages : (P : ℕ) (f : Areas) (start end : ℕ → List ℕ) (os : List Operation) → Follows P start os end
     → Bases (store P) (reading P) f (λ b. pageOf P (start b)) os (λ b. pageOf P (end b))
-follows-pages P f start end [] t h = h
-follows-pages P f start end (write w ∷ os) t h = (
-  rw (h .0) at (decided-over P f w (t w (List·Memᴰ·head refl))),
-  follows-pages P f start end os (λ v i. t v (List·Memᴰ·tail i)) (h .1),
-)
-follows-pages P f start end (wipe K ∷ os) t h = (
-  λ b. pageOf P (h .0 b),
-  λ b q. h .1 b (leb-false K b q),
-  follows-pages P f (h .0) end os (λ v i. t v (List·Memᴰ·tail i)) (h .2),
-)
+follows-pages P f start end [] h = h
+follows-pages P f start end (write w ∷ os) h =
+    (compared-by P (start (w .block)) (w .decision) (h .0), follows-pages P f start end os (h .1))
+follows-pages P f start end (wipe K ∷ os) h =
+    (λ b. pageOf P (h .0 b), λ b q. h .1 b (leb-false K b q), follows-pages P f (h .0) end os (h .2))
 
 pub follows-over : (P : ℕ) (s : Areas) (os : List Operation) (start end : ℕ → List ℕ) → FollowsBases P start s os end
     → OverBases P end s os
 unfolding Over OverAt
 follows-over P s os start end h b n w e =
     bases-over (store P) (reading P) (store-laws P) s (λ c. pageOf P (start c)) (λ c. pageOf P (end c)) os
-    (follows-pages P (frameOf s) start end (accepted P s os)
-    (λ v i. taking-accepts (store P) (store-laws P) s os (write v) i) h)
-    b (rw (emptied-length patchHead (s .patch)) n) w (last-is P s os b ∙ e)
+    (follows-pages P (frameOf s) start end (accepted P s os) h) b (rw (emptied-length patchHead (s .patch)) n) w (last-is P s os b ∙ e)
 
 -- a base that stands for the same page will do
 pub over-same : (P : ℕ) (s : Areas) (os : List Operation) (b : ℕ) (base base′ : List ℕ) → pageOf P base ≡ pageOf P base′
@@ -149,7 +138,7 @@ module _ (P : ℕ) (s : Areas) (h : FreshAreas P s) where
 
     pub held : Held P (after P s os .full) b (cellAt P (after P s os) b)
     held =
-        left-held P small (after P s os) b _
+        left-held P (after P s os) b _
         (rw (run-frame (store P) (store-laws P) s os) (run-left (store P) (store-laws P) s fresh os b in-frame))
 
     module _ (base page : List ℕ) (f : PagesFit P base page) where
@@ -159,13 +148,24 @@ module _ (P : ℕ) (s : Areas) (h : FreshAreas P s) where
 
       -- (c)
       pub reads-last : (w : Lent) → lastTo b (accepted P s os) ≡ some (write w) → Decided P (pageOf P base) w
-          → readAt P (after P s os) b base page ≡ readDone (decision P w .kind) (w .page)
+          → readAt P (after P s os) b base page ≡ readDone (w .decision .kind) (w .decision .page)
       reads-last w e d =
           let t = stands (store P) os (last-is P s os b ∙ e) in
-          let here : cellAt P (after P s os) b ≡ cellFor P (decision P w) =
+          let here : cellAt P (after P s os) b ≡ cellFor P (w .decision) =
           write-left (store P) (store-laws P) s fresh os b in-frame w (last-is P s os b ∙ e) in
-          let k = fit-kind P (decision P w) (compared-fit P small (pageOf P base) (decision P w) d) in
+          let k = fit-kind P (w .decision) (compared-fit P small (pageOf P base) (w .decision) d) in
           let p = reading-laws P small .reads-cell (frameOf s) w (pageOf P base) (t .0) d in
+          read-is ∙ ap (readIn P (pageOf P base)) here ∙ (λ i. readDone (k i) (p i))
+
+      -- any decision, whoever made it
+      pub reads-given : (w : Lent) → lastTo b (accepted P s os) ≡ some (write w) → (x : List ℕ) → ReadAs P base (w .decision) x
+          → readAt P (after P s os) b base page ≡ readDone (w .decision .kind) x
+      reads-given w e x r =
+          let fit : Fit P (w .decision) = accepted-write P (frameOf s) w (stands (store P) os (last-is P s os b ∙ e) .0) .fit in
+          let here : cellAt P (after P s os) b ≡ cellFor P (w .decision) =
+          write-left (store P) (store-laws P) s fresh os b in-frame w (last-is P s os b ∙ e) in
+          let k = fit-kind P (w .decision) fit in
+          let p = fit-page-in P base (w .decision) fit x r in
           read-is ∙ ap (readIn P (pageOf P base)) here ∙ (λ i. readDone (k i) (p i))
 
       pub reads-base : ((w : Lent) → lastTo b (accepted P s os) ≡ some (write w) → ⊥)

@@ -2,7 +2,7 @@
 use Prim.Native.Nat.{ℕ, _≤_, _<_}
 use native.Mathlib.Omega.{arith}
 use mathlib.Core.Path.{_≡_, refl, sym, ap, _∙_}
-use mathlib.Core.Bool.{true, cond}
+use mathlib.Core.Bool.{cond}
 use mathlib.Core.List.{List, []}
 use lib.Dec.{eqb}
 use lib.ListN.{length}
@@ -13,20 +13,17 @@ use Rattle.slots.specs.Slots.{emptySlot, patchSlot, fullSlot, slotNumbers, slot
 use Rattle.slots.specs.Meaning.{empty-numbers, full-numbers}
 use Rattle.payload.specs.Entries.{sound}
 use Rattle.stream.specs.Calls.{pageOf}
-use Rattle.stream.specs.Kinds.{kind-2}
 use Rattle.store.specs.Block.{slotOf, placeOf}
-use Rattle.writing.specs.Write.{decidedStream, decidedKind}
 use Rattle.building.specs.Build.{blockFault}
 use Rattle.building.specs.BuildLaws.{no-strays, block-empty, block-patch, block-full}
-use Rattle.promises.specs.Words.{blocks, places, FrameFits, streamOf}
+use Rattle.promises.specs.Words.{blocks, places, FrameFits}
 use Rattle.promises.specs.SlotLaws.{patch-of, image-empty, image-patch, image-full}
 use Rattle.span.specs.EmptiedLaws.{emptied-length}
-use Rattle.promises.specs.StoreLaws.{base-page-length, Accepted, accepted}
 use Rattle.promises.specs.ReadLaws.{reads-empty, reads-patch, reads-full}
 use Rattle.promises.specs.Decisions.{Cell, Fit, pageIn}
-use Rattle.promises.specs.DecisionLaws.{compared-cell, compared-fit, cell-reads, blank-cell, blank-page}
+use Rattle.promises.specs.DecisionLaws.{compared-cell, cell-reads, blank-cell, blank-page}
 use Rattle.promises.specs.Runs.{ReadingLaws, Left, left-blank, left-cell}
-use Rattle.promises.specs.RunWords.{Areas, readAt, Lent, taken, decision, Decided}
+use Rattle.promises.specs.RunWords.{Areas, readAt}
 use Rattle.promises.specs.RunStore.{cellAt, frameOf, store}
 use Rattle.promises.specs.RunStoreLaws.{accepted-write}
 use Rattle.promises.specs.RunReads.{reading, readIn, Held}
@@ -34,48 +31,28 @@ use Rattle.promises.specs.RunReads.{reading, readIn, Held}
 pub reading-laws : (P : ℕ) → P ≤ 65536 → ReadingLaws (store P) (reading P)
 reading-laws P small =
     record {
-      cell-canon = λ f w β e d. compared-cell P β (decision P w) d;
+      cell-canon = λ f w β e d. compared-cell P β (w .decision) d;
       reads-cell =
-          λ f w β e d. ap (pageIn P β) (compared-cell P β (decision P w) d)
-          ∙ cell-reads P small β (w .page) (d .base-length) (d .page-length);
+          λ f w β e d. ap (pageIn P β) (compared-cell P β (w .decision) d)
+          ∙ cell-reads P small β (w .decision .page) (d .base-length) (d .page-length);
       canon-base = λ β fit. blank-cell P β;
       reads-blank = λ β fit. blank-page P β;
     }
 
--- What an accepted write carries out: the one place here that knows that a write has a base
-
-module _ (P : ℕ) (s : Areas) (w : Lent) (e : taken P s w ≡ true) where
-  a : Accepted P (s .patch) (s .full) (w .block) (w .base) (w .page)
-  a = accepted P (s .patch) (s .full) (w .block) (w .base) (w .page) (accepted-write P s w e)
-
-  pub decided-over : Decided P (pageOf P (w .base)) w
-  unfolding decidedKind decidedStream
-  decided-over =
-      record {
-        base-length = base-page-length P (w .base) (w .page) (a .fits .pages);
-        page-length = a .fits .pages .page-length;
-        kind = refl;
-        payload = λ q. refl;
-      }
-
-  accepted-room : decidedKind P (w .base) (w .page) ≡ 2 → w .block < places P (s .full)
-  unfolding decidedKind decidedStream
-  accepted-room q = a .room-for (kind-2 (length (streamOf P (w .base) (w .page))) .0 q)
-
 -- every cell that a run can leave holds a decision; a blank one holds EMPTY
-pub left-held : (P : ℕ) → P ≤ 65536 → (s : Areas) (b : ℕ) (c : Cell) → Left (store P) (frameOf s) b c → Held P (s .full) b c
-left-held P small s b c left-blank =
+pub left-held : (P : ℕ) (s : Areas) (b : ℕ) (c : Cell) → Left (store P) (frameOf s) b c → Held P (s .full) b c
+left-held P s b c left-blank =
     record {
       decision = record { kind = 0; payload = []; page = [] };
       fit = Fit.empty refl;
       room-for = λ q. absurd (omega arith);
       is = λ i. record { slot = sym (image-empty []) i; place = zeros P };
     }
-left-held P small s b c (left-cell w e q) =
+left-held P s b c (left-cell w e q) =
     record {
-      decision = decision P w;
-      fit = compared-fit P small (pageOf P (w .base)) (decision P w) (decided-over P (frameOf s) w e);
-      room-for = λ k. rw (emptied-length fullHead (s .full)) at (rw q at (accepted-room P (frameOf s) w e k));
+      decision = w .decision;
+      fit = accepted-write P (frameOf s) w e .fit;
+      room-for = λ k. rw (emptied-length fullHead (s .full)) at (rw q at (accepted-write P (frameOf s) w e .room-for k));
       is = refl;
     }
 

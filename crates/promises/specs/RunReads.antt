@@ -6,7 +6,8 @@ use lib.ListN.{length}
 use Rattle.slots.specs.Slots.{slotNumbers}
 use Rattle.reading.specs.Read.{ReadOutcome, readDone}
 use Rattle.promises.specs.Words.{places}
-use Rattle.promises.specs.Decisions.{Decision, Cell, cellFor, Fit, pageIn, cellOf}
+use Rattle.carrying.specs.Puts.{Decision}
+use Rattle.promises.specs.Decisions.{Cell, cellFor, Fit, pageIn, cellOf}
 use Rattle.promises.specs.Runs.{Reading}
 use Rattle.promises.specs.RunWords.{Decided}
 use Rattle.promises.specs.RunStore.{store}
@@ -20,7 +21,7 @@ reading P = record {
   reads = pageIn P;
   canon = cellOf P;
   Decided = Decided P;
-  pageOf = λ w. w .page;
+  pageOf = λ w. w .decision .page;
 }
 
 -- what Read gives of a cell over a base page

@@ -8,7 +8,7 @@ use Rattle.store.specs.Block.{slotOf, placeOf}
 use Rattle.promises.specs.Words.{blocks, places, LengthsFit, HeadersFit}
 use Rattle.promises.specs.Decisions.{Cell, cellFor, blankCell}
 use Rattle.promises.specs.Runs.{Store}
-use Rattle.promises.specs.RunWords.{Areas, Lent, Cut, cuts, outcome, cutting, takesBy, doesBy, decision}
+use Rattle.promises.specs.RunWords.{Areas, Lent, Cut, cuts, outcome, cutting, takesBy, doesBy}
 
 abbrev pub cellAt : ℕ → Areas → ℕ → Cell
 cellAt P s b = record { slot = slotOf (s .patch) b; place = cond (ltb b (places P (s .full))) (placeOf P (s .full) b) (zeros P) }
@@ -28,7 +28,7 @@ store P = record {
   blocks = λ f. blocks (f .patch);
   at = cellAt P;
   block = λ w. w .block;
-  cell = λ w. cellFor P (decision P w);
+  cell = λ w. cellFor P (w .decision);
   blank = blankCell P;
   covers = λ f c b. cuts c b;
   takes = takesBy (outcome P) (cutting P);

@@ -2,37 +2,38 @@
 use Prim.Native.Nat.{ℕ, _≤_, _<_}
 use native.Mathlib.Omega.{arith}
 use mathlib.Core.Path.{_≡_, refl, sym, ap, _∙_}
-use mathlib.Core.Bool.{Bool, true, false, _&&_, cond}
+use mathlib.Core.Bool.{Bool, true, false, cond}
 use mathlib.Core.Logic.{_↔_, _⊎_, inl, inr}
 use mathlib.Core.List.{[]}
 use lib.Dec.{eqb, leb, ltb}
 use lib.ListN.{length}
-use borrow.Author.Tests.{lt-ltb, ltb-true, ltb-false, leb-true, leb-false, eqb-true, eqb-false}
+use borrow.Author.Tests.{ne-eqb, lt-ltb, ltb-true, ltb-false, leb-true, leb-false, eqb-true, eqb-false}
 use Rattle.span.specs.Bytes.{zeros, part, emptied}
 use Rattle.span.specs.Laws.{part-none}
 use Rattle.span.specs.EmptiedLaws.{emptied-length, emptied-part, emptied-same}
 use Rattle.layout.specs.Sizes.{patchHead, fullHead, slotSize, pageAt}
 use Rattle.layout.specs.Refusals.{orElse}
 use Rattle.store.specs.Block.{slotOf, placeOf}
-use Rattle.writing.specs.Write.{decidedKind, WriteOutcome}
-use Rattle.writing.specs.Given.{write-number}
+use Rattle.carrying.specs.Puts.{order}
+use Rattle.carrying.specs.CarryOut.{CarryOutcome}
+use Rattle.carrying.specs.CarryLaws.{carry-number, carry-not}
 use Rattle.cutting.specs.CutLaws.{cut-number}
-use Rattle.promises.specs.Words.{blocks, places, LengthsFit, HeadersFit, SameFrame, Stored}
-use Rattle.promises.specs.FrameLaws.{frameNumber, frame-emptied, lengths-moved, headers-moved}
-use Rattle.promises.specs.Tables.{write-rows}
+use Rattle.promises.specs.Words.{blocks, places, LengthsFit, HeadersFit, SameFrame}
+use Rattle.promises.specs.FrameLaws.{lengths-moved, headers-moved}
+use Rattle.promises.specs.AreaLaws.{areasNumber, areas-emptied}
+use Rattle.promises.specs.CarryTables.{pageWrong, decisionNumber, carry-by-frame, Accepted, accepted}
 use Rattle.promises.specs.Cells.{cells-ext}
-use Rattle.promises.specs.StoreLaws.{write-done, write-not, Accepted, accepted, write-stored, imageOf, contentOf, carried-slot}
-use Rattle.promises.specs.StoreLaws.{carried-place, content-none}
+use Rattle.promises.specs.StoreLaws.{contentOf, StoredAt, slot-anew, place-anew, carry-stored}
 use Rattle.promises.specs.CutWords.{Dropped}
-use Rattle.promises.specs.CutTables.{areasNumber, cut-by-frame}
+use Rattle.promises.specs.CutTables.{cut-by-frame}
 use Rattle.promises.specs.CutLaws.{cut-drops, cut-kept}
 use Rattle.promises.specs.Decisions.{Cell, cellFor, blankCell}
 use Rattle.promises.specs.Runs.{write, wipe, Laws}
-use Rattle.promises.specs.RunWords.{Areas, Lent, Cut, outcome, cutting, taken, next, cutTaken, cutNext, decision}
+use Rattle.promises.specs.RunWords.{Areas, Lent, Cut, outcome, cutting, taken, next, cutTaken, cutNext}
 use Rattle.promises.specs.RunStore.{cellAt, frameOf, store}
 
 -- areas of the same lengths and headers have one frame
-frame-is : (s t : Areas) → SameFrame (s .patch) (s .full) (t .patch) (t .full) → frameOf t ≡ frameOf s
+pub frame-is : (s t : Areas) → SameFrame (s .patch) (s .full) (t .patch) (t .full) → frameOf t ≡ frameOf s
 frame-is s t f = λ i. record {
   patch = emptied-same patchHead (t .patch) (s .patch) .1 (f .patch-length, f .patch-header) i;
   full = emptied-same fullHead (t .full) (s .full) .1 (f .full-length, f .full-header) i;
@@ -45,66 +46,50 @@ taken-frame : (P : ℕ) (s : Areas) (w : Lent) → taken P (frameOf s) w ≡ tak
 taken-frame P s w = ap (λ (k : ℕ). eqb k 0) (number (frameOf s) ∙ same ∙ sym (number s))
   where
     number : (t : Areas) → outcome P t w .number
-        ≡ orElse (frameNumber P (t .patch) (t .full) (w .base) (w .page))
-        (cond (leb (blocks (t .patch)) (w .block)) 5
-        (cond (eqb (decidedKind P (w .base) (w .page)) 2 && leb (places P (t .full)) (w .block)) 8 0))
-    number t = write-number P (t .patch) (t .full) (w .block) (w .base) (w .page)
-        ∙ write-rows P (t .patch) (t .full) (w .block) (w .base) (w .page)
+        ≡ orElse (cond (pageWrong P (w .decision)) 1 (areasNumber P (t .patch) (t .full)))
+        (cond (leb (blocks (t .patch)) (w .block)) 5 (decisionNumber P (t .full) (w .block) (w .decision)))
+    number t = carry-number P [] (t .patch) (t .full) (w .block) (w .decision)
+        ∙ carry-by-frame P (t .patch) (t .full) (w .block) (w .decision)
 
-    same : orElse (frameNumber P (emptied patchHead (s .patch)) (emptied fullHead (s .full)) (w .base) (w .page))
+    same : orElse (cond (pageWrong P (w .decision)) 1 (areasNumber P (emptied patchHead (s .patch)) (emptied fullHead (s .full))))
         (cond (leb (blocks (emptied patchHead (s .patch))) (w .block)) 5
-        (cond (eqb (decidedKind P (w .base) (w .page)) 2 && leb (places P (emptied fullHead (s .full))) (w .block)) 8 0))
-        ≡ orElse (frameNumber P (s .patch) (s .full) (w .base) (w .page))
-        (cond (leb (blocks (s .patch)) (w .block)) 5
-        (cond (eqb (decidedKind P (w .base) (w .page)) 2 && leb (places P (s .full)) (w .block)) 8 0))
-    same = rw (
-      frame-emptied P (s .patch) (s .full) (w .base) (w .page),
-      emptied-length patchHead (s .patch),
-      emptied-length fullHead
-          (s .full),
-    )
+        (decisionNumber P (emptied fullHead (s .full)) (w .block) (w .decision)))
+        ≡ orElse (cond (pageWrong P (w .decision)) 1 (areasNumber P (s .patch) (s .full)))
+        (cond (leb (blocks (s .patch)) (w .block)) 5 (decisionNumber P (s .full) (w .block) (w .decision)))
+    same = rw (areas-emptied P (s .patch) (s .full), emptied-length patchHead (s .patch), emptied-length fullHead (s .full))
 
 module _ (P : ℕ) (s : Areas) (w : Lent) where
-  pub accepted-write : taken P s w ≡ true → outcome P s w .number ≡ 0
-  accepted-write e = eqb-true (outcome P s w .number) 0 e
+  pub accepted-write : taken P s w ≡ true → Accepted P (s .patch) (s .full) (w .block) (w .decision)
+  accepted-write e = accepted P (s .patch) (s .full) (w .block) (w .decision) (eqb-true (outcome P s w .number) 0 e)
 
   not-taken : taken P s w ≡ false → next P s w ≡ s
-  not-taken e = ap (λ (o : WriteOutcome). record { patch = o .patch; full = o .full })
-      (write-not P (s .patch) (s .full) (w .block) (w .base) (w .page) (eqb-false (outcome P s w .number) 0 e))
+  not-taken e = ap (λ (o : CarryOutcome). record { patch = o .patch; full = o .full })
+      (carry-not P [] (s .patch) (s .full) (w .block) (w .decision) (eqb-false (outcome P s w .number) 0 e))
 
   module _ (e : taken P s w ≡ true) where
-    a : Accepted P (s .patch) (s .full) (w .block) (w .base) (w .page)
-    a = accepted P (s .patch) (s .full) (w .block) (w .base) (w .page) (accepted-write e)
+    done : StoredAt P (w .block) (w .decision) (order (w .decision .kind)) s (next P s w)
+    done = carry-stored P (s .patch) (s .full) (w .block) (w .decision) (eqb-true (outcome P s w .number) 0 e)
 
-    done : Stored P (s .patch) (s .full) (w .block) (w .base) (w .page) (outcome P s w .kind) (outcome P s w .patch) (outcome P s w .full)
-    done = write-stored P (s .patch) (s .full) (w .block) (w .base) (w .page) (accepted-write e)
-
-    pub cell-here : cellAt P (next P s w) (w .block) ≡ cellFor P (decision P w)
-    unfolding imageOf contentOf
-    cell-here = λ i. record { slot = slot i; place = place (ltb (w .block) (places P (s .full))) refl i }
+    pub cell-here : cellAt P (next P s w) (w .block) ≡ cellFor P (w .decision)
+    cell-here = λ i. record {
+      slot = (done .slot-is ∙ slot-anew (w .decision) (slotOf (s .patch) (w .block))) i;
+      place = place (ltb (w .block) (places P (s .full))) refl i;
+    }
       where
-        slot : slotOf (outcome P s w .patch) (w .block) ≡ imageOf P (w .base) (w .page)
-        slot = ap (λ (o : WriteOutcome). slotOf (o .patch) (w .block))
-            (write-done P (s .patch) (s .full) (w .block) (w .base) (w .page) (accepted-write e))
-            ∙ carried-slot P (s .patch) (s .full) (w .block) (w .base) (w .page) (a .fits) (a .below)
-
         place : (t : Bool) → ltb (w .block) (places P (s .full)) ≡ t
             → cond (ltb (w .block) (places P (outcome P s w .full))) (placeOf P (outcome P s w .full) (w .block)) (zeros P)
-            ≡ contentOf P (w .base) (w .page)
+            ≡ contentOf P (w .decision)
         place true q =
             rw (done .frame .full-length, q)
-            (ap (λ (o : WriteOutcome). placeOf P (o .full) (w .block))
-            (write-done P (s .patch) (s .full) (w .block) (w .base) (w .page) (accepted-write e))
-            ∙ carried-place P (s .patch) (s .full) (w .block) (w .base) (w .page) (a .fits) (a .below)
-            (ltb-true (w .block) (places P (s .full)) q))
+            (done .place-is (ltb-true (w .block) (places P (s .full)) q) ∙ place-anew P (w .decision) (placeOf P (s .full) (w .block)))
         place false q =
-            rw (done .frame .full-length, q)
-            (sym
-            (content-none P (w .base) (w .page)
-            (λ l.
-            let m : w .block < places P (s .full) = a .room-for l in
-            let n : places P (s .full) ≤ w .block = ltb-false (w .block) (places P (s .full)) q in
-            omega arith)))
+            let past : places P (s .full) ≤ w .block = ltb-false (w .block) (places P (s .full)) q in
+            rw (
+              done .frame .full-length,
+              q,
+              ne-eqb (w .decision .kind) 2
+                  (λ k. let m : w .block < places P (s .full) = accepted-write e .room-for k in omega arith),
+            )
 
     cell-other : (b : ℕ) → (b ≡ w .block → ⊥) → cellAt P (next P s w) b ≡ cellAt P s b
     cell-other b d = rw (done .other-slots b d, done .frame .full-length, done .other-places b d)
@@ -127,7 +112,7 @@ cut-taken-frame P s K = ap (λ (k : ℕ). eqb k 0) (number (frameOf s) ∙ same 
     same : orElse (areasNumber P (emptied patchHead (s .patch)) (emptied fullHead (s .full)))
         (cond (ltb (blocks (emptied patchHead (s .patch))) K) 5 0)
         ≡ orElse (areasNumber P (s .patch) (s .full)) (cond (ltb (blocks (s .patch)) K) 5 0)
-    same = rw (frame-emptied P (s .patch) (s .full) [] (zeros P), emptied-length patchHead (s .patch))
+    same = rw (areas-emptied P (s .patch) (s .full), emptied-length patchHead (s .patch))
 
 module _ (P : ℕ) (s : Areas) (K : Cut) where
   pub accepted-cut : cutTaken P s K ≡ true → cutting P s K .number ≡ 0

@@ -1,5 +1,6 @@
 -- The words that demand 3 is written with. A run is any list of operations, each lent both areas whole, as the ones before it left them.
--- An operation is a write, of any block, base and page of any lengths, or a cut, at any number.
+-- An operation is a write, which carries out any decision on any block, or a cut, at any number. That the decisions come from Compare is
+-- said where bases come in.
 use Prim.Native.Nat.{ℕ, _<_}
 use mathlib.Core.Path.{_≡_}
 use mathlib.Core.Bool.{Bool}
@@ -10,15 +11,12 @@ use lib.Dec.{eqb, leb}
 use Rattle.stream.specs.Calls.{pageOf}
 use Rattle.store.specs.Format.{formatOutcome}
 use Rattle.reading.specs.Read.{ReadOutcome, readOutcome}
-use Rattle.writing.specs.Write.{decidedStream, decidedKind, WriteOutcome, writeOutcome}
+use Rattle.carrying.specs.CarryOut.{CarryOutcome, carryOutcome}
 use Rattle.cutting.specs.Cut.{CutOutcome, cutOutcome}
 use Rattle.promises.specs.Words.{blocks}
-use Rattle.promises.specs.Decisions.{Decision, Compared}
+use Rattle.promises.specs.Decisions.{ComparedBy, Compared}
 use Rattle.promises.specs.Runs.{run, taking, lastSuch, Op, write, wipe, concerns}
-
-pub record Areas : Type 0 where
-  pub patch : List ℕ
-  pub full : List ℕ
+pub use Rattle.carrying.specs.Puts.{Decision, Areas}
 
 -- Read of a block of both areas
 abbrev pub readAt : ℕ → Areas → ℕ → List ℕ → List ℕ → ReadOutcome
@@ -26,11 +24,10 @@ readAt P s b base page = readOutcome P (s .patch) (s .full) b base page
 
 -- Operations
 
--- one write
+-- one write: a decision that is carried out on a block
 pub record Lent : Type 0 where
   pub block : ℕ
-  pub base : List ℕ
-  pub page : List ℕ
+  pub decision : Decision
 
 -- one cut: the number that it is made at
 abbrev pub Cut : Type 0
@@ -47,10 +44,10 @@ Operation = Op Lent Cut
 -- `RunsWrong` and `CutsWrong` have others.
 
 abbrev pub Program : Type 0
-Program = Areas → Lent → WriteOutcome
+Program = Areas → Lent → CarryOutcome
 
 abbrev pub outcome : ℕ → Program
-outcome P s w = writeOutcome P (s .patch) (s .full) (w .block) (w .base) (w .page)
+outcome P s w = carryOutcome P (s .patch) (s .full) (w .block) (w .decision)
 
 abbrev pub CutProgram : Type 0
 CutProgram = Areas → Cut → CutOutcome
@@ -111,29 +108,27 @@ JustLasts P s os ls = JustLastsBy (outcome P) (cutting P) s os ls
 
 -- Bases
 
--- the decision that a write carries out
-abbrev pub decision : ℕ → Lent → Decision
-decision P w = record { kind = decidedKind P (w .base) (w .page); payload = decidedStream P (w .base) (w .page); page = w .page }
-
--- it is Compare's over the base page β
+-- what a write carries out is Compare's over the base page β
 abbrev pub Decided : ℕ → List ℕ → Lent → Type 0
-Decided P β w = Compared P β (decision P w)
+Decided P β w = Compared P β (w .decision)
 
 -- "only the blocks it covers may have another base after it": the bases that a run begins with, `start`, and those at its end, `end`. Each
--- accepted write has the base page that its block has then; an accepted cut may be followed by other bases of the blocks that it covers.
--- Said of the accepted operations of a run. Bases are compared as pages.
+-- accepted write "carries out the kind and payload of a Compare that answered 0, with the page it compared", over the base that its block
+-- has then; an accepted cut may be followed by other bases of the blocks that it covers. Said of the accepted operations of a run. Bases are
+-- compared as pages.
 abbrev pub Follows : ℕ → (ℕ → List ℕ) → List Operation → (ℕ → List ℕ) → Type 0
 Follows P start [] end = (b : ℕ) → pageOf P (start b) ≡ pageOf P (end b)
-Follows P start (write w ∷ os) end = (pageOf P (w .base) ≡ pageOf P (start (w .block))) × Follows P start os end
+Follows P start (write w ∷ os) end = ComparedBy P (start (w .block)) (w .decision) × Follows P start os end
 Follows P start (wipe K ∷ os) end =
     (then : ℕ → List ℕ) × ((b : ℕ) → b < K → pageOf P (start b) ≡ pageOf P (then b)) × Follows P then os end
 
 abbrev pub FollowsBases : ℕ → (ℕ → List ℕ) → Areas → List Operation → (ℕ → List ℕ) → Type 0
 FollowsBases P start s os end = Follows P start (accepted P s os) end
 
--- each accepted write of a run has its block's base page, before every cut and after it: "each block always with the same base page"
+-- each accepted write of a run was decided by a Compare over its block's base, before every cut and after it: "each block always with the
+-- same base page"
 abbrev pub KeepsBases : ℕ → (ℕ → List ℕ) → Areas → List Operation → Type 0
-KeepsBases P bases s os = (w : Lent) → List·Memᴰ (write w) (accepted P s os) → pageOf P (w .base) ≡ pageOf P (bases (w .block))
+KeepsBases P bases s os = (w : Lent) → List·Memᴰ (write w) (accepted P s os) → ComparedBy P (bases (w .block)) (w .decision)
 
 -- what is needed of either: the write that stands at a block at the end, if one does, was decided over the block's base page then
 abbrev pub OverBaseAt : ℕ → List ℕ → Areas → List Operation → ℕ → Type 0
@@ -146,7 +141,7 @@ OverBases P bases s os = (b : ℕ) → b < blocks (s .patch) → OverBaseAt P (b
 pub record ChangedAt (P : ℕ) (bases : ℕ → List ℕ) (s : Areas) (os : List Operation) (b : ℕ) : Type 0 where
   pub last : Lent
   pub stands : lastTo b (accepted P s os) ≡ some (write last)
-  pub differs : last .page ≡ pageOf P (bases b) → ⊥
+  pub differs : last .decision .page ≡ pageOf P (bases b) → ⊥
 
 -- freshly formatted areas: what Format leaves of areas that it accepts
 pub record FreshAreas (P : ℕ) (s : Areas) : Type 0 where

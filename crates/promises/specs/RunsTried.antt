@@ -8,19 +8,20 @@ use mathlib.Core.Logic.{inr}
 use mathlib.Core.Option.{some}
 use mathlib.Core.List.{List, [], _∷_}
 use lib.Dec.{eqb, lit≤, lit<}
-use lib.ListN.{getD}
+use lib.ListN.{length}
 use borrow.Author.Tests.{eq-eqb, ne-eqb}
-use Rattle.span.specs.Bytes.{zeros}
 use Rattle.layout.specs.Sizes.{pageSize}
-use Rattle.stream.specs.Calls.{pageOf}
+use Rattle.writer.specs.Differences.{written}
+use Rattle.stream.specs.Calls.{pageOf, kindFor}
 use Rattle.reading.specs.Read.{ReadOutcome}
 use Rattle.promises.specs.Words.{PagesFit}
+use Rattle.promises.specs.DecisionLaws.{compared-by}
 use Rattle.promises.specs.Runs.{run, taking, later, lastSuch, concerns, write, wipe}
 use Rattle.promises.specs.RunWords.{Areas, readAt, Lent, Operation, outcome, cutting, cutNext, next, after, accepted, lastTo}
 use Rattle.promises.specs.RunWords.{FollowsBases, OverBases}
-use Rattle.promises.specs.DemandThree.{reads-as-last, decided-over-its-base, reads-as-base, changed-bases-enough}
+use Rattle.promises.specs.DemandThree.{compare-is-decided, reads-as-last, reads-as-base, changed-bases-enough}
 use Rattle.promises.specs.Sample.{sample, sample-fresh, two-blocks, takes, cut-takes, cut-refuses, one, two, one-fits, two-fits, to}
-use Rattle.promises.specs.Sample.{puts, page}
+use Rattle.promises.specs.Sample.{puts, stream-two, stream-next, decides, decides-by, decides-fit, one-fit}
 
 abbrev pub tried : List Operation
 tried = puts 0 one ∷ puts 1 one ∷ wipe 1 ∷ wipe 2 ∷ wipe 3 ∷ []
@@ -33,8 +34,8 @@ tried-accepted =
     let s3 : Areas = cutNext pageSize s2 1 in
     let s4 : Areas = cutNext pageSize s3 2 in
     rw (
-      eq-eqb (outcome pageSize sample (to 0 one) .number) 0 (takes [] (to 0 one) (lit< tt) one-fits),
-      eq-eqb (outcome pageSize s1 (to 1 one) .number) 0 (takes (puts 0 one ∷ []) (to 1 one) (lit< tt) one-fits),
+      eq-eqb (outcome pageSize sample (to 0 one) .number) 0 (takes [] (to 0 one) (lit< tt) one-fit),
+      eq-eqb (outcome pageSize s1 (to 1 one) .number) 0 (takes (puts 0 one ∷ []) (to 1 one) (lit< tt) one-fit),
       eq-eqb (cutting pageSize s2 1 .number) 0 (cut-takes (puts 0 one ∷ puts 1 one ∷ []) 1 (lit≤ tt)),
       eq-eqb (cutting pageSize s3 2 .number) 0 (cut-takes (puts 0 one ∷ puts 1 one ∷ wipe 1 ∷ []) 2 (lit≤ tt)),
       ne-eqb (cutting pageSize s4 3 .number) 0
@@ -53,7 +54,7 @@ unfolding run
 tried-reads = (
   ap (λ (o : ReadOutcome). o .page)
       (reads-as-last sample sample-fresh tried 0 (rw (two-blocks []) (lit< tt)) (to 0 one) (tried-stands .0) [] two two-fits
-      (decided-over-its-base sample sample-fresh tried 0 (to 0 one) (tried-stands .0) [] refl)),
+      (compare-is-decided (to 0 one) [] [] (decides-by [] one one-fits) refl)),
   ap (λ (o : ReadOutcome). o .page)
       (reads-as-base sample sample-fresh tried 1 (rw (two-blocks []) (lit< tt))
       (λ w e. let z : _≡_ {A = ℕ} 0 1 = cc (sym (tried-stands .1) ∙ e) in omega arith) one two
@@ -64,7 +65,7 @@ tried-reads = (
 
 -- `two`, written to a block whose base is `one`; until now no block had a base
 abbrev overOne : ℕ → Lent
-overOne b = record { block = b; base = one; page = two }
+overOne b = record { block = b; decision = decides one two }
 
 over-fits : PagesFit pageSize one two
 over-fits = record { base-length = inr (one-fits .page-length); page-length = two-fits .page-length }
@@ -79,9 +80,9 @@ rebased-accepted b h =
     let s1 : Areas = next pageSize sample (to b one) in
     let s2 : Areas = cutNext pageSize s1 1 in
     rw (
-      eq-eqb (outcome pageSize sample (to b one) .number) 0 (takes [] (to b one) h one-fits),
+      eq-eqb (outcome pageSize sample (to b one) .number) 0 (takes [] (to b one) h one-fit),
       eq-eqb (cutting pageSize s1 1 .number) 0 (cut-takes (puts b one ∷ []) 1 (lit≤ tt)),
-      eq-eqb (outcome pageSize s2 (overOne b) .number) 0 (takes (puts b one ∷ wipe 1 ∷ []) (overOne b) h over-fits),
+      eq-eqb (outcome pageSize s2 (overOne b) .number) 0 (takes (puts b one ∷ wipe 1 ∷ []) (overOne b) h (decides-fit one two over-fits)),
     )
 
 -- block 1 was covered: no base at the beginning, `one` at the end
@@ -92,7 +93,7 @@ abbrev pub one-in-the-end : ℕ → List ℕ
 one-in-the-end b = cond (eqb b 1) one []
 
 pub covered-follows : FollowsBases pageSize none-at-first sample (rebased 1) one-in-the-end
-covered-follows = rw (rebased-accepted 1 (lit< tt)) (refl, (one-in-the-end, below, (refl, λ b. refl)))
+covered-follows = rw (rebased-accepted 1 (lit< tt)) (decides-by [] one one-fits, (one-in-the-end, below, (decides-by one two over-fits, λ b. refl)))
   where
     below : (b : ℕ) → b < 1 → pageOf pageSize [] ≡ pageOf pageSize (one-in-the-end b)
     below zero h = refl
@@ -113,8 +114,12 @@ covered-reads =
 
 -- block 0 was not: whatever the bases are at the end, the run is none of the request's
 pub below-does-not-follow : (end : ℕ → List ℕ) → FollowsBases pageSize none-at-first sample (rebased 0) end → ⊥
-unfolding page pageOf zeros
+unfolding kindFor
 below-does-not-follow end f =
     let g = rw (rebased-accepted 0 (lit< tt)) at f in
-    let z : _≡_ {A = ℕ} 7 0 = ap (λ (l : List ℕ). getD l 0 0) (g .1 .2 .0 ∙ sym (g .1 .1 0 (lit< tt))) in
+    let c = compared-by pageSize (g .1 .0 0) (decides one two) (g .1 .2 .0) in
+    let small : decides one two .kind ≡ 1 = ap (λ (l : List ℕ). kindFor (length l)) stream-next in
+    let z : _≡_ {A = ℕ} 2 4 =
+    ap (λ (l : List ℕ). length l)
+    (sym stream-next ∙ c .payload small ∙ ap (λ (β : List ℕ). written β two) (sym (g .1 .1 0 (lit< tt))) ∙ stream-two) in
     omega arith

@@ -16,19 +16,19 @@ use Rattle.slots.specs.Slots.{fullSlot, slotImage}
 use Rattle.payload.specs.Entries.{stream, inPage, whole, sound, put, applied}
 use Rattle.stream.specs.Calls.{pageOf, kindFor}
 use Rattle.reading.specs.Read.{ReadOutcome}
-use Rattle.writing.specs.Carry.{carriedPatch}
-use Rattle.writing.specs.Write.{decidedKind, decidedStream, WriteOutcome}
-use Rattle.promises.specs.Words.{blocks, PagesFit}
-use Rattle.promises.specs.StoreLaws.{write-done}
+use Rattle.carrying.specs.Puts.{putSlot}
+use Rattle.carrying.specs.CarryOut.{CarryOutcome}
+use Rattle.carrying.specs.CarryLaws.{carry-done, carried-is}
+use Rattle.promises.specs.Words.{blocks, PagesFit, streamOf}
 use Rattle.promises.specs.ReadLaws.{reads-patch}
-use Rattle.promises.specs.WriteLaws.{others-read}
+use Rattle.promises.specs.PairLaws.{others-read}
 use Rattle.promises.specs.Runs.{run, write, concerns}
 use Rattle.promises.specs.StandingLaws.{same-write}
 use Rattle.promises.specs.RunWords.{Areas, readAt, Lent, cuts, Operation, after, accepted, next, FreshAreas}
 use Rattle.promises.specs.RunLaws.{run-fits}
 use Rattle.promises.specs.Sample.{sample, sample-fresh, two-blocks, takes, page, same-bytes, one, two, many, one-fits, two-fits}
 use Rattle.promises.specs.Sample.{many-fits, stream-one, large-ones, large-twos, to, puts, both-taken, slot-of, changes, same-page}
-use Rattle.promises.specs.Sample.{nothing-stands}
+use Rattle.promises.specs.Sample.{nothing-stands, decides, decides-fit}
 
 -- the first of some operations that has to do with block b
 unfoldable pub firstTo : ℕ → List Operation → Option Operation
@@ -80,7 +80,7 @@ not-any-base claim = changes 0 (lit< tt) (claim sample sample-fresh (λ b. one) 
         → readAt pageSize (next pageSize sample (to 0 one)) b one one .page ≡ readAt pageSize sample b one one .page
     same b n =
         elim (decLt 0 b) [
-          | yes h ↦ ap (λ (o : ReadOutcome). o .page) (others-read pageSize (sample .patch) (sample .full) 0 [] one b (λ q. omega arith)
+          | yes h ↦ ap (λ (o : ReadOutcome). o .page) (others-read pageSize (sample .patch) (sample .full) 0 (decides [] one) b (λ q. omega arith)
               one one)
           | no h ↦ let z : b ≡ 0 = omega arith in rw z at-0
         ]
@@ -89,7 +89,7 @@ not-any-base claim = changes 0 (lit< tt) (claim sample sample-fresh (λ b. one) 
 pub not-slots-alone : ((s : Areas) → FreshAreas pageSize s → (os os′ : List Operation)
     → after pageSize s os .patch ≡ after pageSize s os′ .patch
     → after pageSize s os ≡ after pageSize s os′) → ⊥
-unfolding run many carriedPatch slotImage
+unfolding run many putSlot slotImage
 not-slots-alone claim =
     let z : _≡_ {A = ℕ} 1 2 =
     same-bytes (replicate 253 1) (replicate 253 2)
@@ -98,8 +98,10 @@ not-slots-alone claim =
     ∙ sym (full-patch (many 2) (many-fits 2) large-twos)))) 0 in
     omega arith
   where
-    full-patch : (x : List ℕ) → PagesFit pageSize [] x → decidedKind pageSize [] x ≡ 2
+    full-patch : (x : List ℕ) → PagesFit pageSize [] x → decides [] x .kind ≡ 2
         → next pageSize sample (to 0 x) .patch ≡ splice (sample .patch) (slotAt 0) fullSlot
     full-patch x f l =
-        ap (λ (o : WriteOutcome). o .patch) (write-done pageSize (sample .patch) (sample .full) 0 [] x (takes [] (to 0 x) (lit< tt) f))
-        ∙ ap (λ (k : ℕ). splice (sample .patch) (slotAt 0) (slotImage k (decidedStream pageSize [] x))) l
+        ap (λ (o : CarryOutcome). o .patch)
+        (carry-done pageSize [] (sample .patch) (sample .full) 0 (decides [] x) (takes [] (to 0 x) (lit< tt) (decides-fit [] x f)))
+        ∙ ap (λ (s : Areas). s .patch) (carried-is pageSize 0 (decides [] x) sample)
+        ∙ ap (λ (k : ℕ). splice (sample .patch) (slotAt 0) (slotImage k (streamOf pageSize [] x))) l

@@ -24,15 +24,18 @@ use Rattle.store.specs.FrameLaws.{lengthsFit}
 use Rattle.store.specs.Format.{FormatOutcome, formatOutcome}
 use Rattle.store.specs.FormatLaws.{format-done}
 use Rattle.reading.specs.Read.{ReadOutcome, readDone}
-use Rattle.writing.specs.Write.{decidedKind, decidedStream}
-use Rattle.promises.specs.Words.{blocks, places, PagesFit, WriteGives, streamOf}
-use Rattle.promises.specs.Tables.{write-table}
-use Rattle.promises.specs.WriteLaws.{reads-back}
-use Rattle.promises.specs.Decisions.{Cell, cellFor}
+use Rattle.carrying.specs.Puts.{Decision}
+use Rattle.promises.specs.Words.{blocks, places, PagesFit, AreasFit, streamOf}
+use Rattle.promises.specs.StoreLaws.{base-page-length}
+use Rattle.promises.specs.Decisions.{Cell, cellFor, Fit, ComparedBy, Compared}
+use Rattle.promises.specs.DecisionLaws.{by-compare, compared-fit}
+use Rattle.promises.specs.CarryWords.{PageFits, CarryGives}
+use Rattle.promises.specs.CarryTables.{carry-table}
+use Rattle.promises.specs.PairLaws.{reads-back}
 use Rattle.promises.specs.Runs.{run, taking, lastSuch, write}
-use Rattle.promises.specs.CutWords.{AreasFit, CutGives}
+use Rattle.promises.specs.CutWords.{CutGives}
 use Rattle.promises.specs.CutTables.{cut-table}
-use Rattle.promises.specs.RunWords.{Areas, readAt, Lent, Operation, outcome, cutting, after, accepted, next, lastTo, decision, FreshAreas}
+use Rattle.promises.specs.RunWords.{Areas, readAt, Lent, Operation, outcome, cutting, after, accepted, next, lastTo, FreshAreas}
 use Rattle.promises.specs.RunStore.{cellAt}
 use Rattle.promises.specs.RunStoreLaws.{cell-here}
 use Rattle.promises.specs.RunLaws.{kept, run-fits, reads-base}
@@ -75,26 +78,24 @@ module _ (os : List Operation) where
   two-places = rw (kept pageSize sample sample-fresh os .full-length, fresh-full-length pageSize (pageAt pageSize 2) (inr (lit≤ tt)))
       (pages-of pageSize 2 (lit< tt))
 
-  -- a write of a whole page to one of them is accepted
-  pub takes : (w : Lent) → w .block < 2 → PagesFit pageSize (w .base) (w .page) → outcome pageSize (after pageSize sample os) w .number
-      ≡ 0
-  takes w h f =
-      write-table pageSize (after pageSize sample os .patch) (after pageSize sample os .full) (w .block) (w .base) (w .page) 0 .1
-      (WriteGives.done (run-fits pageSize sample sample-fresh os (w .base) (w .page) f) (rw two-blocks h) (λ l. rw two-places h))
-
-  -- and one to any other block is refused with 5
-  pub refuses : (w : Lent) → 2 ≤ w .block → PagesFit pageSize (w .base) (w .page) → outcome pageSize (after pageSize sample os) w .number
-      ≡ 5
-  refuses w h f =
-      write-table pageSize (after pageSize sample os .patch) (after pageSize sample os .full) (w .block) (w .base) (w .page) 5 .1
-      (WriteGives.block (run-fits pageSize sample sample-fresh os (w .base) (w .page) f) (rw two-blocks h))
-
-  -- a cut at 0, 1 or 2 is accepted, and one above is refused with 5
   pub areas-fit : AreasFit pageSize (after pageSize sample os .patch) (after pageSize sample os .full)
   areas-fit =
       let f = run-fits pageSize sample sample-fresh os [] (zeros pageSize) (record { base-length = inl refl; page-length = zeros-length pageSize }) in
       record { lengths = f .lengths; headers = f .headers }
 
+  -- a decision that can be carried out is accepted at either of them
+  pub takes : (w : Lent) → w .block < 2 → Fit pageSize (w .decision) → outcome pageSize (after pageSize sample os) w .number ≡ 0
+  takes w h f =
+      carry-table pageSize (after pageSize sample os .patch) (after pageSize sample os .full) (w .block) (w .decision) 0 .1
+      (CarryGives.done areas-fit (rw two-blocks h) f (λ k. rw two-places h))
+
+  -- and at any other block refused with 5
+  pub refuses : (w : Lent) → 2 ≤ w .block → PageFits pageSize (w .decision) → outcome pageSize (after pageSize sample os) w .number ≡ 5
+  refuses w h f =
+      carry-table pageSize (after pageSize sample os .patch) (after pageSize sample os .full) (w .block) (w .decision) 5 .1
+      (CarryGives.block f areas-fit (rw two-blocks h))
+
+  -- a cut at 0, 1 or 2 is accepted, and one above is refused with 5
   pub cut-takes : (K : ℕ) → K ≤ 2 → cutting pageSize (after pageSize sample os) K .number ≡ 0
   cut-takes K h =
       cut-table pageSize (after pageSize sample os .patch) (after pageSize sample os .full) K 0 .1
@@ -152,18 +153,42 @@ pub stream-next : streamOf pageSize one two ≡ 1 ∷ 9 ∷ []
 unfolding page pageOf zeros written diffs coded spelled le
 stream-next = refl
 
-pub large-ones : decidedKind pageSize [] (many 1) ≡ 2
-unfolding many page pageOf zeros written diffs coded spelled le decidedKind decidedStream kindFor
+-- What Compare decides of a page over a base
+
+abbrev pub decides : List ℕ → List ℕ → Decision
+decides base x = record { kind = kindFor (length (streamOf pageSize base x)); payload = streamOf pageSize base x; page = x }
+
+decides-over : (base x : List ℕ) → PagesFit pageSize base x → Compared pageSize (pageOf pageSize base) (decides base x)
+decides-over base x f =
+    record { base-length = base-page-length pageSize base x f; page-length = f .page-length; kind = refl; payload = λ q. refl }
+
+pub decides-by : (base x : List ℕ) → PagesFit pageSize base x → ComparedBy pageSize base (decides base x)
+decides-by base x f = by-compare pageSize base (decides base x) f (decides-over base x f)
+
+pub decides-fit : (base x : List ℕ) → PagesFit pageSize base x → Fit pageSize (decides base x)
+decides-fit base x f = compared-fit pageSize (lit≤ tt) (pageOf pageSize base) (decides base x) (decides-over base x f)
+
+pub large-ones : decides [] (many 1) .kind ≡ 2
+unfolding many page pageOf zeros written diffs coded spelled le kindFor
 large-ones = refl
 
-pub large-twos : decidedKind pageSize [] (many 2) ≡ 2
-unfolding many page pageOf zeros written diffs coded spelled le decidedKind decidedStream kindFor
+pub large-twos : decides [] (many 2) .kind ≡ 2
+unfolding many page pageOf zeros written diffs coded spelled le kindFor
 large-twos = refl
 
 -- Writes of a page over a base of no bytes
 
 abbrev pub to : ℕ → List ℕ → Lent
-to b x = record { block = b; base = []; page = x }
+to b x = record { block = b; decision = decides [] x }
+
+pub one-fit : Fit pageSize (decides [] one)
+one-fit = decides-fit [] one one-fits
+
+pub two-fit : Fit pageSize (decides [] two)
+two-fit = decides-fit [] two two-fits
+
+pub many-fit : (v : ℕ) → Fit pageSize (decides [] (many v))
+many-fit v = decides-fit [] (many v) (many-fits v)
 
 -- the same as operations
 abbrev pub puts : ℕ → List ℕ → Operation
@@ -174,20 +199,19 @@ pub both-taken : (b : ℕ) → b < 2 → (x : List ℕ) → PagesFit pageSize []
 unfolding run taking
 both-taken b h x f =
     rw (
-      eq-eqb (outcome pageSize sample (to 0 one) .number) 0 (takes [] (to 0 one) (lit< tt) one-fits),
-      eq-eqb (outcome pageSize (next pageSize sample (to 0 one)) (to b x) .number) 0 (takes (puts 0 one ∷ []) (to b x) h f),
+      eq-eqb (outcome pageSize sample (to 0 one) .number) 0 (takes [] (to 0 one) (lit< tt) one-fit),
+      eq-eqb (outcome pageSize (next pageSize sample (to 0 one)) (to b x) .number) 0 (takes (puts 0 one ∷ []) (to b x) h (decides-fit [] x f)),
     )
 
 -- the slot and the place after one to block 0
 cell-of : (os : List Operation) (x : List ℕ) → PagesFit pageSize [] x
     → cellAt pageSize (next pageSize (after pageSize sample os) (to 0 x)) 0
-    ≡ cellFor pageSize (decision pageSize (to 0 x))
+    ≡ cellFor pageSize (decides [] x)
 cell-of os x f = cell-here pageSize (after pageSize sample os) (to 0 x)
-    (eq-eqb (outcome pageSize (after pageSize sample os) (to 0 x) .number) 0 (takes os (to 0 x) (lit< tt) f))
+    (eq-eqb (outcome pageSize (after pageSize sample os) (to 0 x) .number) 0 (takes os (to 0 x) (lit< tt) (decides-fit [] x f)))
 
 pub slot-of : (os : List Operation) (x payload : List ℕ) → PagesFit pageSize [] x → streamOf pageSize [] x ≡ payload
     → slotOf (next pageSize (after pageSize sample os) (to 0 x) .patch) 0 ≡ slotImage (kindFor (length payload)) payload
-unfolding decidedKind decidedStream
 slot-of os x payload f e = ap (λ (c : Cell). c .slot) (cell-of os x f) ∙ ap (λ (w : List ℕ). slotImage (kindFor (length w)) w) e
 
 pub place-ones : cellAt pageSize (next pageSize sample (to 0 (many 1))) 0 .place ≡ many 1
@@ -199,8 +223,8 @@ pub reads : (os : List Operation) (b : ℕ) → b < 2 → (x : List ℕ) → Pag
     → readAt pageSize (next pageSize (after pageSize sample os) (to b x)) b [] two .page ≡ x
 reads os b h x f =
     ap (λ (o : ReadOutcome). o .page)
-    (reads-back pageSize (after pageSize sample os .patch) (after pageSize sample os .full) b [] x (lit≤ tt) (takes os (to b x) h f) []
-    two refl (two-fits .page-length))
+    (reads-back pageSize (lit≤ tt) (after pageSize sample os .patch) (after pageSize sample os .full) b [] (decides [] x) (decides-by [] x f)
+    (takes os (to b x) h (decides-fit [] x f)) [] two refl (two-fits .page-length))
 
 -- where a fresh block reads as its base, so as zeros
 pub nothing-stands : (b : ℕ) → b < 2 → (base x : List ℕ) → PagesFit pageSize base x

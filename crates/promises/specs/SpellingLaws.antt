@@ -1,6 +1,6 @@
 -- What the rule about long jumps says of slots: one with a 16-bit jump below 255, two that list the same, and one of which every entry
 -- changes its byte.
-use Prim.Native.Nat.{ℕ, _+_, _*_, _<_}
+use Prim.Native.Nat.{ℕ, _+_, _*_, _≤_, _<_}
 use native.Mathlib.Omega.{arith}
 use mathlib.Core.Path.{_≡_, refl, sym, ap, _∙_}
 use mathlib.Core.Bool.{Bool, true, false}
@@ -12,24 +12,23 @@ use Rattle.layout.specs.Sizes.{patchHead, slotSize, slotAt}
 use Rattle.slots.specs.Slots.{patchSlot}
 use Rattle.payload.specs.Entries.{start, payloadStream, sound, applied}
 use Rattle.payload.specs.Listing.{listed}
-use Rattle.payload.specs.Spelling.{Spelt, Spelled, joined, Coded, Stays, Bytes, bytes-part}
-use Rattle.payload.specs.Soundness.{sound-spelled}
+use Rattle.payload.specs.Spelling.{Spelt, joined, Coded, Stays, Bytes, bytes-part}
 use Rattle.payload.specs.LongJumps.{below-breaks}
 use Rattle.payload.specs.OneSpelling.{one-spelling}
 use Rattle.stream.specs.Calls.{pageOf}
-use Rattle.stream.specs.Landing.{spelled-lands, pokes-length}
 use Rattle.stream.specs.OwnStream.{Changes, own-stream}
-use Rattle.writer.specs.Writer.{placed}
 use Rattle.store.specs.Block.{slotOf}
 use Rattle.store.specs.BlockLaws.{payload-bytes}
 use Rattle.reading.specs.Read.{readOutcome, readRefused}
-use Rattle.writing.specs.Write.{writeOutcome}
-use Rattle.promises.specs.Words.{blocks, FrameFits, PatchOf, streamOf, StoredAs, Stored, WriteGives}
+use Rattle.carrying.specs.Puts.{Decision}
+use Rattle.carrying.specs.CarryOut.{carryOutcome}
+use Rattle.promises.specs.Words.{blocks, FrameFits, PatchOf, streamOf, StoredAs, Stored}
 use Rattle.promises.specs.Cells.{cells-ext}
-use Rattle.promises.specs.Tables.{write-table}
-use Rattle.promises.specs.StoreLaws.{base-page-length, write-stored}
+use Rattle.promises.specs.StoreLaws.{base-page-length}
 use Rattle.promises.specs.ReadLaws.{reads-unsound}
-use Rattle.promises.specs.WriteLaws.{kind-patch}
+use Rattle.promises.specs.Decisions.{ComparedBy}
+use Rattle.promises.specs.CarryWords.{PairGives}
+use Rattle.promises.specs.PairLaws.{pair-table, pair-stored, kind-patch}
 
 -- the bytes of a slot's payload
 patch-bytes : (s payload : List ℕ) → Bytes s → PatchOf s payload → Bytes payload
@@ -86,31 +85,23 @@ module _ (P : ℕ) (patch full : List ℕ) (b : ℕ) (base page : List ℕ) (fit
     own : payload ≡ streamOf P base given
     own = own-stream P (pageOf P base) payload (base-page-length P base page (fits .pages)) held is-sound changes
 
-    given-length : length given ≡ P
-    given-length =
-        let w : Spelled P start payload = sound-spelled P payload held .0 is-sound .2 in
-        ap (λ (l : List ℕ). length l) (spelled-lands P payload w .page (pageOf P base))
-        ∙ pokes-length (placed 0 (w .entries)) (pageOf P base) ∙ base-page-length P base page (fits .pages)
-
     -- the slot is determined by the base and the page that it gives
     pub own-slot : slotOf patch b ≡ patchSlot (streamOf P base given)
     own-slot = p .image ∙ ap (λ (l : List ℕ). patchSlot l) own
 
-    -- so writing that page over that base is accepted, and leaves the patch area as it is
-    pub writes-same : (writeOutcome P patch full b base given .number ≡ 0) × (writeOutcome P patch full b base given .kind ≡ 1)
-        × (writeOutcome P patch full b base given .patch ≡ patch)
-    writes-same =
-        let l : length (streamOf P base given) ≡ length payload = sym (ap (λ (x : List ℕ). length x) own) in
-        let fits′ : FrameFits P patch full base given =
-        record {
-          pages = record { base-length = fits .pages .base-length; page-length = given-length };
-          lengths = fits .lengths;
-          headers = fits .headers;
-        } in
-        let done : writeOutcome P patch full b base given .number ≡ 0 =
-        write-table P patch full b base given 0 .1 (WriteGives.done fits′ below (λ large. absurd (omega (arith, p .room-for)))) in
-        let kind : writeOutcome P patch full b base given .kind ≡ 1 =
-        kind-patch P patch full b base given done .1 (omega (arith, p .some), omega (arith, p .room-for)) in
-        let s = write-stored P patch full b base given done in
-        let same = stored-patch P base given (writeOutcome P patch full b base given .kind) _ (s .content) kind (s .stored) in
-        (done, kind, patch-same P patch full b base given _ _ _ (fits .lengths .patch-length) s (same ∙ sym own-slot))
+    -- so carrying out what a Compare of that page over that base decided is accepted, and leaves the patch area as it is
+    pub carries-same : P ≤ 65536 → (d : Decision) → ComparedBy P base d → d .page ≡ given
+        → (carryOutcome P patch full b d .number ≡ 0) × (carryOutcome P patch full b d .kind ≡ 1)
+        × (carryOutcome P patch full b d .patch ≡ patch)
+    carries-same small d by e =
+        let l : length (streamOf P base (d .page)) ≡ length payload =
+        ap (λ (x : List ℕ). length (streamOf P base x)) e ∙ sym (ap (λ (x : List ℕ). length x) own) in
+        let done : carryOutcome P patch full b d .number ≡ 0 =
+        pair-table P small patch full b base d by 0 .1
+        (PairGives.done (record { lengths = fits .lengths; headers = fits .headers }) below (λ large. absurd (omega (arith, p .room-for)))) in
+        let kind : carryOutcome P patch full b d .kind ≡ 1 =
+        kind-patch P small patch full b base d by done .1 (omega (arith, p .some), omega (arith, p .room-for)) in
+        let s = pair-stored P small patch full b base d by done in
+        let same = stored-patch P base (d .page) (carryOutcome P patch full b d .kind) _ (s .content) kind (s .stored)
+        ∙ ap (λ (x : List ℕ). patchSlot (streamOf P base x)) e in
+        (done, kind, patch-same P patch full b base (d .page) _ _ _ (fits .lengths .patch-length) s (same ∙ sym own-slot))

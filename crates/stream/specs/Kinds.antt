@@ -170,7 +170,7 @@ module _ (P : ℕ) (base page buffer : List ℕ) where
     unfolding comparison written
     compare-length = ap (λ (x : ComparedNumbers). x .length) numbers
 
-    compare-kind : compareNumbers P base page buffer .kind ≡ kindFor (length (written (pageOf P base) page))
+    pub compare-kind : compareNumbers P base page buffer .kind ≡ kindFor (length (written (pageOf P base) page))
     unfolding comparison written
     compare-kind = ap (λ (x : ComparedNumbers). x .kind) numbers
 
@@ -211,22 +211,28 @@ module _ (P : ℕ) (base page buffer : List ℕ) where
         let k = kind-2 (length (written (pageOf P base) page)) in
         (λ e. k .0 (sym compare-kind ∙ e), λ e. compare-kind ∙ k .1 e)
 
+    -- the first `length` bytes of the buffer are the stream
+    pub compare-payload : compareNumbers P base page buffer .kind ≡ 1
+        → take (compareNumbers P base page buffer .length) (compareBuffer P base page buffer) ≡ written (pageOf P base) page
+    unfolding written part
+    compare-payload k =
+        ap (λ (x : List ℕ). take (compareNumbers P base page buffer .length) x) (compare-written P base page buffer k)
+        ∙ part-splice buffer 0 (written (pageOf P base) page) (compareNumbers P base page buffer .length) (sym compare-length)
+        (omega (arith, compare-length, accepted-room, compare-patch .0 k .1))
+
     -- Applying what Compare wrote to the same base gives the page, with Compare's own numbers.
     pub compare-apply : P ≤ 65536 → compareNumbers P base page buffer .kind ≡ 1 → (lent : List ℕ) → length lent ≡ P
         → (applyNumbers P base (take (compareNumbers P base page buffer .length) (compareBuffer P base page buffer)) lent
         ≡ applyDone (compareNumbers P base page buffer .entries) (compareNumbers P base page buffer .last))
         × (applyPage P base (take (compareNumbers P base page buffer .length) (compareBuffer P base page buffer)) lent ≡ page)
-    unfolding comparison written part pagesFit
+    unfolding comparison written pagesFit
     compare-apply small k lent l =
         let w : List ℕ = written (pageOf P base) page in
         let p : length page ≡ P = page-length P base page accepted-fits in
         let n : (1 ≤ length w) × (length w ≤ room) = compare-patch .0 k in
         let b : Back P (pageOf P base) page = read-back P (pageOf P base) page small (base-is ∙ p) p in
         let s : sound P w ≡ true = b .is-sound (n .0) (n .1) in
-        let r : room ≤ length buffer = accepted-room in
-        let t : take (compareNumbers P base page buffer .length) (compareBuffer P base page buffer) ≡ w =
-        ap (λ (x : List ℕ). take (compareNumbers P base page buffer .length) x) (compare-written P base page buffer k)
-        ∙ part-splice buffer 0 w (compareNumbers P base page buffer .length) (sym compare-length) (omega (arith, compare-length)) in
+        let t : take (compareNumbers P base page buffer .length) (compareBuffer P base page buffer) ≡ w = compare-payload k in
         let f : pagesFit P base lent ≡ true = fits-like lent l p in
         let a : firstOf (applyRows P base w lent) ≡ 0 = apply-number P base w lent ∙ rw (f, s) in
         let d = apply-done P base w lent a in (

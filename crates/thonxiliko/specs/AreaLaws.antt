@@ -5,12 +5,13 @@ use mathlib.Core.List.{List}
 use Rattle.store.specs.Format.{Format, formattedNumber}
 use Rattle.store.specs.Judge.{Judge, judgedNumbers}
 use Rattle.reading.specs.Read.{Read, readingNumbers}
-use Rattle.writing.specs.Write.{Write, writtenNumbers}
+use Rattle.carrying.specs.Puts.{Decision}
+use Rattle.carrying.specs.CarryOut.{CarryOut, writtenNumbers}
 use Rattle.building.specs.Build.{Build, builtNumbers}
 use Rattle.store.specs.declared.Formatted.{Formatted}
 use Rattle.store.specs.declared.Judged.{Judged}
 use Rattle.reading.specs.declared.Reading.{Reading}
-use Rattle.writing.specs.declared.Written.{Written}
+use Rattle.carrying.specs.declared.Written.{Written}
 use Rattle.building.specs.declared.Built.{Built}
 use Rattle.thonxiliko.specs.declared.«thx_done».{«thx_done»}
 use Rattle.thonxiliko.specs.declared.«thx_judged».{«thx_judged»}
@@ -18,7 +19,7 @@ use Rattle.thonxiliko.specs.declared.«thx_part».{«thx_part»}
 use Rattle.thonxiliko.specs.declared.«thx_reading».{«thx_reading»}
 use Rattle.thonxiliko.specs.declared.«thx_written».{«thx_written»}
 use Rattle.thonxiliko.specs.declared.«thx_built».{«thx_built»}
-use Rattle.thonxiliko.specs.Areas.{ThxFormat, ThxJudge, ThxShow, ThxRead, ThxWrite, ThxBuild}
+use Rattle.thonxiliko.specs.Areas.{ThxFormat, ThxJudge, ThxShow, ThxRead, ThxCarryOut, ThxBuild}
 use Rattle.thonxiliko.specs.Areas.{judgedMembers, partMembers, readMembers, writtenMembers, builtMembers}
 
 -- a struct that holds the numbers of the answer beneath is as good as that answer
@@ -34,10 +35,9 @@ pub read-held : {P b : ℕ} {patch full base page page′ : List ℕ} {a : Readi
     → Read P patch full b base page a page′ → readMembers r ≡ readingNumbers a → ThxRead P patch full b base page r page′
 read-held f e = record { numbers = e ∙ f .numbers; bytes = f .bytes }
 
-pub write-held : {P b : ℕ} {patch full base page patch′ full′ : List ℕ} {a : Written} {r : «thx_written»}
-    → Write P patch full b base page a patch′ full′ → writtenMembers r ≡ writtenNumbers a
-    → ThxWrite P patch full b base page r patch′ full′
-write-held f e = record { numbers = e ∙ f .numbers; patch-bytes = f .patch-bytes; full-bytes = f .full-bytes }
+pub carry-held : {P b : ℕ} {patch full patch′ full′ : List ℕ} {d : Decision} {a : Written} {r : «thx_written»}
+    → CarryOut P patch full b d a patch′ full′ → writtenMembers r ≡ writtenNumbers a → ThxCarryOut P patch full b d r patch′ full′
+carry-held f e = record { numbers = e ∙ f .numbers; patch-bytes = f .patch-bytes; full-bytes = f .full-bytes }
 
 pub build-held : {P : ℕ} {patch full map map′ : List ℕ} {a : Built} {r : «thx_built»}
     → Build P patch full map a map′ → builtMembers r ≡ builtNumbers a → ThxBuild P patch full map r map′
@@ -70,9 +70,9 @@ read-only {P} {b} {patch} {full} {base} {page} {p} {q} {r} {s} x y =
     let e : readMembers r ≡ readMembers s = x .numbers ∙ sym (y .numbers) in
     (λ i. record { number = e i .number; kind = e i .kind; offset = e i .offset }, x .bytes ∙ sym (y .bytes))
 
-pub write-only : {P b : ℕ} {patch full base page p q f g : List ℕ} {r s : «thx_written»}
-    → ThxWrite P patch full b base page r p f → ThxWrite P patch full b base page s q g → (r ≡ s) × (p ≡ q) × (f ≡ g)
-write-only {P} {b} {patch} {full} {base} {page} {p} {q} {f} {g} {r} {s} x y =
+pub carry-only : {P b : ℕ} {patch full p q f g : List ℕ} {d : Decision} {r s : «thx_written»}
+    → ThxCarryOut P patch full b d r p f → ThxCarryOut P patch full b d s q g → (r ≡ s) × (p ≡ q) × (f ≡ g)
+carry-only {P} {b} {patch} {full} {p} {q} {f} {g} {d} {r} {s} x y =
     let e : writtenMembers r ≡ writtenMembers s = x .numbers ∙ sym (y .numbers) in (
       λ i. record { number = e i .number; kind = e i .kind; length = e i .length },
       x .patch-bytes ∙ sym (y .patch-bytes),

@@ -7,7 +7,8 @@ use Rattle.store.specs.declared.Place.{Place}
 use Rattle.store.specs.Format.{formatOutcome}
 use Rattle.store.specs.Judge.{JudgedNumbers, judgeNumbers}
 use Rattle.reading.specs.Read.{ReadNumbers, readNumbers, readOutcome}
-use Rattle.writing.specs.Write.{WriteNumbers, writeNumbers, writeOutcome}
+use Rattle.carrying.specs.Puts.{Decision}
+use Rattle.carrying.specs.CarryOut.{CarryNumbers, carryNumbers, carryOutcome}
 use Rattle.building.specs.Build.{BuildNumbers, buildNumbers, buildOutcome}
 use Rattle.thonxiliko.specs.declared.«thx_done».{«thx_done»}
 use Rattle.thonxiliko.specs.declared.«thx_judged».{«thx_judged»}
@@ -48,15 +49,15 @@ pub record ThxRead (P : ℕ) (patch full : List ℕ) (b : ℕ) (base page : List
   pub numbers : readMembers r ≡ readNumbers (readOutcome P patch full b base page)
   pub bytes : page′ ≡ readOutcome P patch full b base page .page
 
--- Write
+-- Carry out
 
-abbrev pub writtenMembers : «thx_written» → WriteNumbers
+abbrev pub writtenMembers : «thx_written» → CarryNumbers
 writtenMembers r = record { number = r .number; kind = r .kind; length = r .length }
 
-pub record ThxWrite (P : ℕ) (patch full : List ℕ) (b : ℕ) (base page : List ℕ) (r : «thx_written») (patch′ full′ : List ℕ) : Type 0 where
-  pub numbers : writtenMembers r ≡ writeNumbers (writeOutcome P patch full b base page)
-  pub patch-bytes : patch′ ≡ writeOutcome P patch full b base page .patch
-  pub full-bytes : full′ ≡ writeOutcome P patch full b base page .full
+pub record ThxCarryOut (P : ℕ) (patch full : List ℕ) (b : ℕ) (d : Decision) (r : «thx_written») (patch′ full′ : List ℕ) : Type 0 where
+  pub numbers : writtenMembers r ≡ carryNumbers (carryOutcome P patch full b d)
+  pub patch-bytes : patch′ ≡ carryOutcome P patch full b d .patch
+  pub full-bytes : full′ ≡ carryOutcome P patch full b d .full
 
 -- Build
 

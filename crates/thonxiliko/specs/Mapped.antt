@@ -5,18 +5,19 @@ use mathlib.Core.Path.{_≡_}
 use mathlib.Core.List.{List}
 use Rattle.reading.specs.Read.{readNumbers}
 use Rattle.reading.specs.Mapped.{readMappedOutcome}
-use Rattle.writing.specs.Write.{writeNumbers}
-use Rattle.writing.specs.Mapped.{writeMappedOutcome}
+use Rattle.carrying.specs.Puts.{Decision}
+use Rattle.carrying.specs.CarryOut.{carryNumbers}
+use Rattle.carrying.specs.Mapped.{carryMappedOutcome}
 use Rattle.thonxiliko.specs.declared.«thx_reading».{«thx_reading»}
 use Rattle.thonxiliko.specs.declared.«thx_written».{«thx_written»}
 use Rattle.thonxiliko.specs.Areas.{readMembers, writtenMembers}
 
-pub record ThxWriteMapped (P : ℕ) (patch full map : List ℕ) (b : ℕ) (base page : List ℕ) (r : «thx_written»)
-    (patch′ full′ map′ : List ℕ) : Type 0 where
-  pub numbers : writtenMembers r ≡ writeNumbers (writeMappedOutcome P patch full map b base page .written)
-  pub patch-bytes : patch′ ≡ writeMappedOutcome P patch full map b base page .written .patch
-  pub full-bytes : full′ ≡ writeMappedOutcome P patch full map b base page .written .full
-  pub map-bytes : map′ ≡ writeMappedOutcome P patch full map b base page .map
+pub record ThxCarryOutMapped (P : ℕ) (patch full map : List ℕ) (b : ℕ) (d : Decision) (r : «thx_written») (patch′ full′ map′ : List ℕ)
+    : Type 0 where
+  pub numbers : writtenMembers r ≡ carryNumbers (carryMappedOutcome P patch full map b d .areas)
+  pub patch-bytes : patch′ ≡ carryMappedOutcome P patch full map b d .areas .patch
+  pub full-bytes : full′ ≡ carryMappedOutcome P patch full map b d .areas .full
+  pub map-bytes : map′ ≡ carryMappedOutcome P patch full map b d .map
 
 pub record ThxReadMapped (P : ℕ) (patch full map : List ℕ) (b : ℕ) (base page : List ℕ) (r : «thx_reading») (page′ : List ℕ)
     : Type 0 where

@@ -4,21 +4,22 @@ use mathlib.Core.Path.{_≡_, sym, _∙_}
 use mathlib.Core.List.{List}
 use Rattle.reading.specs.Read.{readingNumbers}
 use Rattle.reading.specs.Mapped.{ReadMapped}
-use Rattle.writing.specs.Write.{writtenNumbers}
-use Rattle.writing.specs.Mapped.{WriteMapped}
+use Rattle.carrying.specs.Puts.{Decision}
+use Rattle.carrying.specs.CarryOut.{writtenNumbers}
+use Rattle.carrying.specs.Mapped.{CarryOutMapped}
 use Rattle.reading.specs.declared.Reading.{Reading}
-use Rattle.writing.specs.declared.Written.{Written}
+use Rattle.carrying.specs.declared.Written.{Written}
 use Rattle.thonxiliko.specs.declared.«thx_reading».{«thx_reading»}
 use Rattle.thonxiliko.specs.declared.«thx_written».{«thx_written»}
 use Rattle.thonxiliko.specs.Areas.{readMembers, writtenMembers}
-use Rattle.thonxiliko.specs.Mapped.{ThxWriteMapped, ThxReadMapped}
+use Rattle.thonxiliko.specs.Mapped.{ThxCarryOutMapped, ThxReadMapped}
 
 -- a struct that holds the numbers of the answer beneath is as good as that answer
 
-pub write-mapped-held : {P b : ℕ} {patch full map base page patch′ full′ map′ : List ℕ} {a : Written} {r : «thx_written»}
-    → WriteMapped P patch full map b base page a patch′ full′ map′ → writtenMembers r ≡ writtenNumbers a
-    → ThxWriteMapped P patch full map b base page r patch′ full′ map′
-write-mapped-held f e =
+pub carry-mapped-held : {P b : ℕ} {patch full map patch′ full′ map′ : List ℕ} {d : Decision} {a : Written} {r : «thx_written»}
+    → CarryOutMapped P patch full map b d a patch′ full′ map′ → writtenMembers r ≡ writtenNumbers a
+    → ThxCarryOutMapped P patch full map b d r patch′ full′ map′
+carry-mapped-held f e =
     record { numbers = e ∙ f .numbers; patch-bytes = f .patch-bytes; full-bytes = f .full-bytes; map-bytes = f .map-bytes }
 
 pub read-mapped-held : {P b : ℕ} {patch full map base page page′ : List ℕ} {a : Reading} {r : «thx_reading»}
@@ -28,10 +29,10 @@ read-mapped-held f e = record { numbers = e ∙ f .numbers; bytes = f .bytes }
 
 -- no second outcome meets a call's promise
 
-pub write-mapped-only : {P b : ℕ} {patch full map base page p q f g m n : List ℕ} {r s : «thx_written»}
-    → ThxWriteMapped P patch full map b base page r p f m → ThxWriteMapped P patch full map b base page s q g n
+pub carry-mapped-only : {P b : ℕ} {patch full map p q f g m n : List ℕ} {d : Decision} {r s : «thx_written»}
+    → ThxCarryOutMapped P patch full map b d r p f m → ThxCarryOutMapped P patch full map b d s q g n
     → (r ≡ s) × (p ≡ q) × (f ≡ g) × (m ≡ n)
-write-mapped-only {P} {b} {patch} {full} {map} {base} {page} {p} {q} {f} {g} {m} {n} {r} {s} x y =
+carry-mapped-only {P} {b} {patch} {full} {map} {p} {q} {f} {g} {m} {n} {d} {r} {s} x y =
     let e : writtenMembers r ≡ writtenMembers s = x .numbers ∙ sym (y .numbers) in (
       λ i. record { number = e i .number; kind = e i .kind; length = e i .length },
       x .patch-bytes ∙ sym (y .patch-bytes),

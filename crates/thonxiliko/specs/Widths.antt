@@ -2,7 +2,7 @@
 use Prim.Native.Nat.{ℕ, zero, suc, _+_, _-_, _*_, _^_, _≤_, _<_}
 use native.Mathlib.Omega.{arith}
 use mathlib.Core.Path.{_≡_, refl, sym, ap, _∙_}
-use mathlib.Core.Bool.{Bool, true, false, not, _&&_, cond}
+use mathlib.Core.Bool.{Bool, true, false, _&&_, cond}
 use mathlib.Core.List.{List, [], _∷_, _++_}
 use lib.Dec.{eqb, leb, ltb}
 use lib.IntN.{ℤ}
@@ -11,8 +11,8 @@ use Rattle.span.specs.Bytes.{same}
 use lib.ListN.{length, length-append}
 use Rattle.layout.specs.Sizes.{pageSize, room}
 use Rattle.layout.specs.Numbers.{le}
-use Rattle.layout.specs.Refusals.{Row, _⇐_, firstOf, orElse, decided}
-use Rattle.layout.specs.Groups.{ordered}
+use Rattle.layout.specs.Lengths.{blocksIn}
+use Rattle.layout.specs.Refusals.{Row, firstOf, decided}
 use Rattle.slots.specs.Slots.{slotNumbers, soundSlot, unsoundSlot, payloadLength, payloadOf, isPatch, emptySlot, patchSlot, fullSlot}
 use Rattle.writer.specs.Differences.{Change, diffs, spelled, coded, written}
 use Rattle.payload.specs.Entries.{sound, breaksAt, offsetWith, entries, payloadStream}
@@ -22,9 +22,12 @@ use Rattle.stream.specs.Calls.{AppliedNumbers, appliedNumbers, applyRows, apply
 use Rattle.stream.specs.Laws.{page-length, compare-done, apply-number, apply-done, apply-not}
 use Rattle.stream.specs.Kinds.{compare-gives, accepted-fits}
 use Rattle.stream.specs.Given.{apply-told}
+use Rattle.blockmap.specs.Calls.{shortMap}
 use Rattle.store.specs.Judge.{Judge, JudgedNumbers, judgedNumbers, judgeRows, judgeNumbers}
-use Rattle.writing.specs.Write.{Write, WriteNumbers, writtenNumbers, writeNumbers, decidedStream, writeRows, writeOutcome}
-use Rattle.writing.specs.Mapped.{WriteMapped, writeMappedRows, writeMappedOutcome}
+use Rattle.carrying.specs.Puts.{Decision}
+use Rattle.carrying.specs.CarryOut.{CarryOut, CarryNumbers, writtenNumbers, carryNumbers, carryBy}
+use Rattle.carrying.specs.CarryLaws.{carry-few}
+use Rattle.carrying.specs.Mapped.{CarryOutMapped, carryMappedOutcome}
 use Rattle.store.specs.Block.{slotOf}
 use Rattle.reading.specs.Read.{ReadNumbers, readingNumbers, readOutcome, Read}
 use Rattle.reading.specs.Mapped.{readMappedOutcome, ReadMapped}
@@ -43,8 +46,8 @@ use Rattle.reading.specs.declared.Reading.{Reading}
 use Rattle.reading.specs.declared.Reading.the-variants.{Refused as ReadingRefused}
 use Rattle.building.specs.declared.Built.{Built}
 use Rattle.building.specs.declared.Built.the-variants.{Refused as BuiltRefused}
-use Rattle.writing.specs.declared.Written.{Written}
-use Rattle.writing.specs.declared.Written.the-variants.{Done as WrittenDone}
+use Rattle.carrying.specs.declared.Written.{Written}
+use Rattle.carrying.specs.declared.Written.the-variants.{Done as WrittenDone}
 
 -- The writer's stream has no more entries than the page has bytes, of four bytes at most
 
@@ -87,12 +90,6 @@ written-few base page =
     let c : length (coded 0 (diffs 0 base page)) ≤ 4 * length (diffs 0 base page) = coded-few 0 (diffs 0 base page) in
     let d : length (diffs 0 base page) ≤ length page = diffs-few 0 base page in
     omega arith
-
--- a call whose first row is about its pages, and that is not refused, has pages that fit
-first-fits : (t : Bool) (rows : List Row) → firstOf ((1 ⇐ not t) ∷ rows) ≡ 0 → t ≡ true
-unfolding firstOf orElse
-first-fits true rows e = refl
-first-fits false rows e = absurd (omega arith)
 
 -- Compare
 
@@ -174,44 +171,25 @@ module _ (slot : List ℕ) where
       let b : judgeNumbers slot .length ≤ room = judge-few (firstOf (judgeRows slot)) refl in
       omega arith
 
--- Write
+-- Carry out
 
-module _ (patch full : List ℕ) (b : ℕ) (base page : List ℕ) where
-  write-few : (k : ℕ) → firstOf (writeRows pageSize patch full b base page) ≡ k
-      → writeOutcome pageSize patch full b base page .length ≤ 4 * pageSize
-  unfolding writeOutcome writeRows ordered decided decidedStream
-  write-few zero e =
-      let l : length page ≡ pageSize = page-length pageSize base page (first-fits (pagesFit pageSize base page) _ e) in
-      let w : length (written (pageOf pageSize base) page) ≤ 4 * length page = written-few (pageOf pageSize base) page in
-      rw e (omega arith)
-  write-few (suc k) e = rw e (omega arith)
+carried-fits : (buffers : List Row) (patch full : List ℕ) (b : ℕ) (d : Decision) {a : Written} {k : Kind} {n : ℕ}
+    → writtenNumbers a ≡ carryNumbers (carryBy pageSize buffers patch full b d) → a ≡ WrittenDone k n → n < 2 ^ 32
+carried-fits buffers patch full b d {a} {k} {n} e q =
+    let g : n ≡ carryBy pageSize buffers patch full b d .length = ap (λ (x : CarryNumbers). x .length) (ap writtenNumbers (sym q) ∙ e) in
+    let m : carryBy pageSize buffers patch full b d .length ≤ room = carry-few pageSize buffers patch full b d in
+    omega arith
 
-  pub write-fits : {patch′ full′ : List ℕ} {a : Written} {k : Kind} {n : ℕ}
-      → Write pageSize patch full b base page a patch′ full′ → a ≡ WrittenDone k n → n < 2 ^ 32
-  write-fits {patch′} {full′} {a} {k} {n} c q =
-      let f : writtenNumbers (WrittenDone k n) ≡ writeNumbers (writeOutcome pageSize patch full b base page) = ap writtenNumbers (sym q)
-      ∙ c .numbers in
-      let g : n ≡ writeOutcome pageSize patch full b base page .length = ap (λ (x : WriteNumbers). x .length) f in
-      let m : writeOutcome pageSize patch full b base page .length ≤ 4 * pageSize = write-few
-      (firstOf (writeRows pageSize patch full b base page)) refl in
-      omega arith
+module _ (patch full : List ℕ) (b : ℕ) (d : Decision) where
+  pub carry-fits : {patch′ full′ : List ℕ} {a : Written} {k : Kind} {n : ℕ}
+      → CarryOut pageSize patch full b d a patch′ full′ → a ≡ WrittenDone k n → n < 2 ^ 32
+  carry-fits c q = carried-fits [] patch full b d (c .numbers) q
 
   -- and with a lent map
-  write-mapped-few : (map : List ℕ) (k : ℕ) → firstOf (writeMappedRows pageSize patch full map b base page) ≡ k
-      → writeMappedOutcome pageSize patch full map b base page .written .length ≤ 4 * pageSize
-  unfolding writeMappedOutcome decided
-  write-mapped-few map zero e = rw e (write-few (firstOf (writeRows pageSize patch full b base page)) refl)
-  write-mapped-few map (suc k) e = rw e (omega arith)
-
-  pub write-mapped-fits : {map patch′ full′ map′ : List ℕ} {a : Written} {k : Kind} {n : ℕ}
-      → WriteMapped pageSize patch full map b base page a patch′ full′ map′ → a ≡ WrittenDone k n → n < 2 ^ 32
-  write-mapped-fits {map} {patch′} {full′} {map′} {a} {k} {n} c q =
-      let f : writtenNumbers (WrittenDone k n) ≡ writeNumbers (writeMappedOutcome pageSize patch full map b base page .written) =
-      ap writtenNumbers (sym q) ∙ c .numbers in
-      let g : n ≡ writeMappedOutcome pageSize patch full map b base page .written .length = ap (λ (x : WriteNumbers). x .length) f in
-      let m : writeMappedOutcome pageSize patch full map b base page .written .length ≤ 4 * pageSize =
-      write-mapped-few map (firstOf (writeMappedRows pageSize patch full map b base page)) refl in
-      omega arith
+  pub carry-mapped-fits : {map patch′ full′ map′ : List ℕ} {a : Written} {k : Kind} {n : ℕ}
+      → CarryOutMapped pageSize patch full map b d a patch′ full′ map′ → a ≡ WrittenDone k n → n < 2 ^ 32
+  unfolding carryMappedOutcome
+  carry-mapped-fits {map} c q = carried-fits (shortMap map (blocksIn (length patch))) patch full b d (c .numbers) q
 
 -- The offset
 

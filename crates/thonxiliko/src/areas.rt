@@ -6,12 +6,12 @@ use crate::thx_part;
 use crate::thx_reading;
 use crate::thx_written;
 use building::Built;
+use carrying::Written;
 use reading::Reading;
 use store::Formatted;
 use store::Judged;
-use writing::Written;
 ghost use Rattle.layout.specs.Sizes.{pageSize};
-ghost use Rattle.thonxiliko.specs.Areas.{ThxFormat, ThxJudge, ThxShow, ThxRead, ThxWrite, ThxBuild};
+ghost use Rattle.thonxiliko.specs.Areas.{ThxFormat, ThxJudge, ThxShow, ThxRead, ThxCarryOut, ThxBuild};
 
 #[no_mangle]
 pub extern "C" fn thx_format(patch: &mut [u8], full: &mut [u8]) -> thx_done
@@ -81,20 +81,24 @@ pub extern "C" fn thx_read(
 }
 
 #[no_mangle]
-pub extern "C" fn thx_write(
+pub extern "C" fn thx_carry_out(
     patch: &mut [u8],
     full: &mut [u8],
     block: u64,
-    base: &[u8],
+    kind: u32,
+    payload: &[u8],
     page: &[u8],
 ) -> thx_written
-    ensures { λ r. ⌜ ThxWrite pageSize (now (patch .entry)) (now (full .entry)) block (now (base .entry)) (now (page .entry)) r
-        (now (patch .exit)) (now (full .exit)) ⌝ }
+    ensures { λ r. ⌜ ThxCarryOut pageSize (now (patch .entry)) (now (full .entry)) block
+        (record { kind = kind; payload = now (payload .entry); page = now (page .entry) }) r (now (patch .exit)) (now (full .exit)) ⌝ }
 {
-    match writing::write(patch, full, block as usize, base, page) {
-        Written::Done { kind, length } => thx_written {
+    match carrying::carry_out(patch, full, block as usize, kind, payload, page) {
+        Written::Done {
+            kind: stored,
+            length,
+        } => thx_written {
             number: 0,
-            kind: layout::number::kind_number(kind),
+            kind: layout::number::kind_number(stored),
             length: length as u32,
         },
         Written::Refused(refusal) => thx_written {

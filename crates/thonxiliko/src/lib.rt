@@ -63,7 +63,7 @@ pub struct thx_reading {
     pub offset: u32,
 }
 
-// What Write answers.
+// What Carry out answers.
 #[repr(C)]
 pub struct thx_written {
     pub number: u32,

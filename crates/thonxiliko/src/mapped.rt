@@ -1,27 +1,40 @@
 // The calls on areas and a lent map.
 use crate::thx_reading;
 use crate::thx_written;
+use carrying::Written;
 use reading::Reading;
-use writing::Written;
 ghost use Rattle.layout.specs.Sizes.{pageSize};
-ghost use Rattle.thonxiliko.specs.Mapped.{ThxReadMapped, ThxWriteMapped};
+ghost use Rattle.thonxiliko.specs.Mapped.{ThxCarryOutMapped, ThxReadMapped};
 
 #[no_mangle]
-pub extern "C" fn thx_write_mapped(
+pub extern "C" fn thx_carry_out_mapped(
     patch: &mut [u8],
     full: &mut [u8],
     map: &mut [u8],
     block: u64,
-    base: &[u8],
+    kind: u32,
+    payload: &[u8],
     page: &[u8],
 ) -> thx_written
-    ensures { λ r. ⌜ ThxWriteMapped pageSize (now (patch .entry)) (now (full .entry)) (now (map .entry)) block (now (base .entry))
-        (now (page .entry)) r (now (patch .exit)) (now (full .exit)) (now (map .exit)) ⌝ }
+    ensures { λ r. ⌜ ThxCarryOutMapped pageSize (now (patch .entry)) (now (full .entry)) (now (map .entry)) block
+        (record { kind = kind; payload = now (payload .entry); page = now (page .entry) }) r (now (patch .exit)) (now (full .exit))
+        (now (map .exit)) ⌝ }
 {
-    match writing::mapped::write_mapped(patch, full, map, block as usize, base, page) {
-        Written::Done { kind, length } => thx_written {
+    match carrying::mapped::carry_out_mapped(
+        patch,
+        full,
+        map,
+        block as usize,
+        kind,
+        payload,
+        page,
+    ) {
+        Written::Done {
+            kind: stored,
+            length,
+        } => thx_written {
             number: 0,
-            kind: layout::number::kind_number(kind),
+            kind: layout::number::kind_number(stored),
             length: length as u32,
         },
         Written::Refused(refusal) => thx_written {

@@ -6,8 +6,8 @@
 
 use differential::rng::Rng;
 use thonxiliko::{
-    full_area_len, map_len, patch_area_len, Difference, FULL_HEADER_SIZE, MAX_BLOCKS, PAGE_SIZE,
-    PATCH_HEADER_SIZE, PAYLOAD_SIZE, SLOT_SIZE,
+    full_area_len, map_len, patch_area_len, Decision, Difference, Kind, FULL_HEADER_SIZE,
+    MAX_BLOCKS, PAGE_SIZE, PATCH_HEADER_SIZE, PAYLOAD_SIZE, SLOT_SIZE,
 };
 
 use crate::limits::{opaque, Limit};
@@ -27,6 +27,8 @@ const BLOCK: u64 = 9;
 const BUILT: u64 = 64;
 /// Payloads that are drawn for the reader.
 const DRAWN: u64 = 256;
+/// Pages that take turns where one again and again would be known by heart.
+const TAKING_TURNS: u64 = 64;
 
 struct Case {
     call: &'static str,
@@ -132,9 +134,11 @@ impl Lent {
         lent
     }
 
+    /// Writes the page to a block by the pair: Compare decides, and that is carried out.
     fn write(&mut self, block: u64) {
-        thonxiliko::write(&mut self.patch, &mut self.full, block, &self.base, &self.page)
-            .expect("a sound store");
+        let Lent { patch, full, base, page, filled } = self;
+        let decision = thonxiliko::compare(base, page, filled).expect("sound pages");
+        thonxiliko::carry_out(patch, full, block, &decision).expect("a sound store");
     }
 
     /// A store with the page in its block.
@@ -165,6 +169,11 @@ fn compare_cases(cases: &mut Cases) {
         }
         let both = both!(lent, compare(&lent.base, &lent.page, &mut lent.filled));
         cases.add("Compare", &pages.name, limit, both);
+    }
+    // Those that the pair and carrying out alone have.
+    for turns in drawn_turns() {
+        let both = turns.both([compare_by_library, compare_by_independent]);
+        cases.add("Compare", &turns.pages[0].name, turns.limit_of_compare(), both);
     }
 }
 
@@ -250,45 +259,217 @@ fn read_cases(cases: &mut Cases) {
     }
 }
 
-fn write_cases(cases: &mut Cases) {
+/// A store of 16 blocks and its map, and pages that are written to one of its blocks by turns.
+#[derive(Clone)]
+struct Turns {
+    patch: Vec<u8>,
+    full: Vec<u8>,
+    map: Vec<u8>,
+    pages: Vec<Pages>,
+    decisions: Vec<Decision<'static>>,
+    /// The buffer that is lent to Compare.
+    buffer: Vec<u8>,
+    turn: usize,
+}
+
+/// Work on the page whose turn it is.
+type Work = fn(&mut Turns);
+
+impl Turns {
+    fn new(pages: Vec<Pages>) -> Turns {
+        let Lent { patch, full, .. } = Lent::with(&pages[0]);
+        Turns {
+            patch,
+            full,
+            map: vec![0; map_len(BLOCKS)],
+            decisions: pages.iter().map(Pages::decision).collect(),
+            pages,
+            buffer: vec![0; PAYLOAD_SIZE],
+            turn: 0,
+        }
+    }
+
+    fn kind(&self) -> Kind {
+        self.decisions[0].kind()
+    }
+
+    /// The same work by the library and by the independent implementation.
+    fn both(&self, works: [Work; 2]) -> [Contender<'static>; 2] {
+        works.map(|work| {
+            let mut turns = self.clone();
+            Contender::new(move || {
+                turns.turn = (turns.turn + 1) % turns.pages.len();
+                work(&mut turns);
+            })
+        })
+    }
+
+    /// What carrying out touches: headers, the payload that is checked, slot and place. Of payloads the
+    /// mean length counts. So many pages are at hand by turns.
+    fn carrying_out(&self, pages: usize) -> Limit {
+        let limit = headers().copy(SLOT_SIZE);
+        match self.kind() {
+            Kind::Empty => limit.set(PAGE_SIZE),
+            Kind::Patch => limit.set(PAGE_SIZE).compare(self.mean_payload()),
+            Kind::Full => limit.copy_by_turns(PAGE_SIZE, pages),
+        }
+    }
+
+    fn limit_of_carry_out(&self) -> Limit {
+        self.carrying_out(self.pages.len())
+    }
+
+    /// What the pair touches: page and base, and the payload that Compare puts into its buffer besides.
+    /// The page that is stored is the one that was compared just before.
+    fn limit_of_pair(&self) -> Limit {
+        self.with_compare(self.carrying_out(1))
+    }
+
+    fn limit_of_compare(&self) -> Limit {
+        self.with_compare(Limit::default())
+    }
+
+    fn with_compare(&self, limit: Limit) -> Limit {
+        let limit = limit.compare_by_turns(PAGE_SIZE, self.pages.len());
+        match self.kind() {
+            Kind::Patch => limit.copy(self.mean_payload()),
+            _ => limit,
+        }
+    }
+
+    fn mean_payload(&self) -> usize {
+        self.pages.iter().map(|pages| pages.payload.len()).sum::<usize>() / self.pages.len()
+    }
+}
+
+fn carry_out_by_library(turns: &mut Turns) {
+    let Turns { patch, full, decisions, turn, .. } = turns;
+    let _ = opaque(thonxiliko::carry_out(patch, full, BLOCK, &decisions[*turn]));
+}
+
+fn carry_out_by_independent(turns: &mut Turns) {
+    let Turns { patch, full, decisions, turn, .. } = turns;
+    let made = &decisions[*turn];
+    let (kind, payload, page) = (made.kind().number(), made.payload(), made.page());
+    opaque(independent::carry_out(patch, full, BLOCK, kind, payload, page));
+}
+
+fn carry_out_mapped_by_library(turns: &mut Turns) {
+    let Turns { patch, full, map, decisions, turn, .. } = turns;
+    let _ = opaque(thonxiliko::carry_out_mapped(patch, full, map, BLOCK, &decisions[*turn]));
+}
+
+fn carry_out_mapped_by_independent(turns: &mut Turns) {
+    let Turns { patch, full, map, decisions, turn, .. } = turns;
+    let made = &decisions[*turn];
+    let (kind, payload, page) = (made.kind().number(), made.payload(), made.page());
+    opaque(independent::carry_out_mapped(patch, full, map, BLOCK, kind, payload, page));
+}
+
+fn pair_by_library(turns: &mut Turns) {
+    let Turns { patch, full, pages, buffer, turn, .. } = turns;
+    let Pages { base, page, .. } = &pages[*turn];
+    let made = thonxiliko::compare(base, page, buffer).expect("sound pages");
+    let _ = opaque(thonxiliko::carry_out(patch, full, BLOCK, &made));
+}
+
+fn pair_by_independent(turns: &mut Turns) {
+    let Turns { patch, full, pages, buffer, turn, .. } = turns;
+    let Pages { base, page, .. } = &pages[*turn];
+    let (kind, payload) = decided_by_independent(base, page, buffer);
+    opaque(independent::carry_out(patch, full, BLOCK, kind, payload, page));
+}
+
+fn pair_mapped_by_library(turns: &mut Turns) {
+    let Turns { patch, full, map, pages, buffer, turn, .. } = turns;
+    let Pages { base, page, .. } = &pages[*turn];
+    let made = thonxiliko::compare(base, page, buffer).expect("sound pages");
+    let _ = opaque(thonxiliko::carry_out_mapped(patch, full, map, BLOCK, &made));
+}
+
+fn pair_mapped_by_independent(turns: &mut Turns) {
+    let Turns { patch, full, map, pages, buffer, turn, .. } = turns;
+    let Pages { base, page, .. } = &pages[*turn];
+    let (kind, payload) = decided_by_independent(base, page, buffer);
+    opaque(independent::carry_out_mapped(patch, full, map, BLOCK, kind, payload, page));
+}
+
+/// Kind and payload, as the independent Compare decides.
+pub fn decided_by_independent<'b>(
+    base: &[u8],
+    page: &[u8],
+    buffer: &'b mut [u8],
+) -> (u32, &'b [u8]) {
+    let compared = independent::compare(base, page, buffer);
+    let length = if compared.kind == 1 { compared.length as usize } else { 0 };
+    (compared.kind, &buffer[..length])
+}
+
+fn compare_by_library(turns: &mut Turns) {
+    let Turns { pages, buffer, turn, .. } = turns;
+    let Pages { base, page, .. } = &pages[*turn];
+    let _ = opaque(thonxiliko::compare(base, page, buffer));
+}
+
+fn compare_by_independent(turns: &mut Turns) {
+    let Turns { pages, buffer, turn, .. } = turns;
+    let Pages { base, page, .. } = &pages[*turn];
+    opaque(independent::compare(base, page, buffer));
+}
+
+/// Pages of every kind that take turns.
+fn drawn_turns() -> Vec<Turns> {
+    let drawn = |name: &str, most: usize| -> Vec<Pages> {
+        let page = |number| Pages { name: name.to_string(), ..Pages::drawn_with(number, most) };
+        (0..TAKING_TURNS).map(page).collect()
+    };
+    let mut all = vec![drawn("equal, drawn", 0)];
+    all.extend([1, 20, 100, 252].map(|exactly| Pages::drawn_exactly(TAKING_TURNS, exactly)));
+    all.push(drawn("every byte differs, drawn", PAGE_SIZE));
+    all.into_iter().map(Turns::new).collect()
+}
+
+/// The same, with the kind before their name.
+fn drawn_kinds() -> Vec<(String, Turns)> {
+    let named = |turns: Turns| match turns.kind() {
+        Kind::Empty => ("EMPTY, drawn".to_string(), turns),
+        _ => (kind_name(&turns.pages[0]), turns),
+    };
+    drawn_turns().into_iter().map(named).collect()
+}
+
+/// A decision carried out. Of a page that takes no turns the processor would know the payload by heart.
+fn carry_out_cases(cases: &mut Cases) {
+    for (name, turns) in drawn_kinds() {
+        let both = turns.both([carry_out_by_library, carry_out_by_independent]);
+        cases.add("Carry out", &name, turns.limit_of_carry_out(), both);
+    }
+    for (name, turns) in drawn_kinds() {
+        let both = turns.both([carry_out_mapped_by_library, carry_out_mapped_by_independent]);
+        cases.add("Carry out with a map", &name, turns.limit_of_carry_out(), both);
+    }
+}
+
+/// A page written by the pair of calls. The first cases are those of the single call that was before, one
+/// page each; then pages that take turns.
+fn pair_cases(cases: &mut Cases) {
     let mut all = kinds();
     // Every byte differs in one of the kinds already.
     let others = Pages::larges().into_iter().filter(|pages| pages.name != Pages::large().name);
     all.extend(others.map(|pages| (kind_name(&pages), pages)));
-    for (name, pages) in all {
-        let lent = Lent::with(&pages);
-        let limit = headers().compare(PAGE_SIZE).copy(SLOT_SIZE);
-        let limit = match pages.compared.difference {
-            Difference::Large => limit.copy(PAGE_SIZE),
-            _ => limit.set(PAGE_SIZE),
-        };
-        let both =
-            both!(lent, write(&mut lent.patch, &mut lent.full, BLOCK, &lent.base, &lent.page));
-        cases.add("Write", &name, limit, both);
+    let alone = all.into_iter().map(|(name, pages)| (name, Turns::new(vec![pages])));
+    for (name, turns) in alone.chain(drawn_kinds()) {
+        let both = turns.both([pair_by_library, pair_by_independent]);
+        cases.add("Compare and carry out", &name, turns.limit_of_pair(), both);
     }
 }
 
-/// The same with a map of 16 blocks, which is all that is looked at or changed besides.
+/// With a map of 16 blocks, which is all that is looked at or changed besides.
 fn mapped_cases(cases: &mut Cases) {
-    for (name, pages) in kinds() {
-        let lent = (Lent::with(&pages), vec![0; map_len(BLOCKS)]);
-        let limit = headers().compare(PAGE_SIZE).copy(SLOT_SIZE);
-        let limit = match pages.compared.difference {
-            Difference::Large => limit.copy(PAGE_SIZE),
-            _ => limit.set(PAGE_SIZE),
-        };
-        let both = both!(
-            lent,
-            write_mapped(
-                &mut lent.0.patch,
-                &mut lent.0.full,
-                &mut lent.1,
-                BLOCK,
-                &lent.0.base,
-                &lent.0.page
-            )
-        );
-        cases.add("Write with a map", &name, limit, both);
+    let alone = kinds().into_iter().map(|(name, pages)| (name, Turns::new(vec![pages])));
+    for (name, turns) in alone.chain(drawn_kinds()) {
+        let both = turns.both([pair_mapped_by_library, pair_mapped_by_independent]);
+        cases.add("Compare and carry out with a map", &name, turns.limit_of_pair(), both);
     }
     for (name, pages) in kinds() {
         let mut lent = (Lent::with(&pages), vec![0; map_len(BLOCKS)]);
@@ -431,7 +612,8 @@ pub fn rows(effort: Effort) -> Vec<Row> {
     next_cases(&mut cases);
     judge_and_show_cases(&mut cases);
     read_cases(&mut cases);
-    write_cases(&mut cases);
+    carry_out_cases(&mut cases);
+    pair_cases(&mut cases);
     mapped_cases(&mut cases);
     format_cases(&mut cases);
     build_cases(&mut cases);

@@ -48,23 +48,46 @@ pub fn opaque<T>(value: T) -> T {
     value
 }
 
-/// What the rules make a call touch: the lengths of the stretches that are compared, copied and set.
-/// Calls that touch the same have equal limits.
+/// A stretch of memory, of which one or more take turns, as pages do.
+#[derive(Clone, Copy, Debug, PartialEq, Eq)]
+struct Stretch {
+    length: usize,
+    turns: usize,
+}
+
+impl Stretch {
+    fn memory(self) -> Vec<Vec<u8>> {
+        vec![vec![0; self.length]; self.turns]
+    }
+}
+
+/// What the rules make a call touch: the stretches that are compared, copied and set. Calls that touch
+/// the same have equal limits.
 #[derive(Clone, Debug, Default, PartialEq, Eq)]
 pub struct Limit {
-    compared: Vec<usize>,
-    copied: Vec<usize>,
+    compared: Vec<Stretch>,
+    copied: Vec<Stretch>,
     set: Vec<usize>,
 }
 
 impl Limit {
-    pub fn compare(mut self, length: usize) -> Limit {
-        self.compared.push(length);
+    pub fn compare(self, length: usize) -> Limit {
+        self.compare_by_turns(length, 1)
+    }
+
+    /// So many stretches by turns, and what they are compared with.
+    pub fn compare_by_turns(mut self, length: usize, turns: usize) -> Limit {
+        self.compared.push(Stretch { length, turns });
         self
     }
 
-    pub fn copy(mut self, length: usize) -> Limit {
-        self.copied.push(length);
+    pub fn copy(self, length: usize) -> Limit {
+        self.copy_by_turns(length, 1)
+    }
+
+    /// From so many stretches by turns to one place.
+    pub fn copy_by_turns(mut self, length: usize, turns: usize) -> Limit {
+        self.copied.push(Stretch { length, turns });
         self
     }
 
@@ -74,26 +97,48 @@ impl Limit {
     }
 
     /// The work itself. Every stretch has memory of its own; what it is compared with or copied from
-    /// is shared, as constants and pages of zeros are in a call.
+    /// is shared, as constants and pages of zeros are in a call, unless there are turns.
     pub fn work(&self) -> impl FnMut() {
-        let memory = |lengths: &[usize]| -> Vec<Vec<u8>> {
-            lengths.iter().map(|length| vec![0; *length]).collect()
+        let shared = |stretches: &[Stretch]| -> Vec<u8> {
+            vec![0; stretches.iter().map(|stretch| stretch.length).max().unwrap_or(0)]
         };
-        let other = |lengths: &[usize]| vec![0; lengths.iter().copied().max().unwrap_or(0)];
-        let (looked_at, equal) = (memory(&self.compared), other(&self.compared));
-        let (mut filled, source) = (memory(&self.copied), other(&self.copied));
-        let mut cleared = memory(&self.set);
+        let others = |stretches: &[Stretch]| -> Vec<Vec<Vec<u8>>> {
+            let shared = shared(stretches);
+            let of = |stretch: &Stretch| match stretch.turns {
+                1 => Vec::new(),
+                _ => stretch.memory(),
+            };
+            stretches.iter().map(of).chain([vec![shared]]).collect()
+        };
+        let (equal, source) = (others(&self.compared), others(&self.copied));
+        let looked_at: Vec<Vec<Vec<u8>>> =
+            self.compared.iter().map(|stretch| stretch.memory()).collect();
+        let memory = |length: usize| vec![0; length];
+        let mut filled: Vec<Vec<u8>> =
+            self.copied.iter().map(|stretch| memory(stretch.length)).collect();
+        let mut cleared: Vec<Vec<u8>> = self.set.iter().map(|length| memory(*length)).collect();
+        let mut turn = 0;
         move || {
-            for bytes in &looked_at {
-                compare(bytes, &equal[..bytes.len()]);
+            turn += 1;
+            for (pieces, others) in looked_at.iter().zip(&equal) {
+                let bytes = &pieces[turn % pieces.len()];
+                compare(bytes, &other(others, &equal, turn)[..bytes.len()]);
             }
-            for bytes in &mut filled {
+            for (bytes, others) in filled.iter_mut().zip(&source) {
                 let length = bytes.len();
-                copy(bytes, &source[..length]);
+                copy(bytes, &other(others, &source, turn)[..length]);
             }
             for bytes in &mut cleared {
                 set(bytes, 0);
             }
         }
+    }
+}
+
+/// The other side of a stretch: the one whose turn it is, or the shared one, which stands last.
+fn other<'m>(others: &'m [Vec<u8>], all: &'m [Vec<Vec<u8>>], turn: usize) -> &'m [u8] {
+    match others.len() {
+        0 => &all[all.len() - 1][0],
+        count => &others[turn % count],
     }
 }

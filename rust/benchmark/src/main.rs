@@ -22,7 +22,9 @@ memset over the bytes that the rules make the call touch, \"plain Rust\" the ind
 The library, its limits and plain Rust take turns, in one pass after another through all cases, until
 five passes in a row bring nothing better by more than 1 % (whole segments: three rounds): other work on
 the machine meets all of them alike. Limits that are equal (the same functions over the same numbers of
-bytes) are measured as one: beside each case that has them, and the least of all counts.
+bytes) are measured as one: beside each case that has them, and the least of all counts. In a case that is
+\"drawn\" 64 pages with bases of their own take turns, and so they do in its limits: one page again and again
+would be known by heart. \"Compare and carry out\" is a page written by the pair of calls.
 ";
 
 const HEAD: &str =
@@ -84,7 +86,7 @@ fn print_targets(calls: &[calls::Row], segments: &[segments::Row]) {
         let share = row.times.library / row.times.independent;
         println!("- Compare, {}: {share:.3} x of plain Rust (target 0.15).", row.case);
     }
-    for work in ["written", "read", "built"] {
+    for work in ["written by the pair", "read", "built"] {
         let mut rows = segments.iter().filter(|row| row.work == work);
         if let (Some(first), Some(last)) = (rows.next(), rows.next_back()) {
             let (few, many) = (first.times.library, last.times.library);

@@ -1,15 +1,16 @@
 //! A map that is kept: reads by it against reads by the slots, and writes with it against the same
-//! writes and then Build.
+//! writes and then Build. A page is written by the pair: Compare decides, and that is carried out.
 //!
 //! Blocks have pages of their own, no two alike, and are read in a shuffled order: one page again and
 //! again would be known by heart. The limits touch the same memory in the same order.
 
 use differential::rng::Rng;
 use thonxiliko::{
-    full_area_len, map_len, patch_area_len, Kind, FULL_HEADER_SIZE, MAX_BLOCKS, PAGE_SIZE,
-    PATCH_HEADER_SIZE, SLOT_SIZE,
+    full_area_len, map_len, patch_area_len, Decision, Kind, FULL_HEADER_SIZE, MAX_BLOCKS,
+    PAGE_SIZE, PATCH_HEADER_SIZE, PAYLOAD_SIZE, SLOT_SIZE,
 };
 
+use crate::calls::decided_by_independent;
 use crate::limits::{self, opaque};
 use crate::pages::Pages;
 use crate::segments;
@@ -97,10 +98,12 @@ impl Store {
         };
         thonxiliko::format(&mut store.patch, &mut store.full).expect("sound lengths");
         let Store { pages, kinds, patch, full, map, .. } = &mut store;
-        for (block, Pages { base, page, .. }) in pages.iter().enumerate() {
-            let written = thonxiliko::write_mapped(patch, full, map, block as u64, base, page)
-                .expect("sound");
-            assert_eq!(written.kind, kind_of(block as u64));
+        let mut buffer = [0; PAYLOAD_SIZE];
+        for (block, Pages { base, page, .. }) in (0..).zip(pages.iter()) {
+            let made = thonxiliko::compare(base, page, &mut buffer).expect("sound pages");
+            let written = thonxiliko::carry_out_mapped(patch, full, map, block, &made);
+            let written = written.expect("a sound store");
+            assert_eq!(written.kind, kind_of(block));
             kinds.push(written.kind);
         }
         Rng::new(5).shuffle(&mut store.order);
@@ -212,10 +215,10 @@ struct Batch {
 impl Batch {
     fn new(blocks: u64) -> Batch {
         let mut segment = Segment { patch: segments::fresh(blocks), map: vec![0; map_len(blocks)] };
-        let Pages { base, page, .. } = Pages::spread(20);
+        let twenty = Pages::spread(20).decision();
         for block in 0..blocks {
             let Segment { patch, map } = &mut segment;
-            thonxiliko::write_mapped(patch, &mut [], map, block, &base, &page).expect("sound");
+            thonxiliko::carry_out_mapped(patch, &mut [], map, block, &twenty).expect("sound");
         }
         let mut rng = Rng::new(9);
         let write = |number: usize| {
@@ -226,13 +229,35 @@ impl Batch {
         Batch { blocks, writes, bases, segment }
     }
 
-    /// The memory functions of the writes: header, page and base, slot.
+    /// The memory functions of the writes: page and base, payload into the buffer; header, payload checked,
+    /// slot.
     fn touch(&self, patch: &mut [u8], header: &[u8]) {
-        for ((block, Pages { base, .. }), other) in self.writes.iter().zip(&self.bases) {
-            limits::compare(&patch[..PATCH_HEADER_SIZE], header);
+        let mut buffer = [0; PAYLOAD_SIZE];
+        for ((block, Pages { base, payload, .. }), other) in self.writes.iter().zip(&self.bases) {
             limits::compare(base, other);
+            limits::copy(&mut buffer[..payload.len()], payload);
+            limits::compare(&patch[..PATCH_HEADER_SIZE], header);
+            limits::compare(&buffer[..payload.len()], payload);
             let at = patch_area_len(*block);
             limits::copy(&mut patch[at..at + SLOT_SIZE], &SLOT);
+        }
+    }
+
+    /// Every write by the library's pair, carried out by this call.
+    fn by_library(&self, mut carry_out: impl FnMut(u64, &Decision)) {
+        let mut buffer = [0; PAYLOAD_SIZE];
+        for (block, Pages { base, page, .. }) in &self.writes {
+            let made = thonxiliko::compare(base, page, &mut buffer).expect("sound pages");
+            carry_out(*block, &made);
+        }
+    }
+
+    /// The same by the independent implementation; no page is stored whole.
+    fn by_independent(&self, mut carry_out: impl FnMut(u64, u32, &[u8])) {
+        let mut buffer = [0; PAYLOAD_SIZE];
+        for (block, Pages { base, page, .. }) in &self.writes {
+            let (kind, payload) = decided_by_independent(base, page, &mut buffer);
+            carry_out(*block, kind, payload);
         }
     }
 
@@ -242,20 +267,26 @@ impl Batch {
         let contenders = [
             Contender::new(|| {
                 let Segment { patch, map } = &mut library;
-                for (block, Pages { base, page, .. }) in &self.writes {
-                    let written = thonxiliko::write_mapped(patch, &mut [], map, *block, base, page);
-                    let _ = opaque(written);
-                }
+                self.by_library(|block, made| {
+                    let _ = opaque(thonxiliko::carry_out_mapped(patch, &mut [], map, block, made));
+                });
             }),
             Contender::new(|| self.touch(&mut limits, &header)),
             Contender::new(|| {
                 let Segment { patch, map } = &mut plain;
-                for (block, Pages { base, page, .. }) in &self.writes {
-                    opaque(independent::write_mapped(patch, &mut [], map, *block, base, page));
-                }
+                self.by_independent(|at, kind, payload| {
+                    let full = &mut [];
+                    opaque(independent::carry_out_mapped(patch, full, map, at, kind, payload, &[]));
+                });
             }),
         ];
-        let row = row(self.blocks, format!("{BATCH} writes with the map"), 1, effort, contenders);
+        let row = row(
+            self.blocks,
+            format!("{BATCH} writes by the pair, with the map"),
+            1,
+            effort,
+            contenders,
+        );
         // What was measured did its work.
         let mut built = vec![0; library.map.len()];
         thonxiliko::build(&library.patch, &[], &mut built).expect("a sound store");
@@ -270,9 +301,9 @@ impl Batch {
         let contenders = [
             Contender::new(|| {
                 let Segment { patch, map } = &mut library;
-                for (block, Pages { base, page, .. }) in &self.writes {
-                    let _ = opaque(thonxiliko::write(patch, &mut [], *block, base, page));
-                }
+                self.by_library(|block, made| {
+                    let _ = opaque(thonxiliko::carry_out(patch, &mut [], block, made));
+                });
                 let _ = opaque(thonxiliko::build(patch, &[], map));
             }),
             Contender::new(|| {
@@ -285,13 +316,13 @@ impl Batch {
             }),
             Contender::new(|| {
                 let Segment { patch, map } = &mut plain;
-                for (block, Pages { base, page, .. }) in &self.writes {
-                    opaque(independent::write(patch, &mut [], *block, base, page));
-                }
+                self.by_independent(|at, kind, payload| {
+                    opaque(independent::carry_out(patch, &mut [], at, kind, payload, &[]));
+                });
                 opaque(independent::build(patch, &[], map));
             }),
         ];
-        row(self.blocks, format!("{BATCH} writes, then Build"), 1, effort, contenders)
+        row(self.blocks, format!("{BATCH} writes by the pair, then Build"), 1, effort, contenders)
     }
 }
 

@@ -4,7 +4,7 @@ use std::collections::BTreeSet;
 
 use differential::rng::Rng;
 use faults::shipped;
-use thonxiliko::{compare, Compared, Difference, PAGE_SIZE, PAYLOAD_SIZE};
+use thonxiliko::{compare, Compared, Decision, Difference, PAGE_SIZE, PAYLOAD_SIZE};
 
 /// A page, its base, and the stream if it fits a slot.
 #[derive(Clone)]
@@ -18,11 +18,17 @@ pub struct Pages {
 
 impl Pages {
     fn new(name: &str, base: Vec<u8>, page: Vec<u8>) -> Pages {
-        let mut payload = vec![0; PAYLOAD_SIZE];
-        let compared = compare(&base, &page, &mut payload).expect("sound lengths");
-        let fits = compared.difference == Difference::Patch;
-        payload.truncate(if fits { compared.length } else { 0 });
+        let mut buffer = [0; PAYLOAD_SIZE];
+        let decision = compare(&base, &page, &mut buffer).expect("sound lengths");
+        let (compared, payload) = (decision.compared(), decision.payload().to_vec());
         Pages { name: name.to_string(), base, page, compared, payload }
+    }
+
+    /// What Compare decides, for as long as the program runs: a contender keeps it.
+    pub fn decision(&self) -> Decision<'static> {
+        let page = Box::leak(self.page.clone().into_boxed_slice());
+        let buffer = Box::leak(Box::new([0; PAYLOAD_SIZE]));
+        compare(&self.base, page, buffer).expect("sound lengths")
     }
 
     fn changed(name: &str, positions: impl Iterator<Item = usize>) -> Pages {
@@ -105,6 +111,33 @@ impl Pages {
             }
         }
         Pages::new("drawn", base, page)
+    }
+
+    /// So many pages over bases of their own, no two alike, with just so many differences. Up to 100 they are
+    /// anywhere; more of them are so near each other that all jumps are short.
+    pub fn drawn_exactly(count: u64, differences: usize) -> Vec<Pages> {
+        let name = match differences {
+            1 => "1 difference, drawn".to_string(),
+            _ => format!("{differences} differences, drawn"),
+        };
+        let page = |number| {
+            let mut rng = Rng::for_case(23, &name, number);
+            let base = rng.bytes(PAGE_SIZE);
+            let mut page = base.clone();
+            let mut positions = BTreeSet::new();
+            let mut next = 0;
+            while positions.len() < differences {
+                let near = next + rng.below(PAGE_SIZE / 256);
+                positions.insert(if differences > 100 { near } else { rng.below(PAGE_SIZE) });
+                next = near + 1;
+            }
+            positions.iter().for_each(|position| page[*position] ^= rng.nonzero_byte());
+            Pages::new(&name, base, page)
+        };
+        let pages: Vec<Pages> = (0..count).map(page).collect();
+        assert!(pages.iter().all(|pages| pages.compared.entries == differences));
+        assert!(pages.iter().all(|pages| pages.compared.difference == Difference::Patch));
+        pages
     }
 
     /// Those that do not, from few differences to a page that is new throughout.

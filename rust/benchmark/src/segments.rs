@@ -1,12 +1,13 @@
-//! Whole segments: every block written, read and built, for growing n. The area does not fit the
-//! caches any more, and that is so for the memory functions too.
+//! Whole segments: every block written by the pair of calls, read and built, for growing n. The area does
+//! not fit the caches any more, and that is so for the memory functions too.
 
 use differential::arena::Mapping;
 use thonxiliko::{
     full_area_len, map_len, patch_area_len, FULL_HEADER_SIZE, MAX_BLOCKS, PAGE_SIZE,
-    PATCH_HEADER_SIZE, SLOT_SIZE,
+    PATCH_HEADER_SIZE, PAYLOAD_SIZE, SLOT_SIZE,
 };
 
+use crate::calls::decided_by_independent;
 use crate::limits::{self, opaque};
 use crate::pages::Pages;
 use crate::timing::{until_stable, Contender, Effort, Times};
@@ -59,27 +60,33 @@ impl Segment {
     fn written(&mut self) -> Row {
         let Segment { blocks, effort, pages, header, slot, .. } = self;
         let (page, base, other) = (&pages.page, &pages.base, &self.base);
+        let payload = &pages.payload;
         let (library, limits, plain) = (&mut self.library, &mut self.limits, &mut self.independent);
+        let [mut first, mut second, mut third] = [[0; PAYLOAD_SIZE]; 3];
         let contenders = [
             Contender::new(|| {
                 for block in 0..*blocks {
-                    let _ = opaque(thonxiliko::write(library, &mut [], block, base, page));
+                    let made = thonxiliko::compare(base, page, &mut first).expect("sound pages");
+                    let _ = opaque(thonxiliko::carry_out(library, &mut [], block, &made));
                 }
             }),
             Contender::new(|| {
                 for to in limits[PATCH_HEADER_SIZE..].chunks_exact_mut(SLOT_SIZE) {
-                    limits::compare(&header[0], &header[1]);
                     limits::compare(base, other);
+                    limits::copy(&mut second[..payload.len()], payload);
+                    limits::compare(&header[0], &header[1]);
+                    limits::compare(&second[..payload.len()], payload);
                     limits::copy(to, slot);
                 }
             }),
             Contender::new(|| {
                 for block in 0..*blocks {
-                    opaque(independent::write(plain, &mut [], block, base, page));
+                    let (kind, own) = decided_by_independent(base, page, &mut third);
+                    opaque(independent::carry_out(plain, &mut [], block, kind, own, page));
                 }
             }),
         ];
-        row(*blocks, "written", *effort, contenders)
+        row(*blocks, "written by the pair", *effort, contenders)
     }
 
     fn read(&self) -> Row {

@@ -17,14 +17,15 @@ pub enum Call {
     Judge,
     Show,
     Read,
-    Write,
+    /// A decision carried out: kind, payload and page.
+    CarryOut,
     Build,
     LookUp,
     Tally,
     /// One step of the entry reader.
     Next,
-    /// A write that keeps a lent map.
-    WriteMapped,
+    /// The same, keeping a lent map.
+    CarryOutMapped,
     /// A read that goes by a map.
     ReadMapped,
     Cut,
@@ -41,12 +42,12 @@ impl Call {
         Call::Judge,
         Call::Show,
         Call::Read,
-        Call::Write,
+        Call::CarryOut,
         Call::Build,
         Call::LookUp,
         Call::Tally,
         Call::Next,
-        Call::WriteMapped,
+        Call::CarryOutMapped,
         Call::ReadMapped,
         Call::Cut,
         Call::CutMapped,
@@ -61,12 +62,12 @@ impl Call {
             Call::Judge => "judge",
             Call::Show => "show",
             Call::Read => "read",
-            Call::Write => "write",
+            Call::CarryOut => "carry_out",
             Call::Build => "build",
             Call::LookUp => "look_up",
             Call::Tally => "tally",
             Call::Next => "next",
-            Call::WriteMapped => "write_mapped",
+            Call::CarryOutMapped => "carry_out_mapped",
             Call::ReadMapped => "read_mapped",
             Call::Cut => "cut",
             Call::CutMapped => "cut_mapped",
@@ -83,12 +84,12 @@ impl Call {
             Call::Judge => &["slot"],
             Call::Show => &["patch"],
             Call::Read => &["patch", "full", "base", "page"],
-            Call::Write => &["patch", "full", "base", "page"],
+            Call::CarryOut => &["patch", "full", "payload", "page"],
             Call::Build => &["patch", "full", "map"],
             Call::LookUp => &["map"],
             Call::Tally => &["map"],
             Call::Next => &["payload"],
-            Call::WriteMapped => &["patch", "full", "map", "base", "page"],
+            Call::CarryOutMapped => &["patch", "full", "map", "payload", "page"],
             Call::ReadMapped => &["patch", "full", "map", "base", "page"],
             Call::Cut => &["patch", "full"],
             Call::CutMapped => &["patch", "full", "map"],
@@ -105,16 +106,26 @@ impl Call {
             Call::Judge => &[0, 2, 6],
             Call::Show => &[],
             Call::Read => &[0, 1, 2, 3, 4, 5, 6, 7, 8],
-            Call::Write => &[0, 1, 2, 3, 4, 5, 8],
+            Call::CarryOut => &[0, 1, 2, 3, 4, 5, 6, 7, 8],
             Call::Build => &[0, 2, 3, 4, 6, 7, 8, 9, 10],
             Call::LookUp => &[0, 2, 5, 9, 11],
             Call::Tally => &[0, 2, 9, 11],
             Call::Next => &[0, 7],
-            Call::WriteMapped => &[0, 1, 2, 3, 4, 5, 8, 9],
+            Call::CarryOutMapped => &[0, 1, 2, 3, 4, 5, 6, 7, 8, 9],
             Call::ReadMapped => &[0, 1, 2, 3, 4, 5, 6, 7, 8, 9, 11],
             Call::Cut => &[0, 2, 3, 4, 5],
             Call::CutMapped => &[0, 2, 3, 4, 5, 9],
             Call::Highest => &[0, 2, 3, 4, 6],
+        }
+    }
+
+    /// The numbers that the wrapper can give, 0 included, for the two calls that it makes for less than
+    /// all inputs: it carries out what a Compare decided that answered 0.
+    pub fn numbers_of_wrapper(self) -> &'static [usize] {
+        match self {
+            Call::CarryOut => &[0, 2, 3, 4, 5, 8],
+            Call::CarryOutMapped => &[0, 2, 3, 4, 5, 8, 9],
+            _ => &[],
         }
     }
 
@@ -152,6 +163,8 @@ pub struct Numbers {
     pub n: u64,
     /// For a cut its K, the lowest block that it drops.
     pub block: u64,
+    /// The kind of a decision.
+    pub kind: u32,
     /// Place and position of a reader.
     pub at: u64,
     pub position: i32,
@@ -163,7 +176,7 @@ pub const BEGINNING: (u64, i32) = (0, -1);
 impl Default for Numbers {
     fn default() -> Numbers {
         let (at, position) = BEGINNING;
-        Numbers { n: 0, block: 0, at, position }
+        Numbers { n: 0, block: 0, kind: 0, at, position }
     }
 }
 
@@ -193,6 +206,11 @@ impl Input {
         self
     }
 
+    pub fn of_kind(mut self, kind: u32) -> Input {
+        self.numbers.kind = kind;
+        self
+    }
+
     pub fn told(mut self, n: u64) -> Input {
         self.numbers.n = n;
         self
@@ -205,8 +223,8 @@ impl fmt::Display for Input {
         for (name, bytes) in self.call.buffers().iter().zip(&self.buffers) {
             write!(f, "{name}: {} bytes #{:016x}, ", bytes.len(), fingerprint(bytes))?;
         }
-        let Numbers { n, block, at, position } = self.numbers;
-        write!(f, "n: {n}, block: {block}, at: {at}, position: {position})")
+        let Numbers { n, block, kind, at, position } = self.numbers;
+        write!(f, "n: {n}, block: {block}, kind: {kind}, at: {at}, position: {position})")
     }
 }
 

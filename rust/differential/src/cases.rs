@@ -1,11 +1,13 @@
 //! Inputs with their outcomes written by hand from the rules: P1 to P12, both sides of each edge, the
 //! order of refusals, long jumps that are long and those that are not, where payloads break, the steps
-//! of a reader, what a lent map becomes and what it makes of a read, what a cut leaves, the highest
-//! block, and the shortcuts that give a wrong page.
+//! of a reader, what Compare decides and what comes of a decision that is carried out, what a lent map
+//! becomes and what it makes of a read, what a cut leaves, the highest block, and the shortcuts that give
+//! a wrong page.
 
 use crate::call::{
     Answer, Call, Input, Outcome, BEGINNING, FULL_HEADER, PAGE, PATCH_HEADER, PAYLOAD, SLOT,
 };
+use crate::generate::Decision;
 
 pub struct Case {
     pub name: String,
@@ -119,18 +121,54 @@ fn read(patch: Vec<u8>, full: Vec<u8>, block: u64, base: Vec<u8>) -> Input {
     Input::new(Call::Read, vec![patch, full, base, filler(PAGE)]).at_block(block)
 }
 
-fn write(patch: Vec<u8>, full: Vec<u8>, block: u64, base: Vec<u8>, page: Vec<u8>) -> Input {
-    Input::new(Call::Write, vec![patch, full, base, page]).at_block(block)
+// Decisions of each kind, with the page that was compared.
+
+fn decision(kind: u32, payload: &[u8], page: &[u8]) -> Decision {
+    Decision { kind, payload: payload.to_vec(), page: page.to_vec() }
 }
 
-fn write_mapped(
+fn same(page: &[u8]) -> Decision {
+    decision(0, &[], page)
+}
+
+fn patched(payload: &[u8], page: &[u8]) -> Decision {
+    decision(1, payload, page)
+}
+
+fn large(page: &[u8]) -> Decision {
+    decision(2, &[], page)
+}
+
+/// Byte 0 of zeros becomes 7.
+fn p1() -> Decision {
+    patched(&[0, 7], &page(&[(0, 7)]))
+}
+
+fn carry_out([patch, full]: [Vec<u8>; 2], block: u64, decision: &Decision) -> Input {
+    decision.input(Call::CarryOut, vec![patch, full], block)
+}
+
+fn carry_out_mapped(
     [patch, full]: [Vec<u8>; 2],
     map: &[u8],
     block: u64,
-    base: Vec<u8>,
-    page: Vec<u8>,
+    decision: &Decision,
 ) -> Input {
-    Input::new(Call::WriteMapped, vec![patch, full, map.to_vec(), base, page]).at_block(block)
+    decision.input(Call::CarryOutMapped, vec![patch, full, map.to_vec()], block)
+}
+
+/// A page that is written by the pair: what Compare answers over the base, into a buffer full of other
+/// bytes, and the decision that is carried out next.
+fn decide(
+    cases: &mut Vec<Case>,
+    name: &str,
+    [base, page]: [&[u8]; 2],
+    answer: [i128; 5],
+    payload: &[u8],
+) -> Decision {
+    let input = compare(base.to_vec(), page.to_vec(), filler(PAYLOAD));
+    cases.push(case(&format!("{name}: decided"), input, &answer, &[put(2, 0, payload)]));
+    decision(answer[1] as u32, payload, page)
 }
 
 fn read_mapped([patch, full]: [Vec<u8>; 2], map: &[u8], block: u64, base: Vec<u8>) -> Input {
@@ -248,8 +286,8 @@ fn example_over(cases: &mut Vec<Case>, example: &Example, base: Vec<u8>) {
         &[put(2, 0, &modified)],
     ));
     cases.push(case(
-        &name("written"),
-        write(patch_area(2), full_area(2), 1, base.clone(), modified.clone()),
+        &name("carried out"),
+        carry_out([patch_area(2), full_area(2)], 1, &patched(payload, &modified)),
         &[0, 1, length],
         &[put(0, 1024, &patch_slot(payload))],
     ));
@@ -280,10 +318,22 @@ fn more_examples(cases: &mut Vec<Case>) {
 }
 
 /// A payload that is not sound, and the offset at which it breaks: applied and, if it fits a slot, read,
-/// read by a map and built.
+/// read by a map and built. Carried out it is refused without an offset; for other kinds than PATCH it is
+/// not looked at.
 fn breaking(cases: &mut Vec<Case>, name: &str, payload: &[u8], offset: i128) {
     let input = apply(Vec::new(), payload, filler(PAGE));
     cases.push(case(&format!("{name} applied"), input, &[7, 0, 0, offset], &[]));
+    let areas = || [patch_area(2), full_area(2)];
+    let of_kind = |kind: u32| decision(kind, payload, &filler(PAGE));
+    let input = carry_out(areas(), 1, &of_kind(1));
+    cases.push(case(&format!("{name} carried out"), input, &[7], &[]));
+    let input = carry_out_mapped(areas(), &[0xFF], 1, &of_kind(1));
+    cases.push(case(&format!("{name} carried out with a map"), input, &[7], &[]));
+    let input = carry_out_mapped(areas(), &[0xFF], 1, &of_kind(0));
+    cases.push(case(&format!("{name} beside EMPTY"), input, &[0, 0, 0], &[put(2, 0, &[0xF3])]));
+    let input = carry_out(areas(), 1, &of_kind(2));
+    let puts = [put(0, 1024, &[2]), put(1, 12_288, &filler(PAGE))];
+    cases.push(case(&format!("{name} beside FULL_REF"), input, &[0, 2, 0], &puts));
     if (1..=PAYLOAD).contains(&payload.len()) {
         let area = with(patch_area(3), 1024, &patch_slot(payload));
         let input = read(area.clone(), Vec::new(), 1, Vec::new());
@@ -306,6 +356,14 @@ fn landing(cases: &mut Vec<Case>, name: &str, payload: &[u8], changes: &[(usize,
         &[0, entries, last],
         &[put(2, 0, &modified)],
     ));
+    // With no page beside it: any sound payload is taken.
+    let taken = put(0, 1024, &patch_slot(payload));
+    let (areas, answer) = (|| [patch_area(3), Vec::new()], [0, 1, payload.len() as i128]);
+    let input = carry_out(areas(), 1, &patched(payload, &[]));
+    cases.push(case(&format!("{name} carried out"), input, &answer, std::slice::from_ref(&taken)));
+    let input = carry_out_mapped(areas(), &[0xFF], 1, &patched(payload, &modified));
+    let puts = [taken, put(2, 0, &[0xFB])];
+    cases.push(case(&format!("{name} carried out with a map"), input, &answer, &puts));
     let area = with(patch_area(3), 1024, &patch_slot(payload));
     let input = read(area.clone(), Vec::new(), 1, Vec::new());
     cases.push(case(&format!("{name} read"), input, &[0, 1], &[put(3, 0, &modified)]));
@@ -477,18 +535,20 @@ fn stream_edges(cases: &mut Vec<Case>) {
         let input = compare(Vec::new(), modified.clone(), filler(600));
         cases.push(case(&format!("{name}: compared"), input, &answer, &[put(2, 0, &stream)]));
 
-        let (kind, length) = (answer[1], answer[2]);
-        let input = write(patch_area(1), full_area(1), 0, Vec::new(), modified.clone());
+        // The stream's length is Compare's answer alone.
+        let (kind, length) = (answer[1], stream.len() as i128);
+        let decision = decision(kind as u32, &stream, &modified);
+        let input = carry_out([patch_area(1), full_area(1)], 0, &decision);
         let puts = if kind == 1 {
             vec![put(0, 512, &patch_slot(&stream))]
         } else {
             vec![put(0, 512, &[2]), put(1, 4096, &modified)]
         };
-        cases.push(case(&format!("{name}: written"), input, &[0, kind, length], &puts));
+        cases.push(case(&format!("{name}: carried out"), input, &[0, kind, length], &puts));
 
         for (form, full) in [("absent", Vec::new()), ("without pages", full_area(0))] {
-            let input = write(patch_area(1), full, 0, Vec::new(), modified.clone());
-            let name = format!("{name}: written, full area {form}");
+            let input = carry_out([patch_area(1), full], 0, &decision);
+            let name = format!("{name}: carried out, full area {form}");
             if kind == 1 {
                 let puts = [put(0, 512, &patch_slot(&stream))];
                 cases.push(case(&name, input, &[0, 1, length], &puts));
@@ -535,9 +595,11 @@ fn no_blocks(cases: &mut Vec<Case>) {
             let input = read(patch_area(0), full.clone(), block, Vec::new());
             cases.push(case(&format!("n = 0: block {block} read"), input, &[5], &[]));
         }
-        let input = write(patch_area(0), full.clone(), 0, Vec::new(), zeros());
-        cases.push(case("n = 0: block 0 written", input, &[5], &[]));
         let areas = || [patch_area(0), full.clone()];
+        for kind in 0..4 {
+            let input = carry_out(areas(), 0, &decision(kind, &[0, 7], &zeros()));
+            cases.push(case(&format!("n = 0: kind {kind} carried out"), input, &[5], &[]));
+        }
         cases.push(case("n = 0: cut at 0", cut(areas(), 0), &[0], &[]));
         cases.push(case("n = 0: cut at 1", cut(areas(), 1), &[5], &[]));
         cases.push(case("n = 0: cut at 0, no map", cut_mapped(areas(), &[], 0), &[0], &[]));
@@ -600,13 +662,16 @@ fn headers(cases: &mut Vec<Case>) {
     let mut both = |name: &str, patch: Vec<u8>, full: Vec<u8>, number: i128| {
         let input = read(patch.clone(), full.clone(), 0, Vec::new());
         cases.push(case(&format!("{name}: read"), input, &[number], &[]));
-        let input = write(patch.clone(), full.clone(), 0, Vec::new(), page(&[(1, 1)]));
-        cases.push(case(&format!("{name}: written"), input, &[number], &[]));
         let areas = || [patch.clone(), full.clone()];
+        for decision in [same(&zeros()), p1(), large(&[6; PAGE]), decision(3, &[], &[])] {
+            let input = carry_out(areas(), 0, &decision);
+            let name = format!("{name}: kind {} carried out", decision.kind);
+            cases.push(case(&name, input, &[number], &[]));
+        }
         let input = read_mapped(areas(), &[0], 0, Vec::new());
         cases.push(case(&format!("{name}: read by a map"), input, &[number], &[]));
-        let input = write_mapped(areas(), &[0xFF], 0, Vec::new(), page(&[(1, 1)]));
-        cases.push(case(&format!("{name}: written with a map"), input, &[number], &[]));
+        let input = carry_out_mapped(areas(), &[0xFF], 0, &p1());
+        cases.push(case(&format!("{name}: carried out with a map"), input, &[number], &[]));
         cases.push(case(&format!("{name}: cut"), cut(areas(), 0), &[number], &[]));
         let input = cut_mapped(areas(), &[0xFF], 0);
         cases.push(case(&format!("{name}: cut with a map"), input, &[number], &[]));
@@ -672,14 +737,16 @@ fn page_lengths(cases: &mut Vec<Case>) {
         // A wrong page wins over wrong areas.
         let input = read(vec![], vec![1], 9, odd.clone());
         cases.push(case(&name("read base"), input, &[1], &[]));
-        let input = write(vec![], vec![1], 9, odd.clone(), zeros());
-        cases.push(case(&name("written base"), input, &[1], &[]));
-        let input = write(patch_area(1), vec![], 0, vec![], odd.clone());
-        cases.push(case(&name("written page"), input, &[1], &[]));
+        let input = carry_out([vec![], vec![1]], 9, &large(&odd));
+        cases.push(case(&name("full page"), input, &[1], &[]));
+        let input = carry_out([patch_area(1), full_area(1)], 0, &large(&odd));
+        cases.push(case(&name("full page on a sound store"), input, &[1], &[]));
         let input = read_mapped([vec![], vec![1]], &[], 9, odd.clone());
         cases.push(case(&name("base read by a map"), input, &[1], &[]));
-        let input = write_mapped([patch_area(1), vec![]], &[0xFF], 0, vec![], odd);
-        cases.push(case(&name("page written with a map"), input, &[1], &[]));
+        let input = carry_out_mapped([patch_area(1), full_area(1)], &[0xFF], 0, &large(&odd));
+        cases.push(case(&name("full page with a map"), input, &[1], &[]));
+        let input = carry_out_mapped([vec![], vec![1]], &[], 9, &large(&odd));
+        cases.push(case(&name("full page with no map"), input, &[1], &[]));
     }
     cases.push(case("compared page of 0 bytes", compare(zeros(), vec![], filler(504)), &[1], &[]));
     let input = Input::new(Call::Read, vec![patch_area(1), vec![], vec![], vec![]]);
@@ -716,16 +783,10 @@ fn area_lengths(cases: &mut Vec<Case>) {
             cases.push(case(&name, read(area.clone(), full.clone(), 0, vec![]), &[2], &[]));
             let areas = [area.clone(), full.clone()];
             cases.push(case(&name, read_mapped(areas.clone(), &[], 0, vec![]), &[2], &[]));
-            cases.push(case(
-                &name,
-                write_mapped(areas.clone(), &[], 0, vec![], zeros()),
-                &[2],
-                &[],
-            ));
             cases.push(case(&name, cut(areas.clone(), 0), &[2], &[]));
-            cases.push(case(&name, cut_mapped(areas, &[], 9), &[2], &[]));
-            cases.push(case(&name, write(area.clone(), full, 0, vec![], zeros()), &[2], &[]));
+            cases.push(case(&name, cut_mapped(areas.clone(), &[], 9), &[2], &[]));
             cases.push(case(&name, highest(area), &[2], &[]));
+            decisions_on(cases, &name, &areas, 2);
         }
     }
     for full in [1, 4095, 4097, 8192, 12_287, 12_289, 20_480] {
@@ -738,10 +799,21 @@ fn area_lengths(cases: &mut Vec<Case>) {
         cases.push(case(&name, read(patch.clone(), area.clone(), 0, vec![]), &[2], &[]));
         let areas = [patch.clone(), area.clone()];
         cases.push(case(&name, read_mapped(areas.clone(), &[], 0, vec![]), &[2], &[]));
-        cases.push(case(&name, write_mapped(areas.clone(), &[], 0, vec![], zeros()), &[2], &[]));
         cases.push(case(&name, cut(areas.clone(), 0), &[2], &[]));
-        cases.push(case(&name, cut_mapped(areas, &[], 9), &[2], &[]));
-        cases.push(case(&name, write(patch, area, 0, vec![], zeros()), &[2], &[]));
+        cases.push(case(&name, cut_mapped(areas.clone(), &[], 9), &[2], &[]));
+        decisions_on(cases, &name, &areas, 2);
+    }
+}
+
+/// Decisions of each kind, and of one that there is not, on areas that are refused for themselves. The
+/// payload is not sound, the block is not there and the map is too short.
+fn decisions_on(cases: &mut Vec<Case>, name: &str, areas: &[Vec<u8>; 2], number: i128) {
+    for kind in 0..4 {
+        let decision = decision(kind, &[0], &zeros());
+        let name = format!("{name}: kind {kind}");
+        cases.push(case(&name, carry_out(areas.clone(), 9, &decision), &[number], &[]));
+        let input = carry_out_mapped(areas.clone(), &[], 9, &decision);
+        cases.push(case(&name, input, &[number], &[]));
     }
 }
 
@@ -815,8 +887,10 @@ fn other_blocks(cases: &mut Vec<Case>) {
     for block in [1 << 55, 1 << 51, u64::MAX, u64::MAX - 511] {
         let input = read(full_ref(), full(), block, vec![]);
         cases.push(case(&format!("block {block} read"), input, &[5], &[]));
-        let input = write(full_ref(), full(), block, vec![], vec![1; PAGE]);
-        cases.push(case(&format!("block {block} written"), input, &[5], &[]));
+        for kind in [0, 1, 2, 3, u32::MAX] {
+            let input = carry_out([full_ref(), full()], block, &decision(kind, &[0], &zeros()));
+            cases.push(case(&format!("kind {kind} on block {block}"), input, &[5], &[]));
+        }
     }
 }
 
@@ -824,22 +898,29 @@ fn other_blocks(cases: &mut Vec<Case>) {
 fn shortcuts(cases: &mut Vec<Case>) {
     // The second small change keeps the first: both are compared with the base.
     let first = with(patch_area(1), 512, &patch_slot(&[0, 7]));
+    let name = "a second small change";
+    let second = page(&[(0, 7), (1, 8)]);
+    let decision = decide(cases, name, [&[], &second], [0, 1, 4, 2, 1], &[0, 7, 0, 8]);
     cases.push(case(
-        "a second small change",
-        write(first, vec![], 0, vec![], page(&[(0, 7), (1, 8)])),
+        name,
+        carry_out([first, vec![]], 0, &decision),
         &[0, 1, 4],
         &[put(0, 512, &patch_slot(&[0, 7, 0, 8]))],
     ));
     // Stray bytes in the place go although the old slot was not FULL_REF.
+    let name = "a patch clears a stray page";
+    let decision = decide(cases, name, [&[], &page(&[(0, 7)])], [0, 1, 2, 1, 0], &[0, 7]);
     cases.push(case(
-        "a patch clears a stray page",
-        write(patch_area(2), full(), 1, vec![], page(&[(0, 7)])),
+        name,
+        carry_out([patch_area(2), full()], 1, &decision),
         &[0, 1, 2],
         &[put(0, 1024, &patch_slot(&[0, 7])), put(1, 12_288, &zeros())],
     ));
+    let name = "the base's page clears a stray page";
+    let decision = decide(cases, name, [&a_base(), &a_base()], [0, 0, 0, 0, -1], &[]);
     cases.push(case(
-        "the base's page clears a stray page",
-        write(patch_area(2), full(), 1, a_base(), a_base()),
+        name,
+        carry_out([patch_area(2), full()], 1, &decision),
         &[0, 0, 0],
         &[put(1, 12_288, &zeros())],
     ));
@@ -847,7 +928,7 @@ fn shortcuts(cases: &mut Vec<Case>) {
     let long = with(patch_area(1), 512, &patch_slot(&[1; PAYLOAD]));
     cases.push(case(
         "a short patch over a long one",
-        write(long, vec![], 0, vec![], page(&[(0, 7)])),
+        carry_out([long, vec![]], 0, &p1()),
         &[0, 1, 2],
         &[put(0, 512, &patch_slot(&[0, 7]))],
     ));
@@ -856,34 +937,110 @@ fn shortcuts(cases: &mut Vec<Case>) {
     cases.push(case("a broken last entry", input, &[7, 0, 0, 4], &[]));
 }
 
+/// Pages written by the pair.
 fn writing(cases: &mut Vec<Case>) {
+    let sixes = [6; PAGE];
+    let name = "an unsound old slot is written over";
+    let decision = decide(cases, name, [&[], &sixes], [0, 2, 16_384, 8_192, 8_191], &[]);
     cases.push(case(
-        "an unsound old slot is written over",
-        write(broken_neighbour(), full(), 0, vec![], vec![6; PAGE]),
-        &[0, 2, 16_384],
-        &[put(0, 512, &slot(&[2])), put(1, 4096, &[6; PAGE])],
+        name,
+        carry_out([broken_neighbour(), full()], 0, &decision),
+        &[0, 2, 0],
+        &[put(0, 512, &slot(&[2])), put(1, 4096, &sixes)],
     ));
     cases.push(case(
         "a full page again",
-        write(full_ref(), full(), 1, vec![], vec![6; PAGE]),
-        &[0, 2, 16_384],
-        &[put(1, 12_288, &[6; PAGE])],
+        carry_out([full_ref(), full()], 1, &decision),
+        &[0, 2, 0],
+        &[put(1, 12_288, &sixes)],
     ));
+    let name = "back to the base";
+    let decision = decide(cases, name, [&a_base(), &a_base()], [0, 0, 0, 0, -1], &[]);
     cases.push(case(
-        "back to the base",
-        write(full_ref(), full(), 1, a_base(), a_base()),
+        name,
+        carry_out([full_ref(), full()], 1, &decision),
         &[0, 0, 0],
         &[put(0, 1024, &slot(&[])), put(1, 12_288, &zeros())],
     ));
     cases.push(case(
         "a patch on a block without a place touches the slot alone",
-        write(full_ref(), full_area(1), 1, vec![], page(&[(0, 7)])),
+        carry_out([full_ref(), full_area(1)], 1, &p1()),
         &[0, 1, 2],
         &[put(0, 1024, &patch_slot(&[0, 7]))],
     ));
 }
 
-/// For blocks 0 to 5: the byte of the map that a write changes, and what it becomes for EMPTY, PATCH
+/// Two blocks and two places, all of it in use: a payload of 504 bytes in each slot, a page in each place.
+fn used() -> [Vec<u8>; 2] {
+    let slots = patch_slot(&[1; PAYLOAD]).repeat(2);
+    [with(patch_area(2), 512, &slots), with(full_area(2), 4096, &[0x90; 2 * PAGE])]
+}
+
+/// What is looked at for each kind, and what is not.
+fn decisions(cases: &mut Vec<Case>) {
+    let empty = [put(0, 1024, &slot(&[])), put(1, 12_288, &zeros())];
+    let patch = [put(0, 1024, &patch_slot(&[0, 7])), put(1, 12_288, &zeros())];
+    for length in [0, 1, 512, 8191, 8192, 8193, 16_384] {
+        let page = vec![6; length];
+        let name = |kind: u32| format!("kind {kind} with a page of {length} bytes");
+        let by = |kind: u32| carry_out(used(), 1, &decision(kind, &[0, 7], &page));
+        cases.push(case(&name(0), by(0), &[0, 0, 0], &empty));
+        cases.push(case(&name(1), by(1), &[0, 1, 2], &patch));
+        cases.push(case(&name(3), by(3), &[6], &[]));
+        if length == PAGE {
+            let full_page = [put(0, 1024, &slot(&[2])), put(1, 12_288, &page)];
+            cases.push(case(&name(2), by(2), &[0, 2, 0], &full_page));
+        } else {
+            cases.push(case(&name(2), by(2), &[1], &[]));
+        }
+    }
+    // 256, 257 and 258 cut to 8 bits would be 0, 1 and 2, and so on.
+    for kind in [3, 4, 255, 256, 257, 258, 65_536, 65_537, 65_538, 1 << 31, (1 << 31) + 1] {
+        for payload in [&[][..], &[0, 7], &[0], &[1; 1000]] {
+            let name = format!("kind {kind} with a payload of {}", payload.len());
+            let input = carry_out(used(), 1, &decision(kind, payload, &[6; PAGE]));
+            cases.push(case(&name, input, &[6], &[]));
+            let input = carry_out_mapped(used(), &[0xFF], 0, &decision(kind, payload, &[]));
+            cases.push(case(&name, input, &[6], &[]));
+        }
+    }
+    for kind in [u32::MAX, u32::MAX - 1, u32::MAX - 253] {
+        let input = carry_out(used(), 0, &decision(kind, &[0, 7], &[6; PAGE]));
+        cases.push(case(&format!("kind {kind}"), input, &[6], &[]));
+    }
+    // The longest payload.
+    let input = carry_out(used(), 1, &patched(&[0; PAYLOAD], &[]));
+    let puts = [put(0, 1024, &patch_slot(&[0; PAYLOAD])), put(1, 12_288, &zeros())];
+    cases.push(case("504 bytes carried out", input, &[0, 1, 504], &puts));
+}
+
+/// Decisions that a caller did not mean, and that no call can tell from others.
+fn traps(cases: &mut Vec<Case>) {
+    // Compare's buffer lent whole: `00 07` and zeros are 252 entries, which the slot then has.
+    let name = "a buffer that is lent whole";
+    let changed = with(a_base(), 0, &[7]);
+    let own = decide(cases, name, [&a_base(), &changed], [0, 1, 2, 1, 0], &[0, 7]);
+    let whole = with(vec![0; PAYLOAD], 0, &own.payload);
+    let input = carry_out([patch_area(2), vec![]], 1, &patched(&whole, &changed));
+    cases.push(case(name, input, &[0, 1, 504], &[put(0, 1024, &patch_slot(&whole))]));
+    let stored = with(patch_area(2), 1024, &patch_slot(&whole));
+    let reads = with(with(a_base(), 0, &[0; 252]), 0, &[7]);
+    let input = read(stored, vec![], 1, a_base());
+    cases.push(case("251 bytes of it are lost", input, &[0, 1], &[put(3, 0, &reads)]));
+    // Full of FF it is no sound payload, which is luck.
+    let noise = with(vec![0xFF; PAYLOAD], 0, &own.payload);
+    let input = carry_out([patch_area(2), vec![]], 1, &patched(&noise, &changed));
+    cases.push(case("a whole buffer of FF", input, &[7], &[]));
+
+    // A refused Compare has kind 0: carried out, it makes the block EMPTY.
+    let name = "a refused Compare that is carried out";
+    let short = &changed[1..];
+    let refused = decide(cases, name, [&a_base(), short], [1, 0, 0, 0, 0], &[]);
+    let puts = [put(0, 1024, &slot(&[])), put(1, 12_288, &zeros())];
+    cases.push(case(name, carry_out([full_ref(), full()], 1, &refused), &[0, 0, 0], &puts));
+}
+
+/// For blocks 0 to 5: the byte of the map that a decision changes, and what it becomes for EMPTY, PATCH
 /// and FULL_REF where it was 00, and where it was FF.
 const KEPT: [(usize, [u8; 3], [u8; 3]); 6] = [
     (0, [0x00, 0x02, 0x01], [0xFC, 0xFE, 0xFD]),
@@ -894,74 +1051,88 @@ const KEPT: [(usize, [u8; 3], [u8; 3]); 6] = [
     (1, [0x00, 0x08, 0x04], [0xF3, 0xFB, 0xF7]),
 ];
 
-/// What a write makes of a lent map: its own pair, and nothing else of it.
+/// What a decision makes of a lent map: its own pair, and nothing else of it.
 fn kept_maps(cases: &mut Vec<Case>) {
     let areas = || [patch_area(6), full_area(6)];
-    let small = page(&[(0, 7)]);
     for (block, (byte, over_00, over_ff)) in KEPT.into_iter().enumerate() {
         let (slot_at, place_at) = (512 + 512 * block, 4096 + 8192 * block);
         // A third byte, which is no block's, stays.
         for (old, new) in [(0x00, over_00), (0xFF, over_ff)] {
             let mut with_pair =
-                |name: &str, page: &[u8], answer: &[i128], new: u8, puts: Vec<Put>| {
+                |name: &str, decision: &Decision, answer: &[i128], new: u8, puts: Vec<Put>| {
                     let name = format!("{name} kept in block {block} over a map of {old:02X}");
-                    let block = block as u64;
-                    let input = write_mapped(areas(), &[old; 3], block, vec![], page.to_vec());
+                    let input = carry_out_mapped(areas(), &[old; 3], block as u64, decision);
                     let puts = [puts, vec![put(2, byte, &[new])]].concat();
                     cases.push(case(&name, input, answer, &puts));
                 };
-            with_pair("EMPTY", &zeros(), &[0, 0, 0], new[0], vec![]);
+            with_pair("EMPTY", &same(&zeros()), &[0, 0, 0], new[0], vec![]);
             let slot_put = put(0, slot_at, &patch_slot(&[0, 7]));
-            with_pair("PATCH", &small, &[0, 1, 2], new[1], vec![slot_put]);
+            with_pair("PATCH", &p1(), &[0, 1, 2], new[1], vec![slot_put]);
             let puts = vec![put(0, slot_at, &[2]), put(1, place_at, &[6; PAGE])];
-            with_pair("FULL_REF", &[6; PAGE], &[0, 2, 16_384], new[2], puts);
+            with_pair("FULL_REF", &large(&[6; PAGE]), &[0, 2, 0], new[2], puts);
         }
     }
     // What was there does not matter, in the areas either.
     cases.push(case(
         "a patch over a stray page and a pair of 3",
-        write_mapped([patch_area(2), full()], &[0x0C], 1, vec![], small.clone()),
+        carry_out_mapped([patch_area(2), full()], &[0x0C], 1, &p1()),
         &[0, 1, 2],
         &[put(0, 1024, &patch_slot(&[0, 7])), put(1, 12_288, &zeros()), put(2, 0, &[0x08])],
     ));
     cases.push(case(
         "back to the base, with a map",
-        write_mapped([full_ref(), full()], &[0x04], 1, a_base(), a_base()),
+        carry_out_mapped([full_ref(), full()], &[0x04], 1, &same(&a_base())),
         &[0, 0, 0],
         &[put(0, 1024, &slot(&[])), put(1, 12_288, &zeros()), put(2, 0, &[0x00])],
     ));
     cases.push(case(
         "a patch on a block without a place, with a map",
-        write_mapped([patch_area(2), vec![]], &[0xF3], 1, vec![], small),
+        carry_out_mapped([patch_area(2), vec![]], &[0xF3], 1, &p1()),
         &[0, 1, 2],
         &[put(0, 1024, &patch_slot(&[0, 7])), put(2, 0, &[0xFB])],
     ));
+    cases.push(case(
+        "an unsound old slot, with a map",
+        carry_out_mapped([broken_neighbour(), full()], &[0xFF], 0, &same(&[])),
+        &[0, 0, 0],
+        &[put(0, 512, &slot(&[])), put(2, 0, &[0xFC])],
+    ));
 }
 
-/// Refused writes, which leave the map.
+/// Refused decisions, which leave the map.
 fn refused_maps(cases: &mut Vec<Case>) {
     let areas = |n: usize| [patch_area(n), vec![]];
-    let large = vec![1; PAGE];
+    let (empty, full_page) = (same(&zeros()), large(&[1; PAGE]));
+    let short_page = large(&[1; PAGE - 1]);
+    let (kind_3, unsound) = (decision(3, &[0, 7], &[1; PAGE]), patched(&[0], &zeros()));
     for map in [0x00, 0xFF, 0x2D] {
         let mut leaves = |name: &str, input: Input, number: i128| {
             cases.push(case(&format!("{name} leaves a map of {map:02X}"), input, &[number], &[]));
         };
-        leaves("8", write_mapped(areas(4), &[map], 3, vec![], large.clone()), 8);
-        leaves("5", write_mapped(areas(3), &[map], 3, vec![], zeros()), 5);
-        leaves("5 before 8", write_mapped(areas(4), &[map], 4, vec![], large.clone()), 5);
-        leaves("9", write_mapped(areas(5), &[map], 0, vec![], zeros()), 9);
+        leaves("8", carry_out_mapped(areas(4), &[map], 3, &full_page), 8);
+        leaves("7", carry_out_mapped(areas(4), &[map], 3, &unsound), 7);
+        leaves("6", carry_out_mapped(areas(4), &[map], 3, &kind_3), 6);
+        leaves("5", carry_out_mapped(areas(3), &[map], 3, &empty), 5);
+        leaves("5 before 8", carry_out_mapped(areas(4), &[map], 4, &full_page), 5);
+        leaves("5 before 7", carry_out_mapped(areas(4), &[map], 4, &unsound), 5);
+        leaves("5 before 6", carry_out_mapped(areas(4), &[map], 4, &kind_3), 5);
+        leaves("9", carry_out_mapped(areas(5), &[map], 0, &empty), 9);
+        leaves("9 before 6", carry_out_mapped(areas(5), &[map], 0, &kind_3), 9);
+        leaves("9 before 7", carry_out_mapped(areas(5), &[map], 0, &unsound), 9);
+        leaves("9 before 8", carry_out_mapped(areas(5), &[map], 0, &full_page), 9);
         let bad = || with(patch_area(5), 0, &[0]);
-        leaves("9 before 3", write_mapped([bad(), vec![]], &[map], 9, vec![], zeros()), 9);
-        leaves("2 before 9", write_mapped([bad(), vec![1]], &[map], 9, vec![], zeros()), 2);
+        leaves("9 before 3", carry_out_mapped([bad(), vec![]], &[map], 9, &empty), 9);
+        leaves("2 before 9", carry_out_mapped([bad(), vec![1]], &[map], 9, &empty), 2);
         let two = [bad(), vec![]];
-        leaves("3 before 5", write_mapped(two, &[map; 2], 9, vec![], large.clone()), 3);
-        leaves("1 before 9", write_mapped(areas(5), &[map], 0, vec![1], zeros()), 1);
+        leaves("3 before 5", carry_out_mapped(two, &[map; 2], 9, &full_page), 3);
+        leaves("1 before 9", carry_out_mapped(areas(5), &[map], 0, &short_page), 1);
+        leaves("1 before 2", carry_out_mapped([bad(), vec![1]], &[map], 9, &short_page), 1);
     }
     for n in [1, 4] {
-        let input = write_mapped(areas(n), &[], 0, vec![], zeros());
+        let input = carry_out_mapped(areas(n), &[], 0, &empty);
         cases.push(case(&format!("no map for {n} blocks"), input, &[9], &[]));
     }
-    let input = write_mapped(areas(0), &[], 0, vec![], zeros());
+    let input = carry_out_mapped(areas(0), &[], 0, &empty);
     cases.push(case("n = 0 wants no map", input, &[5], &[]));
 }
 
@@ -1043,8 +1214,8 @@ fn refused_reads_by_map(cases: &mut Vec<Case>) {
     for block in [4, 1 << 55, u64::MAX] {
         let input = read_mapped(areas(4), &[0xFF; 9], block, vec![]);
         cases.push(case(&format!("5 before 11, block {block}"), input, &[5], &[]));
-        let input = write_mapped(areas(4), &[0xFF; 9], block, vec![], zeros());
-        cases.push(case(&format!("block {block} written with a map"), input, &[5], &[]));
+        let input = carry_out_mapped(areas(4), &[0xFF; 9], block, &same(&zeros()));
+        cases.push(case(&format!("EMPTY on block {block} with a map"), input, &[5], &[]));
     }
     cases.push(case("n = 0 read by no map", read_mapped(areas(0), &[], 0, vec![]), &[5], &[]));
     let input = read_mapped(areas(3), &[0xC0, 0xFF], 2, vec![]);
@@ -1283,13 +1454,22 @@ fn orders(cases: &mut Vec<Case>) {
     cases.push(case("read: 3 before 5", read(bad_header.clone(), vec![], 9, vec![]), &[3], &[]));
     cases.push(case("read: 5 before 6", read(broken.clone(), vec![], 1, vec![]), &[5], &[]));
     cases.push(case("read: 6", read(broken.clone(), vec![], 0, vec![]), &[6], &[]));
-    let large = vec![1; PAGE];
-    let input = write(bad_header.clone(), vec![], 9, vec![], large.clone());
-    cases.push(case("write: 3 before 5 and 8", input, &[3], &[]));
-    let input = write(broken.clone(), vec![], 1, vec![], large.clone());
-    cases.push(case("write: 5 before 8", input, &[5], &[]));
-    let input = write(broken, vec![], 0, vec![], large);
-    cases.push(case("write: 8, and never 6", input, &[8], &[]));
+    let of_kind = |kind: u32| decision(kind, &[0], &[1; PAGE]);
+    for (kind, last) in [(1, 7), (2, 8), (3, 6)] {
+        let mut refused = |name: &str, patch: &[u8], full: &[u8], block: u64, number: i128| {
+            let input = carry_out([patch.to_vec(), full.to_vec()], block, &of_kind(kind));
+            let name = format!("kind {kind} carried out: {name}");
+            cases.push(case(&name, input, &[number], &[]));
+        };
+        refused("2 before 3", &bad_header, &[1], 9, 2);
+        refused("3 before 5", &bad_header, &[], 9, 3);
+        refused("5 before what is decided", &broken, &[], 1, 5);
+        refused("what is decided, and the old slot is no fault", &broken, &[], 0, last);
+    }
+    let input = carry_out([bad_header.clone(), vec![1]], 9, &large(&[1; PAGE - 1]));
+    cases.push(case("a full page carried out: 1 before 2", input, &[1], &[]));
+    let input = carry_out([bad_header.clone(), vec![1]], 9, &patched(&[0], &[1; PAGE - 1]));
+    cases.push(case("a patch carried out: 2, and never 1", input, &[2], &[]));
     let input = build(bad_header, vec![1], vec![]);
     cases.push(case("build: 2 before 9", input, &[2], &[]));
     cases.push(case("compare: 1 before 9", compare(vec![1], zeros(), vec![]), &[1], &[]));
@@ -1318,6 +1498,8 @@ pub fn all() -> Vec<Case> {
     other_blocks(&mut cases);
     shortcuts(&mut cases);
     writing(&mut cases);
+    decisions(&mut cases);
+    traps(&mut cases);
     kept_maps(&mut cases);
     refused_maps(&mut cases);
     reads_by_map(&mut cases);

@@ -78,7 +78,7 @@ fn changed_positions(rng: &mut Rng, target: usize) -> Vec<usize> {
     positions
 }
 
-/// A page to compare with a base or to write over it.
+/// A page to compare with a base.
 pub fn modified(rng: &mut Rng, base: &[u8]) -> Vec<u8> {
     let mut page = page_of_base(base);
     let target = match rng.below(10) {
@@ -260,6 +260,100 @@ fn damage_slot(rng: &mut Rng, slot: &mut [u8]) {
 }
 
 // ---------------------------------------------------------------------------------------------
+// Decisions
+// ---------------------------------------------------------------------------------------------
+
+/// What a block is to become. The payload counts for kind 1 alone, the page for kind 2 alone.
+#[derive(Clone, Debug, PartialEq, Eq)]
+pub struct Decision {
+    pub kind: u32,
+    pub payload: Vec<u8>,
+    pub page: Vec<u8>,
+}
+
+/// Kinds above 2, and those that would be 0, 1 or 2 if they were cut to 8, 16 or 31 bits.
+pub const STRANGE_KINDS: [u32; 18] = [
+    3,
+    4,
+    127,
+    128,
+    254,
+    255,
+    256,
+    257,
+    258,
+    65_536,
+    65_537,
+    65_538,
+    1 << 31,
+    (1 << 31) + 1,
+    (1 << 31) + 2,
+    (1 << 31) - 1,
+    u32::MAX - 1,
+    u32::MAX,
+];
+
+impl Decision {
+    /// What Compare decides of a page over its base.
+    pub fn by_compare(base: &[u8], page: Vec<u8>) -> Decision {
+        let mut payload = vec![0; PAYLOAD];
+        let compared = independent::compare(base, &page, &mut payload);
+        assert_eq!(compared.number, 0, "pages of sound lengths");
+        payload.truncate(if compared.kind == 1 { compared.length as usize } else { 0 });
+        Decision { kind: compared.kind, payload, page }
+    }
+
+    /// What would be carried out after the areas, and the map if there is one.
+    pub fn input(&self, call: Call, mut areas_and_map: Vec<Vec<u8>>, block: u64) -> Input {
+        areas_and_map.extend([self.payload.clone(), self.page.clone()]);
+        Input::new(call, areas_and_map).at_block(block).of_kind(self.kind)
+    }
+}
+
+/// A decision that no Compare need have made, refused only where a full page has no place: mostly a sound
+/// payload, with a page of any length beside it; else EMPTY or a full page, beside a payload of any sort.
+pub fn decision_from_elsewhere(rng: &mut Rng) -> Decision {
+    let kind = rng.pick(&[0, 1, 1, 1, 1, 2]);
+    let payload = if kind == 1 { sound_payload(rng, PAYLOAD) } else { payload(rng) };
+    let length = if kind == 2 { PAGE } else { rng.pick(&[0, 0, 1, PAGE - 1, PAGE, PAGE]) };
+    Decision { kind, payload, page: rng.bytes(length) }
+}
+
+/// A decision of any sort: about half of them are Compare's own.
+pub fn decision(rng: &mut Rng) -> Decision {
+    let base = base(rng);
+    let page = modified(rng, &base);
+    let mut decision = Decision::by_compare(&base, page);
+    match rng.below(20) {
+        0 => decision.kind = rng.pick(&STRANGE_KINDS),
+        1 => decision.kind = rng.draw() as u32,
+        // A refused Compare carried out, or a kind that is not the page's.
+        2 => decision.kind = rng.below(4) as u32,
+        // Compare's buffer whole.
+        3 => {
+            let rest = PAYLOAD - decision.payload.len();
+            let rest = if rng.chance(50) { vec![0; rest] } else { rng.bytes(rest) };
+            decision.payload.extend(rest);
+            decision.kind = 1;
+        }
+        4..=6 => {
+            decision.kind = 1;
+            decision.payload = payload(rng);
+        }
+        7 => return decision_from_elsewhere(rng),
+        // What is not looked at may be anything.
+        8 | 9 if decision.kind != 1 => decision.payload = payload(rng),
+        8 | 9 => {
+            let length = rng.pick(&[0, 1, 511, 4096, 8191, 8192, 8193, 16384]);
+            decision.page = rng.bytes(length);
+        }
+        _ => {}
+    }
+    maybe_wrong_page(rng, &mut decision.page);
+    decision
+}
+
+// ---------------------------------------------------------------------------------------------
 // Areas
 // ---------------------------------------------------------------------------------------------
 
@@ -284,7 +378,7 @@ impl Areas {
         self.patch.len().saturating_sub(PATCH_HEADER) / SLOT
     }
 
-    fn pages(&self) -> usize {
+    pub fn pages(&self) -> usize {
         self.full.len().saturating_sub(FULL_HEADER) / PAGE
     }
 
@@ -534,14 +628,10 @@ fn read_input(rng: &mut Rng) -> Input {
     Input::new(Call::Read, vec![areas.patch, areas.full, base, page]).at_block(block)
 }
 
-fn write_input(rng: &mut Rng) -> Input {
+fn carry_out_input(rng: &mut Rng) -> Input {
     let areas = damaged_areas(rng);
     let block = block(rng, areas.blocks());
-    let mut base = base(rng);
-    let mut page = modified(rng, &base);
-    maybe_wrong_page(rng, &mut base);
-    maybe_wrong_page(rng, &mut page);
-    Input::new(Call::Write, vec![areas.patch, areas.full, base, page]).at_block(block)
+    decision(rng).input(Call::CarryOut, vec![areas.patch, areas.full], block)
 }
 
 /// The pair that a slot's kind byte stands for, sound or not: what a map says that was kept.
@@ -602,16 +692,11 @@ fn map_beside(rng: &mut Rng, areas: &mut Areas) -> Vec<u8> {
     map
 }
 
-fn write_mapped_input(rng: &mut Rng) -> Input {
+fn carry_out_mapped_input(rng: &mut Rng) -> Input {
     let mut areas = damaged_areas(rng);
     let map = map_beside(rng, &mut areas);
     let block = block(rng, areas.blocks());
-    let mut base = base(rng);
-    let mut page = modified(rng, &base);
-    maybe_wrong_page(rng, &mut base);
-    maybe_wrong_page(rng, &mut page);
-    let buffers = vec![areas.patch, areas.full, map, base, page];
-    Input::new(Call::WriteMapped, buffers).at_block(block)
+    decision(rng).input(Call::CarryOutMapped, vec![areas.patch, areas.full, map], block)
 }
 
 fn read_mapped_input(rng: &mut Rng) -> Input {
@@ -751,12 +836,12 @@ fn input(rng: &mut Rng, call: Call) -> Input {
         Call::Judge => judge_input(rng),
         Call::Show => show_input(rng),
         Call::Read => read_input(rng),
-        Call::Write => write_input(rng),
+        Call::CarryOut => carry_out_input(rng),
         Call::Build => build_input(rng),
         Call::LookUp => look_up_input(rng),
         Call::Tally => tally_input(rng),
         Call::Next => next_input(rng),
-        Call::WriteMapped => write_mapped_input(rng),
+        Call::CarryOutMapped => carry_out_mapped_input(rng),
         Call::ReadMapped => read_mapped_input(rng),
         Call::Cut => cut_input(rng),
         Call::CutMapped => cut_mapped_input(rng),
@@ -782,10 +867,10 @@ pub fn any_input(rng: &mut Rng) -> Input {
         Call::Read,
         Call::Read,
         Call::Read,
-        Call::Write,
-        Call::Write,
-        Call::Write,
-        Call::Write,
+        Call::CarryOut,
+        Call::CarryOut,
+        Call::CarryOut,
+        Call::CarryOut,
         Call::Build,
         Call::Build,
         Call::Build,
@@ -793,9 +878,10 @@ pub fn any_input(rng: &mut Rng) -> Input {
         Call::Tally,
         Call::Next,
         Call::Next,
-        Call::WriteMapped,
-        Call::WriteMapped,
-        Call::WriteMapped,
+        Call::CarryOutMapped,
+        Call::CarryOutMapped,
+        Call::CarryOutMapped,
+        Call::CarryOutMapped,
         Call::ReadMapped,
         Call::ReadMapped,
         Call::ReadMapped,

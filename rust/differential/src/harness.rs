@@ -33,6 +33,8 @@ pub struct Counts {
     /// For Show, 0 counts the parts handed out and 1 the empty ones; for Next, 0 counts the entries, 1
     /// the ends and 7 the stops.
     by_number: [[u64; 12]; Call::ALL.len()],
+    /// The same of the wrapper, for calls that it does not make for every input.
+    by_wrapper: [[u64; 12]; Call::ALL.len()],
 }
 
 /// What is counted for a call; all of it must be met.
@@ -57,9 +59,17 @@ impl Counts {
         }
     }
 
+    /// The wrapper made the call too.
+    pub fn add_by_wrapper(&mut self, call: Call, answer: &Answer) {
+        if let Some(count) = self.by_wrapper[call as usize].get_mut(answer.number() as usize) {
+            *count += 1;
+        }
+    }
+
     pub fn add_all(&mut self, other: &Counts) {
-        let counts = self.by_number.iter_mut().flatten();
-        counts.zip(other.by_number.iter().flatten()).for_each(|(count, more)| *count += more);
+        let counts = self.by_number.iter_mut().chain(&mut self.by_wrapper).flatten();
+        let others = other.by_number.iter().chain(&other.by_wrapper).flatten();
+        counts.zip(others).for_each(|(count, more)| *count += more);
     }
 
     pub fn total(&self) -> u64 {
@@ -78,34 +88,66 @@ impl Counts {
         }
         unseen
     }
+
+    /// The same for the wrapper, of calls that it does not make for every input.
+    pub fn unseen_by_wrapper(&self) -> Vec<(Call, usize)> {
+        let mut unseen = Vec::new();
+        for call in Call::ALL {
+            for number in call.numbers_of_wrapper() {
+                if self.by_wrapper[call as usize][*number] == 0 {
+                    unseen.push((call, *number));
+                }
+            }
+        }
+        unseen
+    }
+
+    /// One line of the table.
+    fn fmt_row(
+        f: &mut fmt::Formatter<'_>,
+        name: &str,
+        row: &[u64; 12],
+        numbers: &[usize],
+    ) -> fmt::Result {
+        write!(f, "{name:<16} {:>9} |", row.iter().sum::<u64>())?;
+        for (number, count) in row.iter().enumerate() {
+            if numbers.contains(&number) {
+                write!(f, " {count:>7}")?;
+            } else {
+                write!(f, " {:>7}", ".")?;
+            }
+        }
+        writeln!(f)
+    }
 }
 
 impl fmt::Display for Counts {
     fn fmt(&self, f: &mut fmt::Formatter<'_>) -> fmt::Result {
-        write!(f, "{:<12} {:>9} |", "call", "compared")?;
+        write!(f, "{:<16} {:>9} |", "call", "compared")?;
         for number in 0..12 {
             write!(f, " {number:>7}")?;
         }
         writeln!(f, "   (times each number was given; . = the call has no such number)")?;
         for call in Call::ALL {
             let row = self.by_number[call as usize];
-            write!(f, "{:<12} {:>9} |", call.name(), row.iter().sum::<u64>())?;
-            if call == Call::Show {
-                writeln!(f, " {} parts handed out, {} empty", row[0], row[1])?;
-                continue;
+            let (name, sum) = (call.name(), row.iter().sum::<u64>());
+            match call {
+                Call::Show => writeln!(
+                    f,
+                    "{name:<16} {sum:>9} | {} parts handed out, {} empty",
+                    row[0], row[1]
+                )?,
+                Call::Next => writeln!(
+                    f,
+                    "{name:<16} {sum:>9} | {} entries, {} ends, {} stops (7)",
+                    row[0], row[1], row[7]
+                )?,
+                _ => Counts::fmt_row(f, name, &row, call.numbers())?,
             }
-            if call == Call::Next {
-                writeln!(f, " {} entries, {} ends, {} stops (7)", row[0], row[1], row[7])?;
-                continue;
+            if !call.numbers_of_wrapper().is_empty() {
+                let row = self.by_wrapper[call as usize];
+                Counts::fmt_row(f, "  by the wrapper", &row, call.numbers_of_wrapper())?;
             }
-            for (number, count) in row.iter().enumerate() {
-                if call.numbers().contains(&number) {
-                    write!(f, " {count:>7}")?;
-                } else {
-                    write!(f, " {:>7}", ".")?;
-                }
-            }
-            writeln!(f)?;
         }
         Ok(())
     }
@@ -195,7 +237,9 @@ impl Harness {
         } else {
             hold(input, "C interface", self.library_outcome(input), &expected)?;
             if let Some(outcome) = wrapper_outcome(input) {
+                let answer = outcome.answer;
                 hold(input, "Rust wrapper", Ok(outcome), &expected)?;
+                self.counts.add_by_wrapper(input.call, &answer);
             }
         }
         if let Some(found) = forbidden(input, &expected) {

@@ -11,8 +11,9 @@ use crate::call::{
     first_difference, Answer, Call, Input, Numbers, FULL_HEADER, MAX_BLOCKS, PAGE, PATCH_HEADER,
     SLOT,
 };
-use crate::generate::Areas;
+use crate::generate::{Areas, Decision};
 use crate::harness::{Harness, Mismatch};
+use crate::pair;
 use crate::sides::{self, Lent, SafeSide};
 
 const LAST: u64 = MAX_BLOCKS as u64 - 1;
@@ -112,12 +113,17 @@ impl<'h> Stores<'h> {
     }
 
     /// The call over the C interface, its other buffers in the rooms of the harness.
-    fn on_library(&mut self, call: Call, block: u64, small: &[Vec<u8>]) -> Result<Came, String> {
+    fn on_library(
+        &mut self,
+        call: Call,
+        told: &Numbers,
+        small: &[Vec<u8>],
+    ) -> Result<Came, String> {
         let others = self.harness.lend(small);
         let mut lent: Vec<Lent> = self.library.lent(call).into_iter().map(Lent::of).collect();
         lent.extend(&others);
         // SAFETY: every buffer has a room of its own.
-        let answer = unsafe { sides::library(call, &lent, &at_block(block)) };
+        let answer = unsafe { sides::library(call, &lent, told) };
         match self.harness.take_back(&others) {
             Ok(after) => Ok((answer, after)),
             Err(_) => Err("bytes beside a page or map were changed".to_string()),
@@ -129,19 +135,24 @@ impl<'h> Stores<'h> {
     fn check_giving(
         &mut self,
         call: Call,
-        block: u64,
+        told: Numbers,
         small: &[Vec<u8>],
         expected: &[i128],
     ) -> Result<Vec<Vec<u8>>, Mismatch> {
         let [patch, full] = [self.library.patch.length, self.library.full.length];
-        let name = call.name();
-        let input = format!("{name} of block {block}, areas of {patch} and {full} bytes");
+        let (name, Numbers { block, kind, .. }) = (call.name(), told);
+        let input =
+            format!("{name} of block {block}, kind {kind}, areas of {patch} and {full} bytes");
         if self.harness.trace {
             println!("{input}");
         }
-        let library = self.on_library(call, block, small);
-        let wrapper = on_store(sides::wrapper, &mut self.wrapper, call, block, small);
-        let came = on_store(sides::independent, &mut self.independent, call, block, small);
+        let library = self.on_library(call, &told, small);
+        let wrapper = on_store(sides::wrapper, &mut self.wrapper, call, &told, small);
+        let came = on_store(sides::independent, &mut self.independent, call, &told, small);
+        let came = came.expect("it has every call");
+        // Without the wrapper only calls are made that are refused, so that its areas stay alike.
+        let wrapped = wrapper.is_some();
+        let wrapper = wrapper.unwrap_or_else(|| came.clone());
         let model = &mut self.independent;
         let found = hold("C interface", library, &mut self.library, &came, model)
             .or_else(|| hold("Rust wrapper", Ok(wrapper), &mut self.wrapper, &came, model))
@@ -152,6 +163,9 @@ impl<'h> Stores<'h> {
         match found {
             Some((side, found)) => Err(Mismatch { side, input, found }),
             None => {
+                if wrapped {
+                    self.harness.counts.add_by_wrapper(call, &came.0);
+                }
                 self.harness.count(call, &came.0);
                 Ok(came.1)
             }
@@ -165,11 +179,27 @@ impl<'h> Stores<'h> {
         small: &[Vec<u8>],
         expected: &[i128],
     ) -> Result<(), Mismatch> {
-        self.check_giving(call, block, small, expected).map(|_| ())
+        self.check_giving(call, at_block(block), small, expected).map(|_| ())
     }
 
+    /// A page over a base of zeros, written by the pair: Compare decides, and that is carried out.
     fn write(&mut self, block: u64, page: &[u8], expected: &[i128]) -> Result<(), Mismatch> {
-        self.check(Call::Write, block, &[Vec::new(), page.to_vec()], expected)
+        let (told, small) = self.decided(block, page)?;
+        self.check_giving(Call::CarryOut, told, &small, expected).map(|_| ())
+    }
+
+    /// A decision that Compare does not make, and that is refused.
+    fn refuse(&mut self, block: u64, decision: Decision, number: i128) -> Result<(), Mismatch> {
+        let Decision { kind, payload, page } = decision;
+        let told = Numbers { kind, ..at_block(block) };
+        self.check_giving(Call::CarryOut, told, &[payload, page], &[number]).map(|_| ())
+    }
+
+    /// What carrying out is told and lent after the areas and the map.
+    fn decided(&mut self, block: u64, page: &[u8]) -> Result<(Numbers, [Vec<u8>; 2]), Mismatch> {
+        let Decision { kind, payload, page } =
+            pair::decide(self.harness, &[], page)?.expect("a page of a sound length");
+        Ok((Numbers { kind, ..at_block(block) }, [payload, page]))
     }
 
     fn read(&mut self, block: u64, expected: &[i128]) -> Result<(), Mismatch> {
@@ -188,16 +218,17 @@ impl<'h> Stores<'h> {
         self.check(Call::Build, 0, &[vec![0xAB; MAP + 3]], expected)
     }
 
-    /// A write that is lent the map, which stays with the caller.
-    fn write_mapped(
+    /// The same with the map, which stays with the caller.
+    fn write_with(
         &mut self,
         map: &mut Vec<u8>,
         block: u64,
         page: &[u8],
         expected: &[i128],
     ) -> Result<(), Mismatch> {
-        let small = [map.clone(), Vec::new(), page.to_vec()];
-        *map = self.check_giving(Call::WriteMapped, block, &small, expected)?.swap_remove(0);
+        let (told, [payload, page]) = self.decided(block, page)?;
+        let small = [map.clone(), payload, page];
+        *map = self.check_giving(Call::CarryOutMapped, told, &small, expected)?.swap_remove(0);
         Ok(())
     }
 
@@ -209,29 +240,35 @@ impl<'h> Stores<'h> {
     /// A cut that is lent the map, which stays with the caller.
     fn cut_mapped(&mut self, map: &mut Vec<u8>, k: u64, expected: &[i128]) -> Result<(), Mismatch> {
         let small = std::slice::from_ref(map);
-        *map = self.check_giving(Call::CutMapped, k, small, expected)?.swap_remove(0);
+        *map = self.check_giving(Call::CutMapped, at_block(k), small, expected)?.swap_remove(0);
         Ok(())
     }
 
     /// Build makes this map.
     fn build_makes(&mut self, map: &[u8]) -> Result<(), Mismatch> {
-        let built = self.check_giving(Call::Build, 0, &[vec![0xAB; MAP]], &[0])?.swap_remove(0);
-        match first_difference(map, &built) {
+        let built = self.check_giving(Call::Build, at_block(0), &[vec![0xAB; MAP]], &[0])?;
+        let built = &built[0];
+        match first_difference(map, built) {
             None => Ok(()),
             Some(found) => {
-                let input = "a map lent to every write".to_string();
+                let input = "a map lent to every decision".to_string();
                 Err(Mismatch { side: "demand on maps", input, found })
             }
         }
     }
 }
 
-fn on_store(side: SafeSide, store: &mut Store, call: Call, block: u64, small: &[Vec<u8>]) -> Came {
+fn on_store(
+    side: SafeSide,
+    store: &mut Store,
+    call: Call,
+    told: &Numbers,
+    small: &[Vec<u8>],
+) -> Option<Came> {
     let mut after = small.to_vec();
     let mut lent = store.lent(call);
     lent.extend(after.iter_mut().map(Vec::as_mut_slice));
-    let answer = side(call, &mut lent, &at_block(block));
-    (answer.expect("every side has the calls on areas"), after)
+    Some((side(call, &mut lent, told)?, after))
 }
 
 fn at_block(block: u64) -> Numbers {
@@ -275,6 +312,10 @@ fn without_full_area(harness: &mut Harness) -> Result<(), Mismatch> {
     stores.write(LAST + 1, &small_change(), &[5])?;
     stores.write(u64::MAX, &small_change(), &[5])?;
     stores.write(1 << 55, &small_change(), &[5])?;
+    for (block, kind, number) in [(LAST, 3, 6), (LAST, 1, 7), (LAST, 2, 1), (LAST + 1, 3, 5)] {
+        let decision = Decision { kind, payload: vec![0], page: vec![9; PAGE - 1] };
+        stores.refuse(block, decision, number)?;
+    }
     stores.read(LAST, &[0, 1])?;
     stores.read(LAST - 1, &[0, 0])?;
     stores.read(LAST + 1, &[5])?;
@@ -327,7 +368,7 @@ fn one_block_too_many(harness: &mut Harness) -> Result<(), Mismatch> {
     stores.check(Call::Show, 0, &[], &[0, 0])?;
     // A map that is long enough, and none.
     stores.read_mapped(&[0; MAP + 1], 0, &[2])?;
-    stores.write_mapped(&mut Vec::new(), 0, &small_change(), &[2])?;
+    stores.write_with(&mut Vec::new(), 0, &small_change(), &[2])?;
     stores.cut(0, &[2])?;
     stores.cut_mapped(&mut vec![0xAB; MAP + 1], 0, &[2])?;
     stores.highest(&[2])?;
@@ -337,8 +378,8 @@ fn one_block_too_many(harness: &mut Harness) -> Result<(), Mismatch> {
 /// n = m = 131,072.
 fn with_full_area(harness: &mut Harness) -> Result<(), Mismatch> {
     let mut stores = Stores::new(harness, MAX_BLOCKS, Some(MAX_BLOCKS));
-    stores.write(LAST, &[9; PAGE], &[0, 2, 16_384])?;
-    stores.write(0, &[8; PAGE], &[0, 2, 16_384])?;
+    stores.write(LAST, &[9; PAGE], &[0, 2, 0])?;
+    stores.write(0, &[8; PAGE], &[0, 2, 0])?;
     stores.write(65_536, &small_change(), &[0, 1, 4])?;
     stores.read(LAST, &[0, 2])?;
     stores.build(&[0])?;
@@ -356,16 +397,16 @@ fn with_full_area(harness: &mut Harness) -> Result<(), Mismatch> {
     stores.build(&[0])
 }
 
-/// A map of 131,072 blocks, lent to every write and gone by.
+/// A map of 131,072 blocks, lent to every decision and gone by.
 fn with_map(harness: &mut Harness) -> Result<(), Mismatch> {
     let mut stores = Stores::new(harness, MAX_BLOCKS, Some(1));
     let mut map = vec![0; MAP];
-    stores.write_mapped(&mut map, LAST, &small_change(), &[0, 1, 4])?;
-    stores.write_mapped(&mut map, 0, &[9; PAGE], &[0, 2, 16_384])?;
-    stores.write_mapped(&mut map, 65_536, &small_change(), &[0, 1, 4])?;
-    stores.write_mapped(&mut map, LAST, &[9; PAGE], &[8])?;
+    stores.write_with(&mut map, LAST, &small_change(), &[0, 1, 4])?;
+    stores.write_with(&mut map, 0, &[9; PAGE], &[0, 2, 0])?;
+    stores.write_with(&mut map, 65_536, &small_change(), &[0, 1, 4])?;
+    stores.write_with(&mut map, LAST, &[9; PAGE], &[8])?;
     for beyond in [LAST + 1, 1 << 55, u64::MAX] {
-        stores.write_mapped(&mut map, beyond, &small_change(), &[5])?;
+        stores.write_with(&mut map, beyond, &small_change(), &[5])?;
         stores.read_mapped(&map, beyond, &[5])?;
     }
     stores.build_makes(&map)?;
@@ -374,14 +415,14 @@ fn with_map(harness: &mut Harness) -> Result<(), Mismatch> {
     stores.read_mapped(&map, LAST - 1, &[0, 0])?;
     stores.read_mapped(&map[..MAP - 1], LAST, &[9])?;
     let mut short = map[..MAP - 1].to_vec();
-    stores.write_mapped(&mut short, 0, &small_change(), &[9])?;
+    stores.write_with(&mut short, 0, &small_change(), &[9])?;
 
     // The last block by pair 1, for which it has no place, and by pair 3.
     map[MAP - 1] = 0x5F;
     stores.read_mapped(&map, LAST, &[8])?;
     map[MAP - 1] = 0xDF;
     stores.read_mapped(&map, LAST, &[11])?;
-    stores.write_mapped(&mut map, LAST, &[0; PAGE], &[0, 0, 0])?;
+    stores.write_with(&mut map, LAST, &[0; PAGE], &[0, 0, 0])?;
     stores.read_mapped(&map, LAST, &[0, 0])?;
 
     // A cut takes the pairs from its block on, whatever they are, and no others.

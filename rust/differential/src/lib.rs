@@ -14,6 +14,7 @@ pub mod harness;
 pub mod huge;
 pub mod maps;
 pub mod orders;
+pub mod pair;
 pub mod payloads;
 pub mod rng;
 pub mod runs;

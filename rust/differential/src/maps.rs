@@ -1,18 +1,21 @@
-//! Writes that keep a lent map and reads that go by it, held to what is written here by hand:
+//! Decisions carried out with a lent map and reads that go by it, held to what is written here by hand:
 //!
 //! * a read does what the block's own pair says, for every byte that a map can have, over slots of
 //!   every sort, and whether or not there is a place for the block;
-//! * a write sets the block's own pair to what it stored, and no other bit of the map;
+//! * a decision that is carried out sets the block's own pair to its kind's, and no other bit of the map;
+//!   a refused one sets none;
 //! * a map is too short just where the blocks want another byte;
-//! * beside a store from elsewhere that Build accepts, reads by Build's map are those of Read, writes
-//!   with it are those of Write, cuts with it are those without, and afterwards it is again the map
-//!   that Build makes; the highest block is the last whose pair is not 0.
+//! * beside a store from elsewhere that Build accepts, reads by Build's map are those of Read, decisions
+//!   and cuts with it do to the areas what they do without, and afterwards it is again the map that Build
+//!   makes; the highest block is the last whose pair is not 0. Right after a decision, Compare's or from
+//!   elsewhere, the block reads as its base, as Apply makes it of the payload, or as the page.
 //!
 //! Every call of it is also compared with the independent implementation.
 
 use crate::call::{Answer, Call, Input, Outcome, FULL_HEADER, PAGE, PATCH_HEADER, SLOT};
-use crate::generate::{self, Areas};
+use crate::generate::{self, Areas, Decision};
 use crate::harness::{Harness, Mismatch};
+use crate::pair;
 use crate::rng::Rng;
 
 fn demand(holds: bool, what: impl FnOnce() -> String) -> Result<(), Mismatch> {
@@ -120,24 +123,37 @@ pub fn every_read(harness: &mut Harness) -> Result<(), Mismatch> {
     Ok(())
 }
 
-/// The pages to write over a base of zeros, what is answered, and the pair that it sets, if any.
-fn writes() -> [(Vec<u8>, Answer, Option<u8>); 3] {
-    let mut small = vec![0; PAGE];
+/// Decisions, what is answered, and the pair that each sets, if any.
+fn decisions() -> [(Decision, Answer, Option<u8>); 8] {
+    let decision = |kind, payload: &[u8], page: &[u8]| Decision {
+        kind,
+        payload: payload.to_vec(),
+        page: page.to_vec(),
+    };
+    let mut small = [0; PAGE];
     small[8191] = 1;
+    let last_byte = [0xFF, 0xFF, 0x1F, 1];
     [
-        (vec![0; PAGE], Answer::of(&[0, 0, 0]), Some(0)),
-        (small, Answer::of(&[0, 1, 4]), Some(2)),
-        (vec![5; PAGE], Answer::of(&[0, 2, 16_384]), Some(1)),
+        (decision(0, &[], &[0; PAGE]), Answer::of(&[0, 0, 0]), Some(0)),
+        (decision(1, &last_byte, &small), Answer::of(&[0, 1, 4]), Some(2)),
+        (decision(2, &[], &[5; PAGE]), Answer::of(&[0, 2, 0]), Some(1)),
+        // From elsewhere: a zero written over a zero, with no page at all.
+        (decision(1, &[3, 0], &[]), Answer::of(&[0, 1, 2]), Some(2)),
+        // Refused for themselves.
+        (decision(3, &[3, 0], &[5; PAGE]), Answer::of(&[6]), None),
+        (decision(257, &[3, 0], &[5; PAGE]), Answer::of(&[6]), None),
+        (decision(1, &[3, 0, 0], &small), Answer::of(&[7]), None),
+        (decision(2, &[], &[5; PAGE - 1]), Answer::of(&[1]), None),
     ]
 }
 
-/// A write over every byte that a map can have: of three blocks, whose byte has an unused pair, and of
-/// four.
-pub fn every_write(harness: &mut Harness) -> Result<(), Mismatch> {
+/// Decisions carried out over every byte that a map can have: of three blocks, whose byte has an unused
+/// pair, and of four.
+pub fn every_decision(harness: &mut Harness) -> Result<(), Mismatch> {
     for n in [3, 4] {
-        for (page, accepted, pair) in writes() {
+        for (decision, accepted, pair) in decisions() {
             for places in [true, false] {
-                // A large page without a place is refused, and no pair is set.
+                // A full page without a place is refused, and no pair is set.
                 let done = places || pair != Some(1);
                 let (expected, set) =
                     if done { (accepted, pair) } else { (Answer::of(&[8]), None) };
@@ -145,14 +161,17 @@ pub fn every_write(harness: &mut Harness) -> Result<(), Mismatch> {
                     for block in 0..n {
                         let Areas { patch, full } = Areas::fresh(n, places.then_some(n));
                         // A later byte stays too.
-                        let buffers = vec![patch, full, vec![byte, byte], vec![], page.clone()];
-                        let input = Input::new(Call::WriteMapped, buffers).at_block(block as u64);
+                        let lent = vec![patch, full, vec![byte, byte]];
+                        let input = decision.input(Call::CarryOutMapped, lent, block as u64);
                         let Outcome { answer, buffers } = harness.check(&input)?;
                         let mut wanted = pairs(byte);
                         wanted[block] = set.unwrap_or(wanted[block]);
                         let after = [pairs(buffers[2][0]), pairs(buffers[2][1])];
                         demand(answer == expected && after == [wanted, pairs(byte)], || {
-                            format!("write of block {block} of {n} over {byte:02X}: {after:?}")
+                            let kind = decision.kind;
+                            format!(
+                                "kind {kind} on block {block} of {n} over {byte:02X}: {after:?}"
+                            )
                         })?;
                     }
                 }
@@ -167,8 +186,9 @@ pub fn every_length(harness: &mut Harness) -> Result<(), Mismatch> {
     for n in 0..10 {
         for length in 0..=(n + 3) / 4 + 1 {
             for block in 0..=n {
-                for call in [Call::WriteMapped, Call::ReadMapped] {
+                for call in [Call::CarryOutMapped, Call::ReadMapped] {
                     let Areas { patch, full } = Areas::fresh(n, None);
+                    // Kind 0 for the one, a base of zeros for the other.
                     let buffers = vec![patch, full, vec![0; length], vec![], vec![0; PAGE]];
                     let input = Input::new(call, buffers).at_block(block as u64);
                     let answer = harness.check(&input)?.answer;
@@ -190,7 +210,7 @@ pub fn every_length(harness: &mut Harness) -> Result<(), Mismatch> {
 /// Every byte of a map, and every length.
 pub fn every_one(harness: &mut Harness) -> Result<(), Mismatch> {
     every_read(harness)?;
-    every_write(harness)?;
+    every_decision(harness)?;
     every_length(harness)
 }
 
@@ -213,13 +233,17 @@ impl Kept {
         (self.areas.blocks() + 3) / 4
     }
 
-    fn lent(&self, with_map: bool, base: &[u8], page: &[u8]) -> Vec<Vec<u8>> {
-        let mut lent = vec![self.areas.patch.clone(), self.areas.full.clone()];
+    /// The areas, and the map if it goes with them.
+    fn kept(&self, with_map: bool) -> Vec<Vec<u8>> {
+        let mut kept = vec![self.areas.patch.clone(), self.areas.full.clone()];
         if with_map {
-            lent.push(self.map.clone());
+            kept.push(self.map.clone());
         }
-        lent.extend([base.to_vec(), page.to_vec()]);
-        lent
+        kept
+    }
+
+    fn lent(&self, with_map: bool, base: &[u8], page: &[u8]) -> Vec<Vec<u8>> {
+        [self.kept(with_map), vec![base.to_vec(), page.to_vec()]].concat()
     }
 
     /// What Build says, and the map afterwards, which held other bytes before.
@@ -245,19 +269,56 @@ impl Kept {
         Ok(())
     }
 
-    /// One write with the map, and the same without it.
-    fn write(&mut self, harness: &mut Harness, rng: &mut Rng) -> Result<(), Mismatch> {
+    /// One decision carried out with the map, and the same without it.
+    fn carry_out(&mut self, harness: &mut Harness, rng: &mut Rng) -> Result<(), Mismatch> {
         let block = rng.below(self.areas.blocks()) as u64;
         let base = generate::base(rng);
-        let page = generate::modified(rng, &base);
-        let plain = Input::new(Call::Write, self.lent(false, &base, &page)).at_block(block);
-        let mapped = Input::new(Call::WriteMapped, self.lent(true, &base, &page)).at_block(block);
+        let decision = if rng.chance(70) {
+            let page = generate::modified(rng, &base);
+            pair::decide(harness, &base, &page)?
+        } else {
+            Some(generate::decision_from_elsewhere(rng))
+        };
+        let decision = match decision {
+            Some(decision) => decision,
+            None => return demand(false, || "Compare of sound pages is refused".to_string()),
+        };
+        let plain = decision.input(Call::CarryOut, self.kept(false), block);
+        let mapped = decision.input(Call::CarryOutMapped, self.kept(true), block);
         let (plain, mapped) = (harness.check(&plain)?, harness.check(&mapped)?);
         demand(plain.answer == mapped.answer && plain.buffers[..2] == mapped.buffers[..2], || {
             format!("block {block} without a map {:?}, with it {:?}", plain.answer, mapped.answer)
         })?;
+        let number = mapped.answer.number();
         self.take(mapped);
-        Ok(())
+        let has_place = (block as usize) < self.areas.pages();
+        let expected = if decision.kind == 2 && !has_place { 8 } else { 0 };
+        demand(number == expected, || format!("kind {} gives {number}", decision.kind))?;
+        if number != 0 {
+            return Ok(());
+        }
+        self.check_read_back(harness, block, &base, &decision)
+    }
+
+    /// A block right after a decision: its base, what Apply makes of it, or the page.
+    fn check_read_back(
+        &self,
+        harness: &mut Harness,
+        block: u64,
+        base: &[u8],
+        decision: &Decision,
+    ) -> Result<(), Mismatch> {
+        let page = match decision.kind {
+            0 => Some(generate::page_of_base(base)),
+            1 => pair::applied(harness, base, &decision.payload)?,
+            _ => Some(decision.page.clone()),
+        };
+        let read = Input::new(Call::Read, self.lent(false, base, &[0xD3; PAGE])).at_block(block);
+        let read = harness.check(&read)?;
+        let as_decided = Answer::of(&[0, decision.kind.into()]);
+        demand(read.answer == as_decided && Some(&read.buffers[3]) == page.as_ref(), || {
+            format!("block {block} after kind {} reads with {:?}", decision.kind, read.answer)
+        })
     }
 
     /// One cut with the map, and the same without it.
@@ -277,7 +338,7 @@ impl Kept {
         Ok(())
     }
 
-    /// Goes on with what a write or a cut with the map has left.
+    /// Goes on with what a call with the map has left.
     fn take(&mut self, outcome: Outcome) {
         let mut buffers = outcome.buffers.into_iter();
         let mut next = || buffers.next().expect("both areas and the map");
@@ -295,7 +356,7 @@ impl Kept {
     }
 }
 
-/// One store from elsewhere, and writes and cuts of it.
+/// One store from elsewhere, and decisions and cuts carried out on it.
 pub fn from_elsewhere(
     harness: &mut Harness,
     rng: &mut Rng,
@@ -319,7 +380,7 @@ pub fn from_elsewhere(
             if rng.chance(15) {
                 kept.cut(harness, rng)?;
             } else {
-                kept.write(harness, rng)?;
+                kept.carry_out(harness, rng)?;
             }
         }
     }

@@ -16,21 +16,33 @@ struct Fault {
     block: i128,
     offset: i128,
     make: fn(&mut Input),
+    /// The kind of decision for which alone it is a fault, if it is not one for all.
+    kind: Option<u32>,
 }
 
 fn fault(number: i128, make: fn(&mut Input)) -> Fault {
-    Fault { number, block: 0, offset: 0, make }
+    Fault { number, block: 0, offset: 0, make, kind: None }
 }
 
 /// A fault of one block, which Build names.
 fn fault_at(number: i128, block: i128, make: fn(&mut Input)) -> Fault {
-    Fault { number, block, offset: 0, make }
+    Fault { block, ..fault(number, make) }
+}
+
+/// A fault of what is looked at for decisions of one kind.
+fn fault_of_kind(kind: u32, number: i128, make: fn(&mut Input)) -> Fault {
+    Fault { kind: Some(kind), ..fault(number, make) }
 }
 
 impl Fault {
     /// A fault of a payload, which breaks at this offset.
     fn breaking_at(self, offset: i128) -> Fault {
         Fault { offset, ..self }
+    }
+
+    /// Whether it is one, all faults being made.
+    fn counts(&self, input: &Input) -> bool {
+        self.kind.map_or(true, |kind| kind == input.numbers.kind)
     }
 
     /// The answer if this fault decides.
@@ -46,14 +58,16 @@ impl Fault {
     }
 }
 
-// Where the buffers of Read, Write, Build and the cuts stand.
+// Where the buffers of Read, Build, the cuts and of decisions stand.
 const PATCH: usize = 0;
 const FULL: usize = 1;
 const BASE: usize = 2;
+const DECIDED: usize = 2;
 const LENT_PAGE: usize = 3;
 const MAP: usize = 2;
 // Where the pages stand behind the map.
 const MAPPED_BASE: usize = 3;
+const MAPPED_DECIDED: usize = 3;
 const MAPPED_PAGE: usize = 4;
 
 const SLOT_0: usize = PATCH_HEADER;
@@ -73,7 +87,7 @@ fn header_faults() -> Vec<Fault> {
     ]
 }
 
-/// What Read and Write check alike: pages, lengths, headers, block.
+/// What Read checks first: pages, lengths, headers, block.
 fn common_faults() -> Vec<Fault> {
     let mut faults = vec![
         fault(1, |input| input.buffers[BASE].push(0)),
@@ -104,9 +118,9 @@ fn unsound_payload_1() -> Fault {
 fn patched(m: Option<usize>) -> Areas {
     let mut areas = Areas::fresh(2, m);
     for (block, entries) in [(0, 2), (1, 3)] {
-        let mut page = vec![0; PAGE];
-        page[..entries].fill(7);
-        let written = independent::write(&mut areas.patch, &mut areas.full, block, &[], &page);
+        let payload = [0, 7].repeat(entries);
+        let Areas { patch, full } = &mut areas;
+        let written = independent::carry_out(patch, full, block, 1, &payload, &[]);
         assert_eq!((written.number, written.length as usize), (0, 2 * entries));
     }
     areas
@@ -130,16 +144,43 @@ fn read_full(harness: &mut Harness) -> Result<(), Mismatch> {
     all_sets(harness, &input.at_block(1), &faults)
 }
 
-fn write(harness: &mut Harness) -> Result<(), Mismatch> {
-    let Areas { patch, full } = patched(Some(1));
-    let input = Input::new(Call::Write, vec![patch, full, vec![0; PAGE], vec![0; PAGE]]);
-    let mut faults = common_faults();
-    faults.push(fault(8, |input| input.buffers[LENT_PAGE].iter_mut().for_each(|b| *b = 5)));
-    all_sets(harness, &input.at_block(1), &faults)
+/// Takes the last place away, so that block 1 has none. A byte too many stays one.
+fn one_place_fewer(input: &mut Input) {
+    let length = input.buffers[FULL].len() - PAGE;
+    input.buffers[FULL].truncate(length);
 }
 
-/// What a write with a map and a read by it check alike: pages, lengths, map, headers, block. Of pages
-/// and areas, of which Read and Write have all, one each.
+/// A jump without a value at the end.
+fn unsound_decision(input: &mut Input, payload: usize) {
+    input.buffers[payload].push(0);
+}
+
+/// Decisions of each kind on block 1. The page is too short for FULL_REF alone, the payload unsound for
+/// PATCH alone, the place missing for FULL_REF alone; a kind above 2 takes all of that away. The old slot
+/// is not sound, which is no fault.
+fn carry_out(harness: &mut Harness) -> Result<(), Mismatch> {
+    let Areas { mut patch, full } = patched(Some(2));
+    patch[SLOT_1 + 4] = 1;
+    let mut faults = vec![
+        fault_of_kind(2, 1, |input| input.buffers[LENT_PAGE].truncate(PAGE - 1)),
+        fault(2, |input| input.buffers[PATCH].push(0)),
+        fault(2, |input| input.buffers[FULL].push(0)),
+    ];
+    faults.extend(header_faults());
+    faults.push(fault(5, |input| input.numbers.block = 2));
+    faults.push(fault(6, |input| input.numbers.kind = 3));
+    faults.push(fault_of_kind(2, 8, one_place_fewer));
+    faults.push(fault_of_kind(1, 7, |input| unsound_decision(input, DECIDED)));
+    for kind in 0..3 {
+        let buffers = vec![patch.clone(), full.clone(), vec![0, 7], vec![5; PAGE]];
+        let input = Input::new(Call::CarryOut, buffers).at_block(1).of_kind(kind);
+        all_sets(harness, &input, &faults)?;
+    }
+    Ok(())
+}
+
+/// What a read by a map checks first: pages, lengths, map, headers, block. Of pages and areas, of which
+/// Read has all, one each.
 fn mapped_faults() -> Vec<Fault> {
     let mut faults = vec![
         fault(1, |input| input.buffers[MAPPED_BASE].push(0)),
@@ -188,17 +229,29 @@ fn read_mapped_full(harness: &mut Harness) -> Result<(), Mismatch> {
     all_sets(harness, &Input::new(Call::ReadMapped, buffers).at_block(1), &faults)
 }
 
-fn write_mapped(harness: &mut Harness) -> Result<(), Mismatch> {
-    let [patch, full, _] = five_patched(Some(1));
-    // Pairs of 3 are none of a write's business.
-    let buffers = vec![patch, full, vec![0xFF, 0xFF], vec![0; PAGE], vec![0; PAGE]];
-    let mut faults = mapped_faults();
-    faults.push(fault(8, |input| input.buffers[MAPPED_PAGE].iter_mut().for_each(|b| *b = 5)));
-    let input = Input::new(Call::WriteMapped, buffers).at_block(1);
-    all_sets(harness, &input, &faults)?;
-    faults[0] = fault(1, |input| input.buffers[MAPPED_PAGE].truncate(PAGE - 1));
-    faults[1] = fault(2, |input| input.buffers[FULL].push(0));
-    all_sets(harness, &input, &faults)
+/// The same with a map. Pairs of 3 are none of a decision's business. Of the areas one each, by turns.
+fn carry_out_mapped(harness: &mut Harness) -> Result<(), Mismatch> {
+    let [mut patch, full, _] = five_patched(Some(2));
+    patch[SLOT_1 + 4] = 1;
+    let mut faults = vec![
+        fault_of_kind(2, 1, |input| input.buffers[MAPPED_PAGE].truncate(PAGE - 1)),
+        fault(2, |input| input.buffers[PATCH].push(0)),
+        fault(9, |input| input.buffers[MAP].truncate(1)),
+    ];
+    faults.extend(header_faults());
+    faults.push(fault(5, |input| input.numbers.block = 5));
+    faults.push(fault(6, |input| input.numbers.kind = u32::MAX));
+    faults.push(fault_of_kind(2, 8, one_place_fewer));
+    faults.push(fault_of_kind(1, 7, |input| unsound_decision(input, MAPPED_DECIDED)));
+    for kind in 0..3 {
+        if kind == 1 {
+            faults[1] = fault(2, |input| input.buffers[FULL].push(0));
+        }
+        let buffers = vec![patch.clone(), full.clone(), vec![0xFF; 2], vec![0, 7], vec![5; PAGE]];
+        let input = Input::new(Call::CarryOutMapped, buffers).at_block(1).of_kind(kind);
+        all_sets(harness, &input, &faults)?;
+    }
+    Ok(())
 }
 
 /// What both cuts check alike: lengths, headers, K. K = n is no fault.
@@ -382,19 +435,28 @@ fn steps(harness: &mut Harness) -> Result<(), Mismatch> {
 }
 
 /// Whether a call without a fault did its work.
-fn did(call: Call, answer: &Answer) -> bool {
-    answer.number() == 0 && (call != Call::Next || answer.0[1] == 1)
+fn did(input: &Input, answer: &Answer) -> bool {
+    let kind = input.numbers.kind.into();
+    match input.call {
+        Call::Next => answer.0[..2] == [0, 1],
+        // The payload has two bytes.
+        Call::CarryOut | Call::CarryOutMapped => {
+            *answer == Answer::of(&[0, kind, if kind == 1 { 2 } else { 0 }])
+        }
+        _ => answer.number() == 0,
+    }
 }
 
-/// Tries every set of the faults; the first of them must decide.
+/// Tries every set of the faults; the first of them that is one must decide.
 fn all_sets(harness: &mut Harness, start: &Input, faults: &[Fault]) -> Result<(), Mismatch> {
     for set in 0..1u32 << faults.len() {
         let chosen = || faults.iter().enumerate().filter(|(at, _)| set >> at & 1 == 1);
         let mut input = start.clone();
         chosen().for_each(|(_, fault)| (fault.make)(&mut input));
         let answer = harness.check(&input)?.answer;
-        let expected = chosen().next().map(|(_, fault)| fault.answer(&input));
-        let held = expected.map_or(did(input.call, &answer), |expected| answer == expected);
+        let first = chosen().find(|(_, fault)| fault.counts(&input));
+        let expected = first.map(|(_, fault)| fault.answer(&input));
+        let held = expected.map_or(did(&input, &answer), |expected| answer == expected);
         if !held {
             let numbers: Vec<i128> = chosen().map(|(_, fault)| fault.number).collect();
             return Err(Mismatch {
@@ -413,10 +475,10 @@ pub fn check(harness: &mut Harness) -> Result<(), Mismatch> {
     highest(harness)?;
     read_patch(harness)?;
     read_full(harness)?;
-    write(harness)?;
+    carry_out(harness)?;
     read_mapped_patch(harness)?;
     read_mapped_full(harness)?;
-    write_mapped(harness)?;
+    carry_out_mapped(harness)?;
     build_patches(harness)?;
     build_full(harness)?;
     without_areas(harness)?;

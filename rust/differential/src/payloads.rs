@@ -5,14 +5,17 @@
 //! * of a payload that is not sound it gives those before the offset that Apply gives, and stops there;
 //! * once it has ended or stopped it stays where it is;
 //! * a sound payload is the one spelling of its entries: no other bytes list the same;
-//! * both reads and Build give the same offset for a slot with that payload, and Build its block.
+//! * both reads and Build give the same offset for a slot with that payload, and Build its block;
+//! * carried out as a patch, with a map and without, it is refused with 7 just where Apply gives 7, and
+//!   without an offset; where it is taken, Show gives its bytes, and Read Apply's page.
 //!
 //! Every call of it is also compared with the independent implementation.
 
 use crate::call::{
-    first_difference, Answer, Call, Input, BEGINNING, PAGE, PATCH_HEADER, PAYLOAD, SLOT,
+    first_difference, Answer, Call, Input, Outcome, BEGINNING, FULL_HEADER, PAGE, PATCH_HEADER,
+    PAYLOAD, SLOT,
 };
-use crate::generate::{self, Areas};
+use crate::generate::{self, Areas, Decision};
 use crate::harness::{Harness, Mismatch};
 use crate::rng::Rng;
 
@@ -68,8 +71,16 @@ fn step(harness: &mut Harness, payload: &[u8], stands: (u64, i32)) -> Result<Ans
     Ok(harness.check(&Input::step(payload, stands))?.answer)
 }
 
-/// Apply over a base of zeros, held against what the reader gave. Its number and offset.
-fn apply(harness: &mut Harness, payload: &[u8], gave: &Readout) -> Result<[i128; 2], Mismatch> {
+/// What Apply made of a payload.
+struct Applied {
+    number: i128,
+    offset: i128,
+    /// The page, if it was done.
+    page: Vec<u8>,
+}
+
+/// Apply over a base of zeros, held against what the reader gave.
+fn apply(harness: &mut Harness, payload: &[u8], gave: &Readout) -> Result<Applied, Mismatch> {
     let buffers = vec![Vec::new(), payload.to_vec(), vec![0xEE; PAGE]];
     let outcome = harness.check(&Input::new(Call::Apply, buffers))?;
     let [number, entries, last, offset, _] = outcome.answer.0;
@@ -80,7 +91,7 @@ fn apply(harness: &mut Harness, payload: &[u8], gave: &Readout) -> Result<[i128;
     if number != 0 {
         let stops = at == offset;
         demand(stops, payload, || format!("Apply gives offset {offset}, a reader stops at {at}"))?;
-        return Ok([number, offset]);
+        return Ok(Applied { number, offset, page: Vec::new() });
     }
     demand(at == payload.len() as i128, payload, || format!("a reader ends at {at}"))?;
     let mut page = vec![0; PAGE];
@@ -93,14 +104,14 @@ fn apply(harness: &mut Harness, payload: &[u8], gave: &Readout) -> Result<[i128;
     demand(difference.is_none(), payload, || {
         format!("Apply and a reader make other pages: {difference:?}")
     })?;
-    Ok([number, offset])
+    Ok(Applied { number, offset, page })
 }
 
 /// Both reads and Build of a store with the payload in a PATCH slot.
 fn in_a_slot(
     harness: &mut Harness,
     payload: &[u8],
-    [number, offset]: [i128; 2],
+    &Applied { number, offset, .. }: &Applied,
 ) -> Result<(), Mismatch> {
     let Areas { mut patch, full } = Areas::fresh(BLOCKS, None);
     let start = PATCH_HEADER + SLOT * BLOCK;
@@ -120,6 +131,58 @@ fn in_a_slot(
     })?;
     let named = if number == 0 { 0 } else { BLOCK as i128 };
     demand(built[1] == named, payload, || format!("Build gives {number} at block {}", built[1]))
+}
+
+/// The payload carried out, with a map and without, over a slot and a place that hold something else. It
+/// is 7 without an offset where Apply gave 7, else the block shows the payload and reads as Apply's page.
+/// The page beside it has no bytes, or those that Apply made: it is not looked at.
+fn carried_out(harness: &mut Harness, payload: &[u8], made: &Applied) -> Result<(), Mismatch> {
+    let Areas { mut patch, mut full } = Areas::fresh(BLOCKS, Some(BLOCKS));
+    patch[PATCH_HEADER + SLOT * BLOCK..][..SLOT].fill(0x3C);
+    full[FULL_HEADER + PAGE * BLOCK..][..PAGE].fill(0x3C);
+    let decision = Decision { kind: 1, payload: payload.to_vec(), page: made.page.clone() };
+    let block = BLOCK as u64;
+    let lent = vec![patch, full];
+    let plain = harness.check(&decision.input(Call::CarryOut, lent.clone(), block))?;
+    let with_map = [&lent[..], &[vec![0xFF]]].concat();
+    let mapped = harness.check(&decision.input(Call::CarryOutMapped, with_map, block))?;
+    let (expected, map) = match made.number {
+        0 => (Answer::of(&[0, 1, payload.len() as i128]), 0xFB),
+        _ => (Answer::of(&[7]), 0xFF),
+    };
+    let answers = [plain.answer, mapped.answer];
+    demand(answers == [expected; 2], payload, || {
+        format!("Apply gives {}, carried out {answers:?}", made.number)
+    })?;
+    let alike = plain.buffers[..2] == mapped.buffers[..2] && mapped.buffers[2] == [map];
+    demand(alike, payload, || "carried out otherwise with a map".to_string())?;
+    if made.number != 0 {
+        return demand(plain.buffers[..2] == lent, payload, || "bytes of 7 changed".to_string());
+    }
+    shown_and_read(harness, payload, plain, &made.page)
+}
+
+/// A block after its payload was taken. Of its old place zeros are left.
+fn shown_and_read(
+    harness: &mut Harness,
+    payload: &[u8],
+    taken: Outcome,
+    page: &[u8],
+) -> Result<(), Mismatch> {
+    let block = BLOCK as u64;
+    let [patch, full] = [&taken.buffers[0], &taken.buffers[1]];
+    let zeros = full[FULL_HEADER..].iter().all(|byte| *byte == 0);
+    demand(zeros, payload, || "taken, but its place is not zeros".to_string())?;
+    let show = Input::new(Call::Show, vec![patch.clone()]).at_block(block);
+    let [at, length, ..] = harness.check(&show)?.answer.0.map(|member| member as usize);
+    let shown = patch.get(at..at + length);
+    demand(shown == Some(payload), payload, || format!("taken, but {shown:02X?} is shown"))?;
+    let buffers = vec![patch.clone(), full.clone(), Vec::new(), vec![0xEE; PAGE]];
+    let read = harness.check(&Input::new(Call::Read, buffers).at_block(block))?;
+    let difference = first_difference(&read.buffers[3], page);
+    demand(read.answer == Answer::of(&[0, 1]) && difference.is_none(), payload, || {
+        format!("taken, but read with {:?}: {difference:?}", read.answer)
+    })
 }
 
 /// The writer's spelling of entries in rising order.
@@ -147,8 +210,9 @@ fn check_one(harness: &mut Harness, payload: &[u8]) -> Result<Readout, Mismatch>
         || format!("sound, but its entries are spelled {:02X?}", spelled(&gave.entries));
     demand(gave.number != 0 || spelled(&gave.entries) == payload, payload, otherwise)?;
     if (1..=PAYLOAD).contains(&payload.len()) {
-        in_a_slot(harness, payload, applied)?;
+        in_a_slot(harness, payload, &applied)?;
     }
+    carried_out(harness, payload, &applied)?;
     Ok(gave)
 }
 

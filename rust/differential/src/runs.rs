@@ -1,26 +1,44 @@
-//! Long runs of writes and cuts, held to the demand on runs. An accepted cut wipes earlier writes to the
-//! blocks that it covers, and only those blocks may have another base page after it.
+//! Long runs of decisions that are carried out and of cuts, held to the demand on runs. An accepted cut
+//! wipes earlier decisions on the blocks that it covers, and only those blocks may have another base page
+//! after it.
 //!
-//! * fresh areas given only each block's last accepted write that no later accepted cut covers, in any
-//!   order, hold the same bytes;
-//! * each block reads as the write that stands over its base at the end, or as its base if there is
-//!   none, and Build accepts;
-//! * the highest block is the last whose standing page differs from its base;
+//! The model of a run is a dictionary: each block's last accepted decision that no later accepted cut
+//! covers. It is written from the documents, and so is what it says of bytes:
+//!
+//! * a decision is accepted just where its block, its kind, its place, its payload and the map are right,
+//!   and answered with its kind and, for PATCH, its payload's length;
+//! * the areas, and the map, hold the bytes that the layout has for the dictionary, and no others; fresh
+//!   areas given only its decisions, in any order, hold the same;
+//! * each block reads as its base for EMPTY or without a decision, as its base with the entries for PATCH,
+//!   as the page for FULL_REF, and Build accepts;
+//! * the highest block is the last whose decision is not EMPTY.
+//!
+//! Most runs are decided by Compare: each decision is that of a Compare over the block's base that answered
+//! 0, with the page that it compared. Of these more is demanded:
+//!
+//! * each block reads as the page that was compared last, and is EMPTY just where that is its base;
 //! * two runs whose bases agree at the end leave equal bytes exactly when each block reads the same.
 //!   Block by block: where a block's base pages agree at the end, slot and place are equal exactly when
 //!   it reads the same, whatever the other blocks' bases are.
 //!
-//! Half of the runs begin with a map of zeros that is lent to every write and every cut. It is a third
+//! The other runs carry out decisions from elsewhere too, which no Compare has made: any sound payload, and
+//! whatever may stand beside the kinds that do not look at it.
+//!
+//! Half of the runs begin with a map of zeros that is lent to every decision and every cut. It is a third
 //! buffer of the run: the demands hold for its bytes too, and at the end it is the map that Build makes.
 //! Whether it was kept or built, each block reads by it as Read reads it.
 //!
 //! Every call of it is also compared with the independent implementation.
 
+use std::collections::BTreeMap;
+
 use crate::call::{
-    first_difference, Answer, Call, Input, Outcome, FULL_HEADER, PAGE, PATCH_HEADER, SLOT,
+    first_difference, Answer, Call, Input, Numbers, Outcome, FULL_HEADER, PAGE, PATCH_HEADER,
+    PAYLOAD, SLOT,
 };
-use crate::generate::{self, Areas, STRANGE_NUMBERS};
+use crate::generate::{self, Areas, Decision, STRANGE_KINDS, STRANGE_NUMBERS};
 use crate::harness::{Harness, Mismatch};
+use crate::pair;
 use crate::rng::Rng;
 
 /// The fixed part of a run: sizes of the areas, and the base page of each block at the beginning.
@@ -28,22 +46,24 @@ struct Ground {
     n: usize,
     m: Option<usize>,
     bases: Vec<Vec<u8>>,
-    /// Whether every write and every cut is lent a map.
+    /// Whether every decision and every cut is lent a map.
     mapped: bool,
     /// How many of 100 operations are cuts.
     cuts: usize,
+    /// How many of 100 decisions are from elsewhere; 0 in a run decided by Compare.
+    elsewhere: usize,
 }
 
 /// What a run has led to.
 struct State {
     patch: Vec<u8>,
     full: Vec<u8>,
-    /// The map, if every write and every cut is lent it.
+    /// The map, if every decision and every cut is lent it.
     map: Option<Vec<u8>>,
     /// Each block's base page by now.
     bases: Vec<Vec<u8>>,
-    /// Each block's last accepted page that no later cut covers.
-    last: Vec<Option<Vec<u8>>>,
+    /// Each block's last accepted decision that no later accepted cut covers.
+    last: BTreeMap<usize, Decision>,
 }
 
 fn broken(what: String) -> Mismatch {
@@ -62,13 +82,43 @@ fn base_page(rng: &mut Rng) -> Vec<u8> {
     generate::page_of_base(&generate::base(rng))
 }
 
+/// The entries of a payload, if it is sound.
+fn entries_of(payload: &[u8]) -> Option<Vec<(usize, u8)>> {
+    let mut entries = Vec::new();
+    let (mut next, mut rest) = (0, payload);
+    while !rest.is_empty() {
+        let (jump, value, after) = match rest {
+            [255, low, high, value, after @ ..] => {
+                let jump = usize::from(u16::from_le_bytes([*low, *high]));
+                (Some(jump).filter(|jump| *jump >= 255)?, value, after)
+            }
+            [jump @ 0..=254, value, after @ ..] => (usize::from(*jump), value, after),
+            _ => return None,
+        };
+        entries.push((next + jump, *value));
+        next += jump + 1;
+        rest = after;
+    }
+    ((1..=PAYLOAD).contains(&payload.len()) && next <= PAGE).then_some(entries)
+}
+
+/// The pair that stands in a map for a block of this kind.
+fn pair_of_kind(kind: u32) -> u8 {
+    [0, 2, 1][kind as usize]
+}
+
 impl Ground {
     fn random(rng: &mut Rng) -> Ground {
         let n = rng.between(1, 12);
         let m = generate::pages(rng, n);
         let bases = (0..n).map(|_| base_page(rng)).collect();
-        // A run with many cuts has few writes left at the end.
-        Ground { n, m, bases, mapped: rng.chance(50), cuts: rng.pick(&[0, 4, 12]) }
+        // A run with many cuts has few decisions left at the end.
+        let (mapped, cuts) = (rng.chance(50), rng.pick(&[0, 4, 12]));
+        Ground { n, m, bases, mapped, cuts, elsewhere: rng.pick(&[0, 0, 0, 30, 60]) }
+    }
+
+    fn decided_by_compare(&self) -> bool {
+        self.elsewhere == 0
     }
 
     /// The bytes of a map.
@@ -87,7 +137,7 @@ impl Ground {
             full: next(),
             map: self.mapped.then(|| vec![0; self.map_len()]),
             bases: self.bases.clone(),
-            last: vec![None; self.n],
+            last: BTreeMap::new(),
         })
     }
 }
@@ -103,53 +153,124 @@ impl State {
         }
     }
 
-    /// The page that stands: the block's last accepted one that no later cut covers, or its base.
-    fn standing(&self, block: usize) -> &[u8] {
-        self.last[block].as_ref().unwrap_or(&self.bases[block])
+    /// The kind of the block by the dictionary.
+    fn kind(&self, block: usize) -> u32 {
+        self.last.get(&block).map_or(0, |decision| decision.kind)
+    }
+
+    /// The page that the block reads as, by the dictionary.
+    fn standing(&self, block: usize) -> Vec<u8> {
+        let mut page = self.bases[block].clone();
+        match self.last.get(&block) {
+            Some(Decision { kind: 1, payload, .. }) => {
+                let entries = entries_of(payload).expect("an accepted payload");
+                entries.into_iter().for_each(|(place, value)| page[place] = value);
+            }
+            Some(Decision { kind: 2, page: stored, .. }) => page.clone_from(stored),
+            _ => {}
+        }
+        page
+    }
+
+    /// The areas and the map, written out from the dictionary.
+    fn written_out(&self, ground: &Ground) -> State {
+        let Areas { mut patch, mut full } = Areas::fresh(ground.n, ground.m);
+        let mut map = vec![0; ground.map_len()];
+        for (block, Decision { kind, payload, page }) in &self.last {
+            let slot = &mut patch[PATCH_HEADER + SLOT * block..][..SLOT];
+            match kind {
+                1 => slot.copy_from_slice(&generate::patch_slot(payload)),
+                _ => slot[0] = *kind as u8,
+            }
+            if *kind == 2 {
+                full[FULL_HEADER + PAGE * block..][..PAGE].copy_from_slice(page);
+            }
+            generate::set_pair(&mut map, *block, pair_of_kind(*kind));
+        }
+        let map = self.map.is_some().then_some(map);
+        State { patch, full, map, bases: self.bases.clone(), last: self.last.clone() }
+    }
+
+    /// Whether a decision must be accepted.
+    fn acceptable(&self, block: u64, decision: &Decision) -> bool {
+        let n = self.bases.len();
+        let places = self.full.len().saturating_sub(FULL_HEADER) / PAGE;
+        let room = self.map.as_ref().map_or(true, |map| 4 * map.len() >= n);
+        let Decision { kind, payload, page } = decision;
+        room && block < n as u64
+            && match kind {
+                0 => true,
+                1 => entries_of(payload).is_some(),
+                2 => page.len() == PAGE && block < places as u64,
+                _ => false,
+            }
     }
 
     /// Lends both areas whole, and the map if there is one, with the call's other buffers behind them.
-    /// Whether the call is accepted.
     fn lend(
         &mut self,
         harness: &mut Harness,
         [plain, mapped]: [Call; 2],
-        block: u64,
+        numbers: Numbers,
         others: Vec<Vec<u8>>,
-    ) -> Result<bool, Mismatch> {
+    ) -> Result<Answer, Mismatch> {
         let mut buffers = vec![std::mem::take(&mut self.patch), std::mem::take(&mut self.full)];
         let map = self.map.take();
         let call = if map.is_some() { mapped } else { plain };
         buffers.extend(map);
         buffers.extend(others);
-        let Outcome { answer, buffers } =
-            harness.check(&Input::new(call, buffers).at_block(block))?;
+        let mut input = Input::new(call, buffers);
+        input.numbers = numbers;
+        let Outcome { answer, buffers } = harness.check(&input)?;
         let mut buffers = buffers.into_iter();
         let mut next = || buffers.next().unwrap_or_default();
         (self.patch, self.full) = (next(), next());
         self.map = (call == mapped).then(next);
-        Ok(answer.number() == 0)
+        Ok(answer)
     }
 
+    fn carry_out(
+        &mut self,
+        harness: &mut Harness,
+        block: u64,
+        decision: Decision,
+    ) -> Result<bool, Mismatch> {
+        let acceptable = self.acceptable(block, &decision);
+        let numbers = Numbers { block, kind: decision.kind, ..Numbers::default() };
+        let others = vec![decision.payload.clone(), decision.page.clone()];
+        let calls = [Call::CarryOut, Call::CarryOutMapped];
+        let answer = self.lend(harness, calls, numbers, others)?;
+        let length = if decision.kind == 1 { decision.payload.len() } else { 0 };
+        let done = answer == Answer::of(&[0, decision.kind.into(), length as i128]);
+        demand(done == acceptable && done == (answer.number() == 0), || {
+            format!("kind {} on block {block}: {:?}", decision.kind, answer.0)
+        })?;
+        if done {
+            self.last.insert(block as usize, decision);
+        }
+        Ok(done)
+    }
+
+    /// A write by the pair. Where Compare is refused there is nothing to carry out.
     fn write(
         &mut self,
         harness: &mut Harness,
         block: u64,
-        base: Vec<u8>,
-        page: Vec<u8>,
+        base: &[u8],
+        page: &[u8],
     ) -> Result<bool, Mismatch> {
-        let others = vec![base, page.clone()];
-        let accepted = self.lend(harness, [Call::Write, Call::WriteMapped], block, others)?;
-        if accepted {
-            self.last[block as usize] = Some(page);
+        match pair::decide(harness, base, page)? {
+            Some(decision) => self.carry_out(harness, block, decision),
+            None => Ok(false),
         }
-        Ok(accepted)
     }
 
     fn cut(&mut self, harness: &mut Harness, k: u64) -> Result<bool, Mismatch> {
-        let accepted = self.lend(harness, [Call::Cut, Call::CutMapped], k, Vec::new())?;
+        let numbers = Numbers { block: k, ..Numbers::default() };
+        let answer = self.lend(harness, [Call::Cut, Call::CutMapped], numbers, Vec::new())?;
+        let accepted = answer.number() == 0;
         if accepted {
-            self.last.iter_mut().skip(k as usize).for_each(|last| *last = None);
+            self.last.split_off(&(k as usize));
         }
         Ok(accepted)
     }
@@ -157,7 +278,7 @@ impl State {
     /// A cut of blocks that there are, which must be accepted. K = n covers none of them.
     fn accepted_cut(&mut self, harness: &mut Harness, k: usize) -> Result<(), Mismatch> {
         let accepted = self.cut(harness, k as u64)?;
-        demand(accepted, || format!("a cut at {k} of {} blocks is refused", self.last.len()))
+        demand(accepted, || format!("a cut at {k} of {} blocks is refused", self.bases.len()))
     }
 
     /// An operation that is lent a map one byte too short, and so refused.
@@ -168,7 +289,7 @@ impl State {
         let kept = self.map.clone();
         self.map.iter_mut().for_each(|map| map.truncate(map.len() - 1));
         let accepted = operate(self)?;
-        demand(!accepted, || "a write or a cut with a short map is accepted".to_string())?;
+        demand(!accepted, || "a decision or a cut with a short map is accepted".to_string())?;
         self.map = kept;
         Ok(())
     }
@@ -234,9 +355,19 @@ pub struct Met {
     pub other_bases: u64,
     pub blocks_alike: u64,
     pub blocks_different: u64,
-    /// Runs with a map lent to every write and cut, and without.
+    /// Runs with a map lent to every decision and cut, and without.
     pub mapped: u64,
     pub unmapped: u64,
+    /// Runs decided by Compare, and runs with decisions from elsewhere among them.
+    pub by_compare: u64,
+    pub with_others: u64,
+    /// Decisions of Compare that were accepted and refused, decisions from elsewhere that were accepted,
+    /// decisions that were spoiled and so refused, and Compares that were refused.
+    pub decisions: u64,
+    pub refused_decisions: u64,
+    pub from_elsewhere: u64,
+    pub spoiled: u64,
+    pub refused_compares: u64,
     /// Cuts that were accepted and refused, and base pages that were changed after one.
     pub cuts: u64,
     pub refused_cuts: u64,
@@ -248,47 +379,88 @@ impl Met {
     pub fn hole(&self) -> Option<String> {
         let Met { alike, different, other_bases, mapped, unmapped, .. } = *self;
         let Met { blocks_alike, blocks_different, cuts, refused_cuts, new_bases, .. } = *self;
+        let Met { by_compare, with_others, decisions, refused_decisions, .. } = *self;
+        let Met { from_elsewhere, spoiled, refused_compares, .. } = *self;
         let met = [alike, different, other_bases, blocks_alike, blocks_different, mapped, unmapped];
-        let met = met.into_iter().chain([cuts, refused_cuts, new_bases]);
+        let met = met.into_iter().chain([cuts, refused_cuts, new_bases, by_compare, with_others]);
+        let met = met.chain([decisions, refused_decisions, from_elsewhere, spoiled]);
+        let met = met.chain([refused_compares]);
         met.min().filter(|least| *least == 0).map(|_| format!("{self:?}"))
     }
 }
 
-/// One random write: mostly of a block that there is, now and then one that must be refused.
+/// The decision with a fault for which it is refused on every block.
+fn spoiled(rng: &mut Rng, decision: Decision) -> Decision {
+    let Decision { mut payload, .. } = decision.clone();
+    match rng.below(3) {
+        0 => Decision { kind: rng.pick(&STRANGE_KINDS), ..decision },
+        // A jump without a value, or a byte too many.
+        1 => {
+            payload.push(0);
+            Decision { kind: 1, payload, ..decision }
+        }
+        _ => Decision { kind: 2, page: rng.bytes(PAGE - 1), ..decision },
+    }
+}
+
+/// One decision by Compare, mostly on a block that there is, now and then one that must be refused.
 fn random_write(
     harness: &mut Harness,
     rng: &mut Rng,
     ground: &Ground,
     state: &mut State,
+    met: &mut Met,
 ) -> Result<(), Mismatch> {
     let block = rng.below(ground.n);
     let base = state.base(rng, block);
     // From the base, or from the page of before: the small change upon a small change.
-    let from = match &state.last[block] {
-        Some(last) if rng.chance(50) => last.clone(),
-        _ => generate::page_of_base(&base),
-    };
+    let from = if rng.chance(50) { state.standing(block) } else { state.bases[block].clone() };
     let page = generate::modified(rng, &from);
-    match rng.below(12) {
+    let at = block as u64;
+    match rng.below(14) {
         0 => {
             let beyond = rng.pick(&STRANGE_NUMBERS).max(ground.n as u64);
-            state.write(harness, beyond, base, page)?;
+            state.write(harness, beyond, &base, &page)?;
         }
         1 => {
             let short = rng.bytes(PAGE - 1);
-            state.write(harness, block as u64, base, short)?;
+            state.write(harness, at, &base, &short)?;
+            met.refused_compares += 1;
         }
         2 => {
             let odd = rng.pick(&[1, 8191, 8193]);
-            state.write(harness, block as u64, rng.bytes(odd), page)?;
+            state.write(harness, at, &rng.bytes(odd), &page)?;
+            met.refused_compares += 1;
         }
         3 if ground.mapped => {
-            state.with_short_map(|state| state.write(harness, block as u64, base, page))?;
+            state.with_short_map(|state| state.write(harness, at, &base, &page))?;
+        }
+        4 => {
+            if let Some(decision) = pair::decide(harness, &base, &page)? {
+                state.carry_out(harness, at, spoiled(rng, decision))?;
+                met.spoiled += 1;
+            }
         }
         _ => {
-            state.write(harness, block as u64, base, page)?;
+            let accepted = state.write(harness, at, &base, &page)?;
+            met.decisions += u64::from(accepted);
+            met.refused_decisions += u64::from(!accepted);
         }
     }
+    Ok(())
+}
+
+/// A decision that no Compare need have made, on a block that there is.
+fn random_decision(
+    harness: &mut Harness,
+    rng: &mut Rng,
+    ground: &Ground,
+    state: &mut State,
+    met: &mut Met,
+) -> Result<(), Mismatch> {
+    let block = rng.below(ground.n) as u64;
+    let accepted = state.carry_out(harness, block, generate::decision_from_elsewhere(rng))?;
+    met.from_elsewhere += u64::from(accepted);
     Ok(())
 }
 
@@ -338,31 +510,29 @@ fn random_run(
     for _ in 0..operations {
         if rng.chance(ground.cuts) {
             random_cut(harness, rng, ground, &mut state, met)?;
+        } else if rng.chance(ground.elsewhere) {
+            random_decision(harness, rng, ground, &mut state, met)?;
         } else {
-            random_write(harness, rng, ground, &mut state)?;
+            random_write(harness, rng, ground, &mut state, met)?;
         }
     }
     Ok(state)
 }
 
-/// Fresh areas given only the writes that stand, in shuffled order.
-fn last_writes_alone(
+/// Fresh areas given only the decisions that stand, in shuffled order.
+fn last_decisions_alone(
     harness: &mut Harness,
     rng: &mut Rng,
     ground: &Ground,
     run: &State,
 ) -> Result<State, Mismatch> {
     let mut state = ground.fresh(harness, rng)?;
-    // Over the bases at the end: each stood since before the write that it is the base of.
     state.bases = run.bases.clone();
-    let mut order: Vec<usize> = (0..ground.n).collect();
+    let mut order: Vec<(&usize, &Decision)> = run.last.iter().collect();
     rng.shuffle(&mut order);
-    for block in order {
-        if let Some(page) = &run.last[block] {
-            let base = state.base(rng, block);
-            let accepted = state.write(harness, block as u64, base, page.clone())?;
-            demand(accepted, || format!("the last accepted write of block {block} is refused"))?;
-        }
+    for (block, decision) in order {
+        let accepted = state.carry_out(harness, *block as u64, decision.clone())?;
+        demand(accepted, || format!("the last accepted decision on block {block} is refused"))?;
     }
     Ok(state)
 }
@@ -376,11 +546,25 @@ fn check_reading_back(
     for block in 0..ground.n {
         let base = state.base(rng, block);
         let page = state.read(harness, block, base)?;
-        if let Some(found) = first_difference(&page, state.standing(block)) {
+        if let Some(found) = first_difference(&page, &state.standing(block)) {
             return Err(broken(format!("block {block} reads wrongly: {found}")));
+        }
+        if ground.decided_by_compare() {
+            let compared = state.last.get(&block).map(|decision| &decision.page);
+            demand(page == *compared.unwrap_or(&state.bases[block]), || {
+                format!("block {block} reads as another page than was compared")
+            })?;
         }
     }
     Ok(())
+}
+
+/// The bytes are those that the layout has for the dictionary.
+fn check_bytes(ground: &Ground, state: &State) -> Result<(), Mismatch> {
+    let written_out = state.written_out(ground);
+    demand(state.same_bytes(&written_out), || {
+        format!("other bytes than the decisions have: {}", state.difference(&written_out))
+    })
 }
 
 /// Build accepts the areas and makes the map that was kept, if one was; each block reads the same by it;
@@ -409,18 +593,25 @@ fn check_map(
         let input = Input::new(Call::LookUp, vec![map.clone()]).told(n).at_block(block);
         let pair = harness.check(&input)?.answer.0[1];
         counted[pair as usize] += 1;
+        let kind = state.kind(block as usize);
+        demand(pair == pair_of_kind(kind).into(), || {
+            format!("block {block} of kind {kind} has pair {pair}")
+        })?;
         let equal = state.standing(block as usize) == state.bases[block as usize];
-        demand((pair == 0) == equal, || format!("block {block} has pair {pair}"))?;
+        demand(!ground.decided_by_compare() || (pair == 0) == equal, || {
+            format!("block {block} has pair {pair}, and equals its base: {equal}")
+        })?;
     }
     let tally = harness.check(&Input::new(Call::Tally, vec![map]).told(n))?.answer.0;
     demand(tally[..3] == [0, counted[2], counted[1]], || format!("tally {tally:?}"))
 }
 
-/// One more than the highest block whose standing page differs from its base, or 0.
+/// One more than the highest block whose decision is not EMPTY, or 0. In a run decided by Compare those are
+/// the blocks that differ from their bases.
 fn check_highest(harness: &mut Harness, ground: &Ground, state: &State) -> Result<(), Mismatch> {
     let answer = harness.check(&Input::new(Call::Highest, vec![state.patch.clone()]))?.answer;
-    let differs = |block: &usize| state.standing(*block) != state.bases[*block];
-    let blocks = (0..ground.n).rev().find(differs).map_or(0, |block| block + 1);
+    let in_use = |block: &usize| state.kind(*block) != 0;
+    let blocks = (0..ground.n).rev().find(in_use).map_or(0, |block| block + 1);
     demand(answer == Answer::of(&[0, blocks as i128]), || {
         format!("highest gives {:?}, and {blocks} blocks are in use", answer.0)
     })
@@ -450,9 +641,8 @@ fn second_run(
         let is_spared = if own_bases { rng.chance(50) } else { Some(block) == spared };
         if !is_spared {
             let base = state.base(rng, block);
-            // Where no write of the first run stands this is its base, which is EMPTY again.
-            let page = first.standing(block).to_vec();
-            state.write(harness, block as u64, base, page)?;
+            // Where no decision of the first run stands this is its base, which is EMPTY again.
+            state.write(harness, block as u64, &base, &first.standing(block))?;
         }
     }
     Ok(state)
@@ -512,17 +702,50 @@ pub fn run(
     let ground = Ground::random(rng);
     let state = random_run(harness, rng, &ground, operations, met)?;
     check_reading_back(harness, rng, &ground, &state)?;
+    check_bytes(&ground, &state)?;
     check_map(harness, rng, &ground, &state)?;
     check_highest(harness, &ground, &state)?;
-    let alone = last_writes_alone(harness, rng, &ground, &state)?;
+    let alone = last_decisions_alone(harness, rng, &ground, &state)?;
     demand(state.same_bytes(&alone), || {
-        format!("the writes that stand alone leave other bytes: {}", state.difference(&alone))
+        format!("the decisions that stand alone leave other bytes: {}", state.difference(&alone))
     })?;
-    check_two_runs(harness, rng, &ground, &state, met)?;
+    if ground.decided_by_compare() {
+        check_two_runs(harness, rng, &ground, &state, met)?;
+        met.by_compare += 1;
+    } else {
+        met.with_others += 1;
+    }
     if ground.mapped {
         met.mapped += 1;
     } else {
         met.unmapped += 1;
     }
     Ok(())
+}
+
+#[cfg(test)]
+mod tests {
+    use super::*;
+
+    /// The model's own reading of payloads, by hand.
+    #[test]
+    fn the_model_knows_sound_payloads() {
+        assert_eq!(entries_of(&[0, 7, 0xFE, 1]), Some(vec![(0, 7), (255, 1)]));
+        assert_eq!(entries_of(&[0xFF, 0xFF, 0x1F, 1]), Some(vec![(8191, 1)]));
+        assert_eq!(entries_of(&[0; 504]).map(|entries| entries.len()), Some(252));
+        let unsound: [&[u8]; 9] = [
+            &[],
+            &[0],
+            &[0xFF, 0, 0],
+            &[0xFF, 0xFE, 0x00, 5],
+            &[0xFF, 0x00, 0x20, 1],
+            &[0xFF, 0xFF, 0x1F, 1, 0, 2],
+            &[0, 7, 0],
+            &[0; 505],
+            &[0; 506],
+        ];
+        for payload in unsound {
+            assert_eq!(entries_of(payload), None, "{payload:02X?}");
+        }
+    }
 }

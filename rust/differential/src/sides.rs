@@ -1,8 +1,8 @@
 //! The three sides that are compared: the C interface, the safe wrapper, and the independent
 //! implementation. Each makes the same call and gives its answer as plain numbers.
 
-use crate::call::{Answer, Call, Numbers, BEGINNING};
-use thonxiliko::{BuildRefusal, Ending, Kind, PayloadRefusal, Refusal, Written};
+use crate::call::{Answer, Call, Numbers, BEGINNING, PAYLOAD};
+use thonxiliko::{BuildRefusal, Decision, Ending, Kind, PayloadRefusal, Refusal, Written};
 use thonxiliko_sys as sys;
 
 /// A buffer as C lends it.
@@ -43,7 +43,7 @@ macro_rules! c {
 /// # Safety
 /// Each buffer of at least one byte is readable and writable, and no two overlap.
 pub unsafe fn library(call: Call, lent: &[Lent], told: &Numbers) -> Answer {
-    let Numbers { n, block, at, position } = *told;
+    let Numbers { n, block, kind, at, position } = *told;
     match (call, lent) {
         (Call::Format, &[patch, full]) => members!(c!(thx_format: patch full;;), number),
         (Call::Compare, &[base, page, payload]) => {
@@ -58,8 +58,9 @@ pub unsafe fn library(call: Call, lent: &[Lent], told: &Numbers) -> Answer {
         (Call::Read, &[patch, full, base, page]) => {
             members!(c!(thx_read: patch full; block; base page), number, kind, offset)
         }
-        (Call::Write, &[patch, full, base, page]) => {
-            members!(c!(thx_write: patch full; block; base page), number, kind, length)
+        (Call::CarryOut, &[patch, full, payload, page]) => {
+            let a = c!(thx_carry_out: patch full; block kind; payload page);
+            members!(a, number, kind, length)
         }
         (Call::Build, &[patch, full, map]) => {
             members!(c!(thx_build: patch full map;;), number, block, offset)
@@ -69,8 +70,8 @@ pub unsafe fn library(call: Call, lent: &[Lent], told: &Numbers) -> Answer {
         (Call::Next, &[payload]) => {
             members!(c!(thx_next: payload; at position;), number, found, at, position, value)
         }
-        (Call::WriteMapped, &[patch, full, map, base, page]) => {
-            let a = c!(thx_write_mapped: patch full map; block; base page);
+        (Call::CarryOutMapped, &[patch, full, map, payload, page]) => {
+            let a = c!(thx_carry_out_mapped: patch full map; block kind; payload page);
             members!(a, number, kind, length)
         }
         (Call::ReadMapped, &[patch, full, map, base, page]) => {
@@ -88,7 +89,7 @@ pub unsafe fn library(call: Call, lent: &[Lent], told: &Numbers) -> Answer {
 
 /// Makes the call on the independent implementation.
 pub fn independent(call: Call, buffers: &mut [&mut [u8]], told: &Numbers) -> Option<Answer> {
-    let Numbers { n, block, at, position } = *told;
+    let Numbers { n, block, kind, at, position } = *told;
     Some(match (call, buffers) {
         (Call::Format, [patch, full]) => members!(independent::format(patch, full), number),
         (Call::Compare, [base, page, payload]) => {
@@ -103,8 +104,9 @@ pub fn independent(call: Call, buffers: &mut [&mut [u8]], told: &Numbers) -> Opt
         (Call::Read, [patch, full, base, page]) => {
             members!(independent::read(patch, full, block, base, page), number, kind, offset)
         }
-        (Call::Write, [patch, full, base, page]) => {
-            members!(independent::write(patch, full, block, base, page), number, kind, length)
+        (Call::CarryOut, [patch, full, payload, page]) => {
+            let a = independent::carry_out(patch, full, block, kind, payload, page);
+            members!(a, number, kind, length)
         }
         (Call::Build, [patch, full, map]) => {
             members!(independent::build(patch, full, map), number, block, offset)
@@ -115,8 +117,8 @@ pub fn independent(call: Call, buffers: &mut [&mut [u8]], told: &Numbers) -> Opt
             let a = independent::next(payload, at, position);
             members!(a, number, found, at, position, value)
         }
-        (Call::WriteMapped, [patch, full, map, base, page]) => {
-            let a = independent::write_mapped(patch, full, map, block, base, page);
+        (Call::CarryOutMapped, [patch, full, map, payload, page]) => {
+            let a = independent::carry_out_mapped(patch, full, map, block, kind, payload, page);
             members!(a, number, kind, length)
         }
         (Call::ReadMapped, [patch, full, map, base, page]) => {
@@ -160,7 +162,45 @@ fn reading(read: Result<Kind, PayloadRefusal>) -> Answer {
     }
 }
 
-/// What the wrapper's writes say of a block.
+/// What the wrapper's Compare says of a page. Its decision must hold the page, and a payload where C's
+/// caller would lend one and of that length; one that holds anything else has a kind that C does not give.
+fn compared(decision: &Decision, page: &[u8]) -> Answer {
+    let a = decision.compared();
+    let kind = a.difference.number();
+    let length = if kind == 1 { a.length } else { 0 };
+    let holds = decision.kind().number() == kind && decision.payload().len() == length;
+    let kind = if holds && decision.page() == page { kind.into() } else { -1 };
+    answer([0, kind, a.length as i128, a.entries as i128, signed(a.last)])
+}
+
+/// What stands in a payload buffer where Compare puts nothing.
+const UNUSED: u8 = 0xEE;
+
+/// A base over which Compare decides just this of the page, if there is one: the wrapper has no other way
+/// to a decision. The page's own bytes for EMPTY, other bytes where there are entries for PATCH, and
+/// everywhere for FULL_REF.
+fn base_deciding(kind: u32, payload: &[u8], page: &[u8]) -> Option<Vec<u8>> {
+    let mut base = page.to_vec();
+    match kind {
+        1 => {
+            let mut step = independent::next(payload, 0, -1);
+            while step.found == 1 {
+                let byte = base.get_mut(step.position as usize)?;
+                *byte = !*byte;
+                step = independent::next(payload, step.at, step.position);
+            }
+        }
+        2 => base.iter_mut().for_each(|byte| *byte = !*byte),
+        _ => {}
+    }
+    let mut own = [UNUSED; PAYLOAD];
+    let compared = independent::compare(&base, page, &mut own);
+    let decides = (compared.number, compared.kind) == (0, kind);
+    let decides = decides && (kind != 1 || own[..compared.length as usize] == *payload);
+    decides.then_some(base)
+}
+
+/// What the wrapper says of a decision that it carried out.
 fn written(a: Written) -> Answer {
     answer([0, a.kind.number().into(), a.length as i128])
 }
@@ -193,14 +233,11 @@ fn step(payload: &[u8], stands: (u64, i32)) -> Option<Answer> {
 
 /// Makes the call through the safe wrapper.
 pub fn wrapper(call: Call, buffers: &mut [&mut [u8]], told: &Numbers) -> Option<Answer> {
-    let Numbers { n, block, at, position } = *told;
+    let Numbers { n, block, kind, at, position } = *told;
     let result = match (call, buffers) {
         (Call::Format, [patch, full]) => thonxiliko::format(patch, full).map(|()| answer([0])),
         (Call::Compare, [base, page, payload]) => {
-            thonxiliko::compare(base, page, payload).map(|a| {
-                let kind = a.difference.number().into();
-                answer([0, kind, a.length as i128, a.entries as i128, signed(a.last)])
-            })
+            thonxiliko::compare(base, page, payload).map(|decision| compared(&decision, page))
         }
         (Call::Apply, [base, payload, page]) => Ok(match thonxiliko::apply(base, payload, page) {
             Ok(a) => answer([0, a.entries as i128, a.last as i128]),
@@ -221,8 +258,12 @@ pub fn wrapper(call: Call, buffers: &mut [&mut [u8]], told: &Numbers) -> Option<
         (Call::Read, [patch, full, base, page]) => {
             Ok(reading(thonxiliko::read(patch, full, block, base, page)))
         }
-        (Call::Write, [patch, full, base, page]) => {
-            thonxiliko::write(patch, full, block, base, page).map(written)
+        (Call::CarryOut, [patch, full, payload, page]) => {
+            let base = base_deciding(kind, payload, page)?;
+            let mut buffer = [UNUSED; PAYLOAD];
+            thonxiliko::compare(&base, page, &mut buffer)
+                .and_then(|decision| thonxiliko::carry_out(patch, full, block, &decision))
+                .map(written)
         }
         (Call::Build, [patch, full, map]) => Ok(match thonxiliko::build(patch, full, map) {
             Ok(()) => answer([0]),
@@ -238,8 +279,12 @@ pub fn wrapper(call: Call, buffers: &mut [&mut [u8]], told: &Numbers) -> Option<
             thonxiliko::tally(map, n).map(|a| answer([0, a.patch.into(), a.full.into()]))
         }
         (Call::Next, [payload]) => return step(payload, (at, position)),
-        (Call::WriteMapped, [patch, full, map, base, page]) => {
-            thonxiliko::write_mapped(patch, full, map, block, base, page).map(written)
+        (Call::CarryOutMapped, [patch, full, map, payload, page]) => {
+            let base = base_deciding(kind, payload, page)?;
+            let mut buffer = [UNUSED; PAYLOAD];
+            thonxiliko::compare(&base, page, &mut buffer)
+                .and_then(|made| thonxiliko::carry_out_mapped(patch, full, map, block, &made))
+                .map(written)
         }
         (Call::ReadMapped, [patch, full, map, base, page]) => {
             Ok(reading(thonxiliko::read_mapped(patch, full, map, block, base, page)))

@@ -1,7 +1,8 @@
-//! Every length from 0 to 1,024 for each buffer of each call, and numbers near 2^64.
+//! Every length from 0 to 1,024 for each buffer of each call, and numbers near 2^64; decisions of every
+//! kind, and kinds near 2^32.
 
-use crate::call::{Call, Input, BEGINNING, PAGE, PATCH_HEADER, PAYLOAD, SLOT};
-use crate::generate::{Areas, POSITIONS, STRANGE_NUMBERS};
+use crate::call::{Answer, Call, Input, BEGINNING, PAGE, PATCH_HEADER, PAYLOAD, SLOT};
+use crate::generate::{Areas, POSITIONS, STRANGE_KINDS, STRANGE_NUMBERS};
 use crate::harness::{Harness, Mismatch};
 use crate::rng::Rng;
 
@@ -10,10 +11,10 @@ const LONGEST: usize = 1024;
 /// A store of two blocks, a patch in block 0 and a full page in block 1.
 fn store() -> Areas {
     let mut areas = Areas::fresh(2, Some(2));
-    let mut page = vec![0; PAGE];
-    page[4000] = 1;
-    independent::write(&mut areas.patch, &mut areas.full, 0, &[], &page);
-    independent::write(&mut areas.patch, &mut areas.full, 1, &[], &[7; PAGE]);
+    let Areas { patch, full } = &mut areas;
+    // Byte 4,000 becomes 1.
+    independent::carry_out(patch, full, 0, 1, &[0xFF, 0xA0, 0x0F, 1], &[]);
+    independent::carry_out(patch, full, 1, 2, &[], &[7; PAGE]);
     areas
 }
 
@@ -30,12 +31,15 @@ fn accepted(call: Call) -> Input {
         Call::Judge => Input::new(call, vec![patch[512..1024].to_vec()]),
         Call::Show => Input::new(call, vec![patch]),
         Call::Read => Input::new(call, vec![patch, full, base, vec![0xEE; PAGE]]),
-        Call::Write => Input::new(call, vec![patch, full, base, page]),
+        // EMPTY, with what is not looked at; the other kinds come of it.
+        Call::CarryOut => Input::new(call, vec![patch, full, vec![100, 4], page]),
         Call::Build => Input::new(call, vec![patch, full, vec![0xEE; 1]]),
         Call::LookUp => Input::new(call, vec![vec![0b0110]]).told(2).at_block(1),
         Call::Tally => Input::new(call, vec![vec![0b0110]]).told(2),
         Call::Next => Input::step(&[100, 4], BEGINNING),
-        Call::WriteMapped => Input::new(call, vec![patch, full, vec![0b0110], base, page]),
+        Call::CarryOutMapped => {
+            Input::new(call, vec![patch, full, vec![0b0110], vec![100, 4], page])
+        }
         Call::ReadMapped => {
             Input::new(call, vec![patch, full, vec![0b0110], base, vec![0xEE; PAGE]])
         }
@@ -58,18 +62,38 @@ fn without_full_area(call: Call) -> Option<Input> {
     })
 }
 
-/// All inputs that the sweeps start from.
-fn starts() -> impl Iterator<Item = Input> {
-    Call::ALL.into_iter().flat_map(|call| [Some(accepted(call)), without_full_area(call)]).flatten()
+/// The same decision of other kinds: PATCH, and FULL_REF where there is a place. Kind 3, which is refused,
+/// stands among them: whatever is beside it is not looked at.
+fn other_kinds(input: &Input) -> Vec<Input> {
+    let carries_out = matches!(input.call, Call::CarryOut | Call::CarryOutMapped);
+    let kinds: &[u32] = match input.buffers.get(1) {
+        _ if !carries_out => &[],
+        Some(full) if full.is_empty() => &[1],
+        _ => &[1, 2, 3],
+    };
+    kinds.iter().map(|kind| input.clone().of_kind(*kind)).collect()
 }
 
-/// Each of them is accepted, so that each refusal in the sweeps is due to what they change.
+/// All inputs that the sweeps start from.
+fn starts() -> impl Iterator<Item = Input> {
+    let both = |call: Call| [Some(accepted(call)), without_full_area(call)];
+    Call::ALL.into_iter().flat_map(both).flatten().flat_map(|input| {
+        let others = other_kinds(&input);
+        std::iter::once(input).chain(others)
+    })
+}
+
+/// Each of them is accepted, so that each refusal in the sweeps is due to what they change; kind 3 is
+/// refused for itself alone.
 pub fn starting_points(harness: &mut Harness) -> Result<(), Mismatch> {
     for input in starts() {
         let outcome = harness.check(&input)?;
         let accepted = match input.call {
             Call::Show => outcome.answer.0[1] > 0,
             Call::Next => outcome.answer.0[1] == 1,
+            Call::CarryOut | Call::CarryOutMapped if input.numbers.kind == 3 => {
+                outcome.answer == Answer::of(&[6])
+            }
             _ => outcome.answer.number() == 0,
         };
         assert!(accepted, "the sweep starts from an accepted {input}");
@@ -123,6 +147,11 @@ pub fn nothing_at_all(harness: &mut Harness) -> Result<(), Mismatch> {
                 let mut input = Input::new(call, empty.clone()).told(number).at_block(number);
                 input.numbers.at = number;
                 harness.check(&input)?;
+                for other in [1, 2, 3, u32::MAX] {
+                    if matches!(call, Call::CarryOut | Call::CarryOutMapped) {
+                        harness.check(&input.clone().of_kind(other))?;
+                    }
+                }
             }
         }
     }
@@ -152,21 +181,40 @@ pub fn places(harness: &mut Harness) -> Result<(), Mismatch> {
     Ok(())
 }
 
+/// Decisions of every kind on every block, with an answer written here: 5 for a block that is not there,
+/// 6 for a kind above 2, else done.
+fn decisions(harness: &mut Harness, call: Call, blocks: &[u64]) -> Result<(), Mismatch> {
+    let kinds = STRANGE_KINDS.iter().copied().chain(0..3);
+    for kind in kinds {
+        for block in blocks {
+            let input = accepted(call).at_block(*block).of_kind(kind);
+            let expected: &[i128] = match (*block < 2, kind) {
+                (false, _) => &[5],
+                (true, 0) => &[0, 0, 0],
+                (true, 1) => &[0, 1, 2],
+                (true, 2) => &[0, 2, 0],
+                (true, _) => &[6],
+            };
+            let answer = harness.check(&input)?.answer;
+            if answer != Answer::of(expected) {
+                let found = format!("answer {:?}, expected {expected:?}", answer.0);
+                return Err(Mismatch { side: "by hand", input: input.to_string(), found });
+            }
+        }
+    }
+    Ok(())
+}
+
 /// Blocks and n near 2^64 and wherever a product could wrap, alone and together.
 pub fn numbers(harness: &mut Harness) -> Result<(), Mismatch> {
     let interesting: Vec<u64> = STRANGE_NUMBERS.iter().copied().chain(0..6).collect();
-    for call in [
-        Call::Show,
-        Call::Read,
-        Call::Write,
-        Call::WriteMapped,
-        Call::ReadMapped,
-        Call::Cut,
-        Call::CutMapped,
-    ] {
+    for call in [Call::Show, Call::Read, Call::ReadMapped, Call::Cut, Call::CutMapped] {
         for block in &interesting {
             harness.check(&accepted(call).at_block(*block))?;
         }
+    }
+    for call in [Call::CarryOut, Call::CarryOutMapped] {
+        decisions(harness, call, &interesting)?;
     }
     for n in &interesting {
         for length in [0, 1, 2, 32_767, 32_768] {

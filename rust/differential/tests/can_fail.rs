@@ -9,7 +9,7 @@ use differential::harness::{independent_outcome, Counts, Harness, Mismatch, Side
 use differential::maps::{self, Elsewhere};
 use differential::rng::Rng;
 use differential::runs::{self, Met};
-use differential::{cases, cuts, orders, payloads};
+use differential::{cases, cuts, orders, payloads, sweep};
 
 const SEED: u64 = 1;
 const MOST_CASES: u64 = 60_000;
@@ -82,8 +82,8 @@ fn invented_entries(input: &Input) -> Outcome {
     })
 }
 
-fn no_length_for_a_full_page(input: &Input) -> Outcome {
-    altered(input, Call::Write, |outcome| {
+fn no_length_for_a_large_page(input: &Input) -> Outcome {
+    altered(input, Call::Compare, |outcome| {
         if outcome.answer.0[1] == 2 {
             outcome.answer.0[2] = 0;
         }
@@ -218,13 +218,48 @@ const WRONG_TALLIES: [(&str, Side); 7] = [
 
 // The shortcuts that give a wrong page.
 
-/// Alters what comes of a Write that is accepted.
-fn altered_write(input: &Input, alter: impl FnOnce(&mut Outcome)) -> Outcome {
-    altered(input, Call::Write, |outcome| {
+fn carries_out(input: &Input) -> bool {
+    matches!(input.call, Call::CarryOut | Call::CarryOutMapped)
+}
+
+/// Alters what comes of a decision, with a map or without.
+fn altered_decision(input: &Input, alter: impl FnOnce(&mut Outcome)) -> Outcome {
+    let mut outcome = independent_outcome(input);
+    if carries_out(input) {
+        alter(&mut outcome);
+    }
+    outcome
+}
+
+/// The same of one that is accepted.
+fn altered_accepted(input: &Input, alter: impl FnOnce(&mut Outcome)) -> Outcome {
+    altered_decision(input, |outcome| {
         if outcome.answer.number() == 0 {
             alter(outcome);
         }
     })
+}
+
+/// The same of one of this kind.
+fn altered_kind(input: &Input, kind: u32, alter: impl FnOnce(&mut Outcome)) -> Outcome {
+    altered_accepted(input, |outcome| {
+        if input.numbers.kind == kind {
+            alter(outcome);
+        }
+    })
+}
+
+/// Where a decision's payload stands among the buffers; its page stands behind it.
+fn payload_at(input: &Input) -> usize {
+    input.buffers.len() - 2
+}
+
+fn payload_of(input: &Input) -> &[u8] {
+    &input.buffers[payload_at(input)]
+}
+
+fn page_of(input: &Input) -> &[u8] {
+    &input.buffers[payload_at(input) + 1]
 }
 
 fn slot_range(block: u64) -> std::ops::Range<usize> {
@@ -232,40 +267,63 @@ fn slot_range(block: u64) -> std::ops::Range<usize> {
     start..start + SLOT
 }
 
+/// The slot that a decision is carried out on.
+fn slot_of<'b>(input: &Input, buffers: &'b mut [Vec<u8>]) -> &'b mut [u8] {
+    &mut buffers[0][slot_range(input.numbers.block)]
+}
+
+fn old_slot(input: &Input) -> &[u8] {
+    &input.buffers[0][slot_range(input.numbers.block)]
+}
+
+fn is_sound(payload: &[u8]) -> bool {
+    independent::apply(&[], payload, &mut [0; PAGE]).number == 0
+}
+
+/// What comes of a decision with another kind or payload in its place, which it is not lent.
+fn as_if(input: &Input, kind: u32, payload: &[u8]) -> Outcome {
+    let mut changed = input.clone();
+    changed.numbers.kind = kind;
+    changed.buffers[payload_at(input)] = payload.to_vec();
+    let mut outcome = independent_outcome(&changed);
+    outcome.buffers[payload_at(input)] = payload_of(input).to_vec();
+    outcome
+}
+
+/// A patch that drops what the block's patch says already.
 fn compares_with_the_current_page(input: &Input) -> Outcome {
-    altered_write(input, |outcome| {
-        let [patch, full, base] = [&input.buffers[0], &input.buffers[1], &input.buffers[2]];
-        let mut current = vec![0; PAGE];
-        if independent::read(patch, full, input.numbers.block, base, &mut current).number == 0 {
-            let mut changed = input.clone();
-            changed.buffers[2] = current;
-            *outcome = independent_outcome(&changed);
-            outcome.buffers[2] = base.clone();
+    altered_kind(input, 1, |outcome| {
+        let old = independent::judge(old_slot(input));
+        if (old.number, old.kind) == (0, 1) {
+            let (before, _) =
+                decoded(&old_slot(input)[8..8 + old.length as usize], -1, from_255_on);
+            let (mut entries, _) = decoded(payload_of(input), -1, from_255_on);
+            entries.retain(|entry| !before.contains(entry));
+            let payload = spelled(entries);
+            if !payload.is_empty() {
+                *outcome = as_if(input, 1, &payload);
+            }
         }
     })
 }
 
 fn clears_only_after_full_ref(input: &Input) -> Outcome {
-    altered_write(input, |outcome| {
-        let was_full = input.buffers[0][slot_range(input.numbers.block)][0] == 2;
-        if outcome.answer.0[1] != 2 && !was_full {
+    altered_accepted(input, |outcome| {
+        if input.numbers.kind != 2 && old_slot(input)[0] != 2 {
             outcome.buffers[1] = input.buffers[1].clone();
         }
     })
 }
 
 fn leaves_the_tail(input: &Input) -> Outcome {
-    altered_write(input, |outcome| {
-        if outcome.answer.0[1] == 1 {
-            let range = slot_range(input.numbers.block);
-            let tail = range.start + 8 + outcome.answer.0[2] as usize..range.end;
-            outcome.buffers[0][tail.clone()].copy_from_slice(&input.buffers[0][tail]);
-        }
+    altered_kind(input, 1, |outcome| {
+        let tail = 8 + payload_of(input).len()..SLOT;
+        slot_of(input, &mut outcome.buffers)[tail.clone()].copy_from_slice(&old_slot(input)[tail]);
     })
 }
 
 fn stores_block_0_only(input: &Input) -> Outcome {
-    altered_write(input, |outcome| {
+    altered_decision(input, |outcome| {
         if input.numbers.block > 0 {
             outcome.buffers = input.buffers.clone();
         }
@@ -273,8 +331,299 @@ fn stores_block_0_only(input: &Input) -> Outcome {
 }
 
 fn stores_nothing(input: &Input) -> Outcome {
-    altered_write(input, |outcome| outcome.buffers = input.buffers.clone())
+    altered_decision(input, |outcome| outcome.buffers = input.buffers.clone())
 }
+
+// Decisions that are carried out wrongly.
+
+/// Stores a slot of this kind, with zeros in the place and the kind's bits for the pair.
+fn stores_kind_3(input: &Input) -> Outcome {
+    altered_decision(input, |outcome| {
+        if outcome.answer.number() == 6 && input.numbers.kind == 3 {
+            *outcome = as_if(input, 0, &[]);
+            outcome.answer.0[1] = 3;
+            slot_of(input, &mut outcome.buffers)[0] = 3;
+        }
+    })
+}
+
+/// Whatever is not 0 or 1.
+fn takes_other_kinds_for_full_ref(input: &Input) -> Outcome {
+    altered_decision(input, |outcome| {
+        if input.numbers.kind > 2 {
+            *outcome = as_if(input, 2, payload_of(input));
+        }
+    })
+}
+
+fn takes_other_kinds_for_empty(input: &Input) -> Outcome {
+    altered_decision(input, |outcome| {
+        if input.numbers.kind > 2 {
+            *outcome = as_if(input, 0, payload_of(input));
+        }
+    })
+}
+
+fn by_kind(input: &Input, kind: u32) -> Outcome {
+    altered_decision(input, |outcome| *outcome = as_if(input, kind, payload_of(input)))
+}
+
+fn kind_cut_to_8_bits(input: &Input) -> Outcome {
+    by_kind(input, input.numbers.kind & 0xFF)
+}
+
+fn kind_cut_to_16_bits(input: &Input) -> Outcome {
+    by_kind(input, input.numbers.kind & 0xFFFF)
+}
+
+fn kind_cut_to_31_bits(input: &Input) -> Outcome {
+    by_kind(input, input.numbers.kind & !(1 << 31))
+}
+
+fn copies_the_payload_for_full_ref(input: &Input) -> Outcome {
+    altered_kind(input, 2, |outcome| {
+        let payload = payload_of(input);
+        let kept = &payload[..payload.len().min(PAYLOAD)];
+        slot_of(input, &mut outcome.buffers)[8..8 + kept.len()].copy_from_slice(kept);
+    })
+}
+
+/// The place of a patch holds the page too.
+fn copies_the_page_for_patch(input: &Input) -> Outcome {
+    altered_kind(input, 1, |outcome| {
+        let block = input.numbers.block as usize;
+        if block < pages_of(input) && page_of(input).len() == PAGE {
+            outcome.buffers[1][place_range(block)].copy_from_slice(page_of(input));
+        }
+    })
+}
+
+/// Checks the page's length first, for this kind too.
+fn checks_the_page_for(input: &Input, kinds: std::ops::RangeInclusive<u32>) -> Outcome {
+    altered_decision(input, |outcome| {
+        if kinds.contains(&input.numbers.kind) && page_of(input).len() != PAGE {
+            refuse(input, outcome, 1);
+        }
+    })
+}
+
+fn checks_the_page_for_empty(input: &Input) -> Outcome {
+    checks_the_page_for(input, 0..=0)
+}
+
+fn checks_the_page_for_patch(input: &Input) -> Outcome {
+    checks_the_page_for(input, 1..=1)
+}
+
+fn checks_the_page_for_other_kinds(input: &Input) -> Outcome {
+    checks_the_page_for(input, 3..=u32::MAX)
+}
+
+/// Refuses with 7 where the payload is not sound, for other kinds too, in the place of these answers.
+fn checks_the_payload_for(input: &Input, kind: u32, instead_of: &[i128]) -> Outcome {
+    altered_decision(input, |outcome| {
+        let told = input.numbers.kind == kind && instead_of.contains(&outcome.answer.number());
+        if told && !is_sound(payload_of(input)) {
+            refuse(input, outcome, 7);
+        }
+    })
+}
+
+fn checks_the_payload_for_empty(input: &Input) -> Outcome {
+    checks_the_payload_for(input, 0, &[0])
+}
+
+fn checks_the_payload_for_full_ref(input: &Input) -> Outcome {
+    checks_the_payload_for(input, 2, &[0])
+}
+
+/// 8 comes after 7.
+fn checks_the_payload_before_the_place(input: &Input) -> Outcome {
+    checks_the_payload_for(input, 2, &[8])
+}
+
+fn answers_the_length_for_full_ref(input: &Input) -> Outcome {
+    altered_kind(input, 2, |outcome| outcome.answer.0[2] = payload_of(input).len() as i128)
+}
+
+fn answers_the_length_for_empty(input: &Input) -> Outcome {
+    altered_kind(input, 0, |outcome| outcome.answer.0[2] = payload_of(input).len() as i128)
+}
+
+/// The stream's length of a page that differs throughout, as the single call had it.
+fn answers_a_streams_length_for_full_ref(input: &Input) -> Outcome {
+    altered_kind(input, 2, |outcome| outcome.answer.0[2] = 2 * PAGE as i128)
+}
+
+/// A payload that does not say what stands in the page.
+fn refuses_payloads_that_are_not_the_pages(input: &Input) -> Outcome {
+    altered_kind(input, 1, |outcome| {
+        let (entries, _) = decoded(payload_of(input), -1, from_255_on);
+        let page = page_of(input);
+        if !entries.iter().all(|(place, value)| page.get(*place) == Some(value)) {
+            refuse(input, outcome, 7);
+        }
+    })
+}
+
+/// A writer does not write a zero over a zero, it thinks.
+fn refuses_payloads_with_a_zero(input: &Input) -> Outcome {
+    altered_kind(input, 1, |outcome| {
+        let (entries, _) = decoded(payload_of(input), -1, from_255_on);
+        if entries.iter().any(|(_, value)| *value == 0) {
+            refuse(input, outcome, 7);
+        }
+    })
+}
+
+/// A payload that is not sound is put into the slot, as far as it fits.
+fn takes_payloads(input: &Input, wanted: impl FnOnce(&[u8]) -> bool) -> Outcome {
+    altered_decision(input, |outcome| {
+        let payload = payload_of(input);
+        if outcome.answer.number() == 7 && wanted(payload) {
+            let kept = &payload[..payload.len().min(PAYLOAD)];
+            *outcome = as_if(input, 1, &[0, 0]);
+            outcome.answer = Answer::of(&[0, 1, kept.len() as i128]);
+            let slot = generate::patch_slot(kept);
+            slot_of(input, &mut outcome.buffers).copy_from_slice(&slot);
+        }
+    })
+}
+
+fn takes_unsound_payloads(input: &Input) -> Outcome {
+    takes_payloads(input, |payload| (1..=PAYLOAD).contains(&payload.len()))
+}
+
+fn takes_an_empty_payload(input: &Input) -> Outcome {
+    takes_payloads(input, <[u8]>::is_empty)
+}
+
+fn takes_overlong_payloads(input: &Input) -> Outcome {
+    takes_payloads(input, |payload| payload.len() > PAYLOAD)
+}
+
+/// The offset in the length's place.
+fn an_offset_beside_7(input: &Input) -> Outcome {
+    altered_decision(input, |outcome| {
+        if outcome.answer.number() == 7 {
+            let applied = independent::apply(&[], payload_of(input), &mut [0; PAGE]);
+            outcome.answer.0[2] = applied.offset.into();
+        }
+    })
+}
+
+fn the_kind_beside_a_refusal(input: &Input) -> Outcome {
+    altered_decision(input, |outcome| {
+        if outcome.answer.number() != 0 {
+            outcome.answer.0[1] = input.numbers.kind.into();
+        }
+    })
+}
+
+/// Kinds before blocks.
+fn gives_6_before_5(input: &Input) -> Outcome {
+    altered_decision(input, |outcome| {
+        if outcome.answer.number() == 5 && input.numbers.kind > 2 {
+            refuse(input, outcome, 6);
+        }
+    })
+}
+
+/// Areas before the page.
+fn gives_2_before_1(input: &Input) -> Outcome {
+    altered_decision(input, |outcome| {
+        let areas = input.buffers[..2].to_vec();
+        let lengths = independent_outcome(&Input::new(Call::Cut, areas)).answer.number();
+        if outcome.answer.number() == 1 && lengths == 2 {
+            refuse(input, outcome, 2);
+        }
+    })
+}
+
+fn wants_a_place_for_patch(input: &Input) -> Outcome {
+    altered_kind(input, 1, |outcome| {
+        if input.numbers.block as usize >= pages_of(input) {
+            refuse(input, outcome, 8);
+        }
+    })
+}
+
+/// The reference is stored without the page.
+fn wants_no_place_for_full_ref(input: &Input) -> Outcome {
+    altered_decision(input, |outcome| {
+        if outcome.answer.number() == 8 {
+            *outcome = as_if(input, 0, &[]);
+            outcome.answer.0[1] = 2;
+            slot_of(input, &mut outcome.buffers)[0] = 2;
+        }
+    })
+}
+
+fn wants_the_old_slot_sound(input: &Input) -> Outcome {
+    altered_accepted(input, |outcome| {
+        if independent::judge(old_slot(input)).number != 0 {
+            refuse(input, outcome, 6);
+        }
+    })
+}
+
+/// A block that has the kind already is left.
+fn leaves_a_block_of_the_same_kind(input: &Input) -> Outcome {
+    altered_accepted(input, |outcome| {
+        let old = independent::judge(old_slot(input));
+        if (old.number, old.kind) == (0, input.numbers.kind) {
+            outcome.buffers = input.buffers.clone();
+        }
+    })
+}
+
+fn leaves_the_place(input: &Input) -> Outcome {
+    altered_decision(input, |outcome| {
+        if input.numbers.kind != 2 {
+            outcome.buffers[1] = input.buffers[1].clone();
+        }
+    })
+}
+
+const WRONG_DECISIONS: [(&str, Side); 37] = [
+    ("kind 3 stored", stores_kind_3),
+    ("other kinds taken for FULL_REF", takes_other_kinds_for_full_ref),
+    ("other kinds taken for EMPTY", takes_other_kinds_for_empty),
+    ("a kind cut to 8 bits", kind_cut_to_8_bits),
+    ("a kind cut to 16 bits", kind_cut_to_16_bits),
+    ("a kind cut to 31 bits", kind_cut_to_31_bits),
+    ("a payload copied for FULL_REF", copies_the_payload_for_full_ref),
+    ("a page copied for PATCH", copies_the_page_for_patch),
+    ("a page checked for EMPTY", checks_the_page_for_empty),
+    ("a page checked for PATCH", checks_the_page_for_patch),
+    ("a page checked for other kinds", checks_the_page_for_other_kinds),
+    ("a payload checked for EMPTY", checks_the_payload_for_empty),
+    ("a payload checked for FULL_REF", checks_the_payload_for_full_ref),
+    ("8 after 7", checks_the_payload_before_the_place),
+    ("a length for FULL_REF", answers_the_length_for_full_ref),
+    ("a length for EMPTY", answers_the_length_for_empty),
+    ("a stream's length for FULL_REF", answers_a_streams_length_for_full_ref),
+    ("a payload refused that is not the page's", refuses_payloads_that_are_not_the_pages),
+    ("a payload refused that has a zero", refuses_payloads_with_a_zero),
+    ("an unsound payload taken", takes_unsound_payloads),
+    ("an empty payload taken", takes_an_empty_payload),
+    ("an overlong payload taken", takes_overlong_payloads),
+    ("an offset beside 7", an_offset_beside_7),
+    ("the kind beside a refusal", the_kind_beside_a_refusal),
+    ("6 before 5", gives_6_before_5),
+    ("2 before 1", gives_2_before_1),
+    ("a place wanted for PATCH", wants_a_place_for_patch),
+    ("no place wanted for FULL_REF", wants_no_place_for_full_ref),
+    ("an old slot that must be sound", wants_the_old_slot_sound),
+    ("a block of the same kind left", leaves_a_block_of_the_same_kind),
+    ("a place that is left", leaves_the_place),
+    ("comparing with the current page", compares_with_the_current_page),
+    ("clearing only after FULL_REF", clears_only_after_full_ref),
+    ("leaving the tail", leaves_the_tail),
+    ("storing block 0 only", stores_block_0_only),
+    ("storing nothing", stores_nothing),
+    ("the pair set by a refused decision", sets_the_pair_of_a_refused_decision),
+];
 
 fn always_reads_the_base(input: &Input) -> Outcome {
     altered(input, Call::Read, |outcome| {
@@ -536,19 +885,38 @@ fn place_cut_to_32_bits(input: &Input) -> Outcome {
 fn respelled(payload: &[u8], rule: LongRule) -> Vec<u8> {
     match decoded(payload, -1, rule) {
         (_, Some(offset)) => [&[0, 7].repeat(offset / 2)[..], &[0]].concat(),
-        (entries, None) => {
-            let mut page = vec![0; PAGE];
-            let mut base = page.clone();
-            // Over a base that differs wherever there is an entry, and only there.
-            for (place, value) in entries {
-                (page[place], base[place]) = (value, !value);
-            }
-            let mut bytes = vec![0; PAYLOAD];
-            let compared = independent::compare(&base, &page, &mut bytes);
-            bytes.truncate(compared.length as usize);
-            bytes
-        }
+        (entries, None) => spelled(entries),
     }
+}
+
+/// Entries as the writer spells them.
+fn spelled(entries: Vec<(usize, u8)>) -> Vec<u8> {
+    let mut page = vec![0; PAGE];
+    let mut base = page.clone();
+    // Over a base that differs wherever there is an entry, and only there.
+    for (place, value) in entries {
+        (page[place], base[place]) = (value, !value);
+    }
+    let mut bytes = vec![0; PAYLOAD];
+    let compared = independent::compare(&base, &page, &mut bytes);
+    bytes.truncate(compared.length as usize);
+    bytes
+}
+
+/// A decision, if its payload is looked at.
+fn decision_by_rule(input: &Input, rule: LongRule) -> Outcome {
+    altered_decision(input, |outcome| {
+        let payload = payload_of(input);
+        let looked_at = input.numbers.kind == 1 && matches!(outcome.answer.number(), 0 | 7);
+        if !looked_at || !(1..=PAYLOAD).contains(&payload.len()) {
+            return;
+        }
+        if decoded(payload, -1, rule).1.is_some() {
+            refuse(input, outcome, 7);
+        } else if outcome.answer.number() == 7 {
+            *outcome = takes_unsound_payloads(input);
+        }
+    })
 }
 
 /// The patch area with every sound PATCH slot's payload respelled.
@@ -590,6 +958,7 @@ fn step_by_rule(input: &Input, rule: LongRule) -> Outcome {
 fn by_rule(input: &Input, rule: LongRule) -> Outcome {
     let lent = match input.call {
         Call::Next => return step_by_rule(input, rule),
+        Call::CarryOut | Call::CarryOutMapped => return decision_by_rule(input, rule),
         Call::Apply => 1,
         Call::Read | Call::ReadMapped | Call::Build => 0,
         _ => return independent_outcome(input),
@@ -650,9 +1019,9 @@ fn takes_any_in<const CALL: usize>(input: &Input) -> Outcome {
 
 // Maps that are kept wrongly, and reads that go by something else.
 
-/// Alters what comes of a write with a map that is accepted; gives the byte and the bits of its pair.
+/// Alters what comes of a decision with a map that is accepted; gives the byte and the bits of its pair.
 fn altered_map(input: &Input, alter: impl FnOnce(&mut Outcome, usize, u32)) -> Outcome {
-    altered(input, Call::WriteMapped, |outcome| {
+    altered(input, Call::CarryOutMapped, |outcome| {
         if outcome.answer.number() == 0 {
             let block = input.numbers.block;
             alter(outcome, (block / 4) as usize, 2 * (block % 4) as u32);
@@ -664,7 +1033,7 @@ fn leaves_the_map(input: &Input) -> Outcome {
     altered_map(input, |outcome, _, _| outcome.buffers[2] = input.buffers[2].clone())
 }
 
-/// A write of a page that equals its base, the kind that is easily forgotten.
+/// EMPTY, the kind that is easily forgotten.
 fn leaves_the_map_for_empty(input: &Input) -> Outcome {
     altered_map(input, |outcome, _, _| {
         if outcome.answer.0[1] == 0 {
@@ -721,16 +1090,44 @@ fn first_pair_in_the_high_bits(input: &Input) -> Outcome {
     })
 }
 
-fn sets_the_pair_of_a_refused_page(input: &Input) -> Outcome {
-    altered(input, Call::WriteMapped, |outcome| {
-        if outcome.answer.number() == 8 {
-            generate::set_pair(&mut outcome.buffers[2], input.numbers.block as usize, 1);
+/// The pair of a kind, of which those above 2 have 3.
+fn pair_of_kind(kind: u32) -> u8 {
+    match kind {
+        0 => 0,
+        1 => 2,
+        2 => 1,
+        _ => 3,
+    }
+}
+
+/// What is refused with one of these numbers, after the map and the block were found right, sets its pair.
+fn sets_the_pair_with(input: &Input, numbers: &[i128]) -> Outcome {
+    altered(input, Call::CarryOutMapped, |outcome| {
+        if numbers.contains(&outcome.answer.number()) {
+            let pair = pair_of_kind(input.numbers.kind);
+            generate::set_pair(&mut outcome.buffers[2], input.numbers.block as usize, pair);
         }
     })
 }
 
+fn sets_the_pair_of_a_refused_page(input: &Input) -> Outcome {
+    sets_the_pair_with(input, &[8])
+}
+
+fn sets_the_pair_of_a_refused_payload(input: &Input) -> Outcome {
+    sets_the_pair_with(input, &[7])
+}
+
+fn sets_the_pair_of_a_refused_kind(input: &Input) -> Outcome {
+    sets_the_pair_with(input, &[6])
+}
+
+fn sets_the_pair_of_a_refused_decision(input: &Input) -> Outcome {
+    sets_the_pair_with(input, &[6, 7, 8])
+}
+
 fn a_map_one_byte_too_short_is_taken(input: &Input) -> Outcome {
-    altered(input, Call::WriteMapped, |outcome| {
+    altered(input, Call::CarryOutMapped, |outcome| {
         let mut longer = input.clone();
         longer.buffers[2].push(0);
         if outcome.answer.number() == 9 {
@@ -1181,7 +1578,7 @@ fn small_mistakes_are_found() {
     must_find("a changed byte in a buffer only read", a_changed_byte_in_a_buffer_only_read);
     must_find("-1 in a refused Compare", refused_compare_says_no_last);
     must_find("invented entries", invented_entries);
-    must_find("no length for a full page", no_length_for_a_full_page);
+    must_find("no length for a large page", no_length_for_a_large_page);
     must_find("Build without its block", build_keeps_its_block_to_itself);
     must_find("flags as one bit", flags_as_one_bit);
     must_find("blocks that wrap", blocks_that_wrap);
@@ -1198,14 +1595,15 @@ fn wrong_tallies_are_found() {
 
 #[test]
 fn shortcuts_are_found() {
-    must_find("comparing with the current page", compares_with_the_current_page);
-    must_find("clearing only after FULL_REF", clears_only_after_full_ref);
-    must_find("leaving the tail", leaves_the_tail);
     must_find("a position from 0", position_from_0);
     must_find("applying while checking", applies_while_checking);
-    must_find("storing block 0 only", stores_block_0_only);
-    must_find("storing nothing", stores_nothing);
     must_find("always reading the base", always_reads_the_base);
+}
+
+/// The other shortcuts among them.
+#[test]
+fn wrong_decisions_are_found() {
+    WRONG_DECISIONS.iter().for_each(|(name, wrong)| must_find(name, *wrong));
 }
 
 const WRONG_OFFSETS: [(&str, Side); 8] = [
@@ -1219,7 +1617,7 @@ const WRONG_OFFSETS: [(&str, Side); 8] = [
     ("an offset of a sound payload", offset_of_the_end),
 ];
 
-const WRONG_MAPS: [(&str, Side); 11] = [
+const WRONG_MAPS: [(&str, Side); 13] = [
     ("a map that is left", leaves_the_map),
     ("a map that is left for EMPTY", leaves_the_map_for_empty),
     ("the kind for the pair", sets_the_kind_for_the_pair),
@@ -1229,8 +1627,10 @@ const WRONG_MAPS: [(&str, Side); 11] = [
     ("unused pairs cleared", clears_unused_pairs),
     ("later bytes cleared", clears_later_bytes),
     ("the first pair in the high bits", first_pair_in_the_high_bits),
-    ("the pair set by a refused write", sets_the_pair_of_a_refused_page),
-    ("a short map taken by a write", a_map_one_byte_too_short_is_taken),
+    ("the pair set by a refused page", sets_the_pair_of_a_refused_page),
+    ("the pair set by a refused payload", sets_the_pair_of_a_refused_payload),
+    ("the pair set by a refused kind", sets_the_pair_of_a_refused_kind),
+    ("a short map taken by a decision", a_map_one_byte_too_short_is_taken),
 ];
 
 const WRONG_READS_BY_MAP: [(&str, Side); 9] = [
@@ -1290,7 +1690,7 @@ const WRONG_READERS: [(&str, Side); 8] = [
     ("a place cut to 32 bits", place_cut_to_32_bits),
 ];
 
-const WRONG_LONG_JUMPS: [(&str, Side); 12] = [
+const WRONG_LONG_JUMPS: [(&str, Side); 14] = [
     ("any jump after 255", takes_any_long_jump),
     ("255 refused", refuses_255),
     ("254 let through", lets_254_through),
@@ -1303,6 +1703,8 @@ const WRONG_LONG_JUMPS: [(&str, Side); 12] = [
     ("any jump in Read", takes_any_in::<{ Call::Read as usize }>),
     ("any jump in Read by the map", takes_any_in::<{ Call::ReadMapped as usize }>),
     ("any jump in Build", takes_any_in::<{ Call::Build as usize }>),
+    ("any jump in carrying out", takes_any_in::<{ Call::CarryOut as usize }>),
+    ("any jump in carrying out with a map", takes_any_in::<{ Call::CarryOutMapped as usize }>),
 ];
 
 #[test]
@@ -1310,8 +1712,8 @@ fn wrong_long_jumps_are_found() {
     WRONG_LONG_JUMPS.iter().for_each(|(name, wrong)| must_find(name, *wrong));
 }
 
-/// Each of them contradicts a case that is written by hand; so does each wrong cut and each wrong highest
-/// block.
+/// Each of them contradicts a case that is written by hand; so does each wrong cut, each wrong highest
+/// block, each decision that is carried out wrongly and each map that is kept wrongly.
 #[test]
 fn cases_by_hand_notice_wrong_programs() {
     let cases = cases::all();
@@ -1322,7 +1724,8 @@ fn cases_by_hand_notice_wrong_programs() {
         cases.iter().any(differs)
     };
     assert!(!notice(takes_long_jumps_rightly));
-    for (name, wrong) in WRONG_LONG_JUMPS.iter().chain(&WRONG_CUTS).chain(&WRONG_HIGHEST) {
+    let all = WRONG_LONG_JUMPS.iter().chain(&WRONG_CUTS).chain(&WRONG_HIGHEST);
+    for (name, wrong) in all.chain(&WRONG_DECISIONS).chain(&WRONG_MAPS) {
         assert!(notice(*wrong), "{name} was not noticed");
     }
 }
@@ -1413,12 +1816,12 @@ fn the_demand_on_maps_notices_wrong_programs() {
         found.err().map(|mismatch| mismatch.side)
     };
     for (part, programs) in
-        [(maps::every_write as Part, &WRONG_MAPS[..]), (maps::every_read, &WRONG_READS_BY_MAP)]
+        [(maps::every_decision as Part, &WRONG_MAPS[..]), (maps::every_read, &WRONG_READS_BY_MAP)]
     {
         assert_eq!(notices(part, independent_outcome), None);
         for (name, wrong) in programs {
             let side = match *name {
-                "the pair set by a refused write" => "rule of answers",
+                name if name.starts_with("the pair set by a refused") => "rule of answers",
                 _ => "demand on maps",
             };
             assert_eq!(notices(part, *wrong), Some(side), "{name}");
@@ -1456,6 +1859,14 @@ fn stores_from_elsewhere_notice_wrong_maps() {
         ("the block and not one more", highest_gives_the_block),
         ("the number of blocks in use", highest_counts_the_blocks_in_use),
         ("a highest that knows PATCH only", highest_knows_patches_only),
+        ("a payload copied for FULL_REF", copies_the_payload_for_full_ref),
+        ("a page copied for PATCH", copies_the_page_for_patch),
+        ("a page checked for EMPTY", checks_the_page_for_empty),
+        ("a payload checked for FULL_REF", checks_the_payload_for_full_ref),
+        ("a payload refused that is not the page's", refuses_payloads_that_are_not_the_pages),
+        ("a place that is left", leaves_the_place),
+        ("comparing with the current page", compares_with_the_current_page),
+        ("leaving the tail", leaves_the_tail),
     ] {
         assert!(elsewhere_notices(wrong), "{name} was not noticed");
     }
@@ -1517,6 +1928,11 @@ fn the_demand_on_readers_notices_wrong_programs() {
         ("a reader that goes on after a stop", reader_goes_on_after_a_stop, "demand on readers"),
         ("a reader that moves at a stop", reader_moves_at_a_stop, "rule of answers"),
         ("a reader of overlong payloads", reader_of_overlong_payloads, "demand on readers"),
+        ("an unsound payload taken", takes_unsound_payloads, "demand on readers"),
+        ("an overlong payload taken", takes_overlong_payloads, "demand on readers"),
+        ("a payload refused that has a zero", refuses_payloads_with_a_zero, "demand on readers"),
+        ("an offset beside 7", an_offset_beside_7, "rule of answers"),
+        ("leaving the tail", leaves_the_tail, "demand on readers"),
     ] {
         assert_eq!(payloads_notice(wrong, true), Some(side), "{name}");
     }
@@ -1533,21 +1949,113 @@ fn an_offset_beside_another_refusal_is_noticed() {
     assert_eq!(mismatch.side, "rule of answers");
 }
 
-/// Runs whose both sides are the same wrong program: only the demand itself can notice.
-fn run_notices(wrong: Side) -> bool {
+/// Runs whose both sides are the same wrong program: only the demand itself, or a rule for all answers,
+/// can notice. The side that does.
+fn side_in_runs(wrong: Side) -> Option<&'static str> {
     let mut harness = Harness::new();
     harness.expected = wrong;
     harness.in_place_of_library = Some(wrong);
-    (0..200).any(|case| {
+    let mismatch = (0..200).find_map(|case| {
         let mut rng = Rng::for_case(SEED, "runs", case);
-        match runs::run(&mut harness, &mut rng, 40, &mut Met::default()) {
-            Ok(()) => false,
-            Err(mismatch) => {
-                assert_eq!(mismatch.side, "demand on runs");
-                true
-            }
+        runs::run(&mut harness, &mut rng, 40, &mut Met::default()).err()
+    });
+    mismatch.map(|mismatch| mismatch.side)
+}
+
+fn run_notices(wrong: Side) -> bool {
+    match side_in_runs(wrong) {
+        None => false,
+        Some(side) => {
+            assert_eq!(side, "demand on runs");
+            true
         }
-    })
+    }
+}
+
+/// What a run cannot show of decisions. It has no unsound slot, no stray byte and no empty payload, and
+/// whatever is refused has one fault alone.
+const NOT_IN_RUNS: [&str; 7] = [
+    "a page checked for other kinds",
+    "8 after 7",
+    "an empty payload taken",
+    "6 before 5",
+    "2 before 1",
+    "an old slot that must be sound",
+    "clearing only after FULL_REF",
+];
+
+#[test]
+fn the_demand_on_runs_notices_wrong_decisions() {
+    for (name, wrong) in WRONG_DECISIONS {
+        let side = match name {
+            _ if NOT_IN_RUNS.contains(&name) => continue,
+            "an offset beside 7" | "the kind beside a refusal" => "rule of answers",
+            "the pair set by a refused decision" => "rule of answers",
+            _ => "demand on runs",
+        };
+        assert_eq!(side_in_runs(wrong), Some(side), "{name}");
+    }
+}
+
+/// The others on both sides, through every set of faults or every short payload.
+#[test]
+fn what_runs_do_not_show_is_noticed_elsewhere() {
+    let others = WRONG_DECISIONS.iter().filter(|(name, _)| NOT_IN_RUNS.contains(name));
+    for (name, wrong) in others {
+        let mut harness = Harness::new();
+        harness.expected = *wrong;
+        harness.in_place_of_library = Some(*wrong);
+        let (found, side) = match *name {
+            "an empty payload taken" | "clearing only after FULL_REF" => {
+                (payloads::every_short_one(&mut harness), "demand on readers")
+            }
+            _ => (orders::check(&mut harness), "order of refusals"),
+        };
+        assert_eq!(found.err().map(|mismatch| mismatch.side), Some(side), "{name}");
+    }
+}
+
+/// The same wrong program on both sides, over every kind and block: only what is written by hand can
+/// notice.
+#[test]
+fn wrong_kinds_are_noticed_by_numbers() {
+    let notices = |wrong: Side| {
+        let mut harness = Harness::new();
+        harness.expected = wrong;
+        harness.in_place_of_library = Some(wrong);
+        sweep::numbers(&mut harness).err().map(|mismatch| mismatch.side)
+    };
+    assert_eq!(notices(independent_outcome), None);
+    for wrong in [
+        stores_kind_3 as Side,
+        takes_other_kinds_for_full_ref,
+        takes_other_kinds_for_empty,
+        kind_cut_to_8_bits,
+        kind_cut_to_16_bits,
+        kind_cut_to_31_bits,
+        gives_6_before_5,
+        answers_the_length_for_full_ref,
+        answers_the_length_for_empty,
+    ] {
+        assert_eq!(notices(wrong), Some("by hand"));
+    }
+}
+
+/// The wrapper has no decision but Compare's. Random inputs have enough of those: it gives every number
+/// that it can give.
+#[test]
+fn the_wrapper_carries_out_decisions() {
+    let mut harness = Harness::new();
+    for case in 0..MOST_CASES / 4 {
+        let input = random_input(case);
+        if carries_out(&input) {
+            harness.start_case(case);
+            harness.check(&input).expect("all sides agree");
+        }
+    }
+    assert_eq!(harness.counts.unseen_by_wrapper(), []);
+    // Without them that would be noticed.
+    assert_eq!(Counts::default().unseen_by_wrapper().len(), 13);
 }
 
 /// A program on both sides that changes a byte and refuses: only the rule of answers can notice.
@@ -1584,7 +2092,8 @@ fn another_order_of_refusals_is_noticed() {
     /// Headers before the map's length.
     fn headers_before_the_map(input: &Input) -> Outcome {
         let mut outcome = independent_outcome(input);
-        let mapped = matches!(input.call, Call::WriteMapped | Call::ReadMapped | Call::CutMapped);
+        let mapped =
+            matches!(input.call, Call::CarryOutMapped | Call::ReadMapped | Call::CutMapped);
         if mapped && outcome.answer.number() == 9 {
             let mut longer = input.clone();
             longer.buffers[2].resize(1_000, 0);
@@ -1632,6 +2141,10 @@ fn another_order_of_refusals_is_noticed() {
         cut_has_k_before_headers,
         cut_refuses_n,
         highest_has_slots_before_the_header,
+        checks_the_page_for_patch,
+        checks_the_payload_for_empty,
+        checks_the_payload_for_full_ref,
+        answers_the_length_for_full_ref,
     ] {
         harness.expected = wrong;
         harness.in_place_of_library = Some(wrong);
@@ -1643,10 +2156,6 @@ fn another_order_of_refusals_is_noticed() {
 #[test]
 fn the_demand_on_runs_notices_wrong_programs() {
     assert!(!run_notices(independent_outcome));
-    assert!(run_notices(compares_with_the_current_page));
-    assert!(run_notices(leaves_the_tail));
-    assert!(run_notices(stores_block_0_only));
-    assert!(run_notices(stores_nothing));
     assert!(run_notices(always_reads_the_base));
     for wrong in [
         leaves_the_map as Side,

@@ -11,8 +11,8 @@ use std::path::{Path, PathBuf};
 
 use differential::arena::Mapping;
 use thonxiliko::{
-    build, cut, cut_mapped, format, full_area_len, highest, map_len, patch_area_len, read, write,
-    Kind, FULL_HEADER_SIZE, PAGE_SIZE, PATCH_HEADER_SIZE,
+    build, carry_out, compare, cut, cut_mapped, format, full_area_len, highest, map_len,
+    patch_area_len, read, Kind, FULL_HEADER_SIZE, PAGE_SIZE, PATCH_HEADER_SIZE, PAYLOAD_SIZE,
 };
 
 /// n and m: 4 MiB of slots and 64 MiB of places.
@@ -102,9 +102,11 @@ impl Areas {
         format(self.patch.bytes(), self.full.bytes()).expect("sound lengths");
     }
 
-    /// Writes a page over a base of zeros.
+    /// Writes a page over a base of zeros: Compare decides, and that is carried out.
     fn write(&mut self, block: u64, page: &[u8]) -> Kind {
-        let written = write(self.patch.bytes(), self.full.bytes(), block, &[], page);
+        let mut payload = [0; PAYLOAD_SIZE];
+        let decision = compare(&[], page, &mut payload).expect("a sound page");
+        let written = carry_out(self.patch.bytes(), self.full.bytes(), block, &decision);
         written.expect("a sound store").kind
     }
 

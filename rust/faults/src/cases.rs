@@ -1,7 +1,7 @@
 //! Slots, pages and areas that are lost, swapped, cut, doubled, or lent with another base.
 
 use thonxiliko::{
-    compare, Kind, PayloadRefusal, PAGE_SIZE, PATCH_HEADER_SIZE, PAYLOAD_SIZE, SLOT_SIZE,
+    carry_out, compare, Kind, PayloadRefusal, PAGE_SIZE, PATCH_HEADER_SIZE, PAYLOAD_SIZE, SLOT_SIZE,
 };
 
 use crate::checksum;
@@ -209,12 +209,8 @@ fn lost(ground: &Ground) -> Vec<Case> {
     let older = |store: &mut Store| {
         let mut payload = [0; PAYLOAD_SIZE];
         let page = earlier(&ground.blocks[patch]);
-        let compared = compare(&store.bases[patch], &page, &mut payload).expect("sound lengths");
-        let slot = &mut store.patch[slot(patch)];
-        slot.fill(0);
-        slot[..2].fill(1);
-        slot[2..4].copy_from_slice(&(compared.length as u16).to_le_bytes());
-        slot[8..8 + compared.length].copy_from_slice(&payload[..compared.length]);
+        let decision = compare(&store.bases[patch], &page, &mut payload).expect("sound lengths");
+        carry_out(&mut store.patch, &mut store.full, patch as u64, &decision).expect("a patch");
     };
     vec![
         ground

@@ -3,8 +3,8 @@
 use std::ops::Range;
 
 use thonxiliko::{
-    build, compare, format, full_area_len, judge, map_len, patch_area_len, read, read_mapped,
-    write, BuildRefusal, Difference, Kind, PayloadRefusal, Refusal, FULL_HEADER_SIZE, PAGE_SIZE,
+    build, carry_out, compare, format, full_area_len, judge, map_len, patch_area_len, read,
+    read_mapped, BuildRefusal, Kind, PayloadRefusal, Refusal, FULL_HEADER_SIZE, PAGE_SIZE,
     PATCH_HEADER_SIZE, PAYLOAD_SIZE, SLOT_SIZE,
 };
 
@@ -35,9 +35,17 @@ impl Store {
     pub fn of(blocks: &[Block]) -> Result<Store, Refusal> {
         let mut store = Store::fresh(blocks, pages_needed(blocks)?)?;
         for (at, block) in blocks.iter().enumerate() {
-            write(&mut store.patch, &mut store.full, at as u64, &block.base, &block.page)?;
+            store.write(at, block)?;
         }
         Ok(store)
+    }
+
+    /// Keeps a block's page over its base: what Compare decides is carried out.
+    pub fn write(&mut self, at: usize, block: &Block) -> Result<(), Refusal> {
+        let mut payload = [0; PAYLOAD_SIZE];
+        let decision = compare(&block.base, &block.page, &mut payload)?;
+        carry_out(&mut self.patch, &mut self.full, at as u64, &decision)?;
+        Ok(())
     }
 
     pub fn fresh(blocks: &[Block], pages: usize) -> Result<Store, Refusal> {
@@ -93,8 +101,7 @@ impl Store {
 fn pages_needed(blocks: &[Block]) -> Result<usize, Refusal> {
     let mut needed = 0;
     for (at, block) in blocks.iter().enumerate() {
-        let compared = compare(&block.base, &block.page, &mut [0; PAYLOAD_SIZE])?;
-        if compared.difference == Difference::Large {
+        if compare(&block.base, &block.page, &mut [0; PAYLOAD_SIZE])?.kind() == Kind::Full {
             needed = at + 1;
         }
     }

@@ -127,8 +127,7 @@ fn the_counts_tell_right_from_wrong() {
     let (store, blocks) = ground();
     let block = blocks[first(&store, Kind::Patch)].clone();
     let mut small = Store::fresh(std::slice::from_ref(&block), 1).expect("a store");
-    thonxiliko::write(&mut small.patch, &mut small.full, 0, &block.base, &block.page)
-        .expect("a sound store");
+    small.write(0, &block).expect("a sound store");
     let place = |table: flips::Table| table[Part::ZeroPlace as usize];
 
     let right = place(flips::count(&small, std::slice::from_ref(&block)));

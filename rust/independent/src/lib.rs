@@ -471,7 +471,7 @@ pub fn show(patch: &[u8], block: u64) -> Part {
     }
 }
 
-/// What Read and Write check alike, in order: pages, areas, headers, block. Gives m.
+/// What Read checks first, in order: pages, areas, headers, block. Gives m.
 fn judge_lent(patch: &[u8], full: &[u8], block: u64, base: &[u8], page: &[u8]) -> Result<u64, u32> {
     if !is_base_length(base.len()) || page.len() != PAGE {
         return Err(BAD_PAGE_LENGTH);
@@ -519,46 +519,81 @@ pub fn read(patch: &[u8], full: &[u8], block: u64, base: &[u8], page: &mut [u8])
     }
 }
 
-/// Sets the block's slot and, if it has one, its place in the full area.
-fn put_block(patch: &mut [u8], full: &mut [u8], block: u64, m: u64, page: &[u8], stream: &Stream) {
-    let kind = stream.kind();
+// ---------------------------------------------------------------------------------------------
+// Carrying out a decision
+// ---------------------------------------------------------------------------------------------
+
+/// A sound slot: the kind, and for PATCH the payload.
+fn slot_with(kind: u32, payload: &[u8]) -> [u8; SLOT] {
     let mut slot = [0; SLOT];
     slot[0] = kind as u8;
     if kind == PATCH {
         slot[1] = 1;
-        slot[2..4].copy_from_slice(&(stream.bytes.len() as u16).to_le_bytes());
-        slot[8..8 + stream.bytes.len()].copy_from_slice(&stream.bytes);
+        slot[2..4].copy_from_slice(&(payload.len() as u16).to_le_bytes());
+        slot[8..8 + payload.len()].copy_from_slice(payload);
     }
-    let start = slot_start(block);
-    patch[start..start + SLOT].copy_from_slice(&slot);
-    if block < m {
-        let start = place_start(block);
-        let zeros = [0; PAGE];
-        let content = if kind == FULL_REF { page } else { &zeros[..] };
-        full[start..start + PAGE].copy_from_slice(content);
+    slot
+}
+
+/// Why a decision cannot be carried out, or m. The page counts for FULL_REF alone, the payload for PATCH
+/// alone.
+fn judge_decision(
+    [patch, full]: [&[u8]; 2],
+    block: u64,
+    kind: u32,
+    [payload, page]: [&[u8]; 2],
+) -> Result<u64, u32> {
+    if kind == FULL_REF && page.len() != PAGE {
+        return Err(BAD_PAGE_LENGTH);
+    }
+    let (n, m) = sizes_of(patch, full).ok_or(BAD_AREA_LENGTH)?;
+    judge_headers(patch, full)?;
+    if block >= n {
+        return Err(BAD_BLOCK);
+    }
+    match kind {
+        EMPTY => Ok(m),
+        // No offset here: only Apply, the reads and Build give one.
+        PATCH => entries_of(payload).map(|_| m).map_err(|refused| refused.number),
+        FULL_REF if block < m => Ok(m),
+        FULL_REF => Err(NO_FULL_PAGE),
+        _ => Err(BAD_SLOT),
     }
 }
 
-pub fn write(patch: &mut [u8], full: &mut [u8], block: u64, base: &[u8], page: &[u8]) -> Written {
-    let refused = |number| Written { number, kind: 0, length: 0 };
-    let m = match judge_lent(patch, full, block, base, page) {
-        Err(number) => return refused(number),
+pub fn carry_out(
+    patch: &mut [u8],
+    full: &mut [u8],
+    block: u64,
+    kind: u32,
+    payload: &[u8],
+    page: &[u8],
+) -> Written {
+    let m = match judge_decision([patch, full], block, kind, [payload, page]) {
+        Err(number) => return Written { number, kind: 0, length: 0 },
         Ok(m) => m,
     };
-    let stream = Stream::of(&base_page(base), page);
-    if stream.kind() == FULL_REF && block >= m {
-        return refused(NO_FULL_PAGE);
+    // Nothing of the old block is looked at.
+    let start = slot_start(block);
+    patch[start..start + SLOT].copy_from_slice(&slot_with(kind, payload));
+    if block < m {
+        let start = place_start(block);
+        let place = &mut full[start..start + PAGE];
+        match kind {
+            FULL_REF => place.copy_from_slice(page),
+            _ => place.fill(0),
+        }
     }
-    put_block(patch, full, block, m, page, &stream);
-    Written { number: DONE, kind: stream.kind(), length: stream.length() }
+    let length = if kind == PATCH { payload.len() as u32 } else { 0 };
+    Written { number: DONE, kind, length }
 }
 
 // ---------------------------------------------------------------------------------------------
-// Writes that keep a lent map, reads that go by it
+// Decisions carried out with a lent map, reads that go by it
 // ---------------------------------------------------------------------------------------------
 
-/// What both check, in order: pages, areas, map, headers, block. Gives m. Not by the code above, so
-/// that both can be held against each other.
+/// What a read by a map checks first, in order: pages, areas, map, headers, block. Gives m. Not by the
+/// code above, so that both can be held against each other.
 fn judge_lent_mapped(
     [patch, full, map]: [&[u8]; 3],
     block: u64,
@@ -598,22 +633,28 @@ fn put_pair(map: &mut [u8], block: u64, pair: u8) {
     *byte = pairs[0] + 4 * pairs[1] + 16 * pairs[2] + 64 * pairs[3];
 }
 
-pub fn write_mapped(
+pub fn carry_out_mapped(
     patch: &mut [u8],
     full: &mut [u8],
     map: &mut [u8],
     block: u64,
-    base: &[u8],
+    kind: u32,
+    payload: &[u8],
     page: &[u8],
 ) -> Written {
     let refused = |number| Written { number, kind: 0, length: 0 };
-    if let Err(number) = judge_lent_mapped([patch, full, map], block, [base, page]) {
-        return refused(number);
+    // What comes before the map's length; all else comes after it.
+    if kind == FULL_REF && page.len() != PAGE {
+        return refused(BAD_PAGE_LENGTH);
     }
-    // Of Write's refusals only 8 is left.
-    let written = write(patch, full, block, base, page);
+    match sizes_of(patch, full) {
+        None => return refused(BAD_AREA_LENGTH),
+        Some((n, _)) if (map.len() as u64) < map_length(n) => return refused(SHORT_BUFFER),
+        Some(_) => {}
+    }
+    let written = carry_out(patch, full, block, kind, payload, page);
     if written.number == DONE {
-        put_pair(map, block, pair_of_kind(written.kind));
+        put_pair(map, block, pair_of_kind(kind));
     }
     written
 }

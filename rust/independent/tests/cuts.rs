@@ -1,9 +1,17 @@
 //! What a cut leaves, and which block is the highest, worked by hand from the rules. Nothing is linked
 //! for these.
 
-use independent::{build, cut, cut_mapped, format, highest, read, write_mapped, Done, Extent};
+use independent::{build, carry_out_mapped, cut, cut_mapped, format, highest, read, Done, Extent};
 
 const PAGE: usize = 8192;
+
+/// A kind, a payload and a page.
+type Decision<'d> = (u32, &'d [u8], &'d [u8]);
+
+/// Byte 0 becomes 7.
+const SMALL: Decision = (1, &[0, 7], &[]);
+const FIVES: Decision = (2, &[], &[5; PAGE]);
+const SIXES: Decision = (2, &[], &[6; PAGE]);
 
 #[derive(Clone, Debug, PartialEq, Eq)]
 struct Store {
@@ -24,19 +32,19 @@ impl Store {
         store
     }
 
-    fn write(&mut self, block: u64, page: &[u8]) {
-        let written =
-            write_mapped(&mut self.patch, &mut self.full, &mut self.map, block, &[], page);
+    fn carry_out(&mut self, block: u64, (kind, payload, page): Decision) {
+        let Store { patch, full, map } = self;
+        let written = carry_out_mapped(patch, full, map, block, kind, payload, page);
         assert_eq!(written.number, 0, "block {block}");
     }
 
     /// Blocks 1 and 3 full, blocks 2 and 4 PATCH.
     fn used() -> Store {
         let mut store = Store::fresh();
-        store.write(1, &[5; PAGE]);
-        store.write(2, &small());
-        store.write(3, &[6; PAGE]);
-        store.write(4, &small());
+        store.carry_out(1, FIVES);
+        store.carry_out(2, SMALL);
+        store.carry_out(3, SIXES);
+        store.carry_out(4, SMALL);
         assert_eq!(store.map, [0x64, 0x02, 0xEE]);
         store
     }
@@ -50,12 +58,6 @@ impl Store {
         let Extent { number, blocks } = highest(&self.patch);
         (number, blocks)
     }
-}
-
-fn small() -> Vec<u8> {
-    let mut page = vec![0; PAGE];
-    page[0] = 7;
-    page
 }
 
 /// The bytes of each K: what is left is the store without the blocks that it covers.
@@ -73,9 +75,9 @@ fn a_cut_leaves_the_blocks_below() {
         let mut store = Store::used();
         assert_eq!(store.cut(k), 0);
         let mut left = Store::fresh();
-        for (block, page) in [(1, vec![5; PAGE]), (2, small()), (3, vec![6; PAGE]), (4, small())] {
+        for (block, decision) in [(1, FIVES), (2, SMALL), (3, SIXES), (4, SMALL)] {
             if block < k {
-                left.write(block, &page);
+                left.carry_out(block, decision);
             }
         }
         assert_eq!(store, left, "K = {k}");
@@ -175,16 +177,16 @@ fn cut_blocks_read_as_their_bases() {
 fn the_highest_block() {
     let mut store = Store::fresh();
     assert_eq!(store.highest(), (0, 0));
-    store.write(0, &small());
+    store.carry_out(0, SMALL);
     assert_eq!(store.highest(), (0, 1));
-    store.write(3, &[5; PAGE]);
+    store.carry_out(3, FIVES);
     assert_eq!(store.highest(), (0, 4));
-    store.write(5, &small());
+    store.carry_out(5, SMALL);
     assert_eq!(store.highest(), (0, 6));
-    store.write(5, &[0; PAGE]);
+    store.carry_out(5, (0, &[], &[]));
     assert_eq!(store.highest(), (0, 4));
     // A payload that breaks is not looked at, and neither is a place.
-    store.write(4, &small());
+    store.carry_out(4, SMALL);
     store.patch[512 + 4 * 512 + 2] = 3;
     store.full[4096 + 2 * PAGE] = 1;
     assert_eq!(store.highest(), (0, 5));

@@ -1,9 +1,19 @@
 //! What becomes of a lent map, and what a read by a map gives, worked by hand from the rules. Nothing is
 //! linked for these.
 
-use independent::{build, format, read, read_mapped, write, write_mapped, Reading, Written};
+use independent::{
+    build, carry_out, carry_out_mapped, format, read, read_mapped, Reading, Written,
+};
 
 const PAGE: usize = 8192;
+
+/// A kind, a payload and a page.
+type Decision<'d> = (u32, &'d [u8], &'d [u8]);
+
+/// Byte 0 becomes 7. The page is not looked at.
+const EMPTY: Decision = (0, &[], &[]);
+const SMALL: Decision = (1, &[0, 7], &[]);
+const FULL: Decision = (2, &[], &[5; PAGE]);
 
 struct Store {
     patch: Vec<u8>,
@@ -23,8 +33,9 @@ impl Store {
         store
     }
 
-    fn write(&mut self, block: u64, page: &[u8]) -> Written {
-        write_mapped(&mut self.patch, &mut self.full, &mut self.map, block, &[], page)
+    fn carry_out(&mut self, block: u64, (kind, payload, page): Decision) -> Written {
+        let Store { patch, full, map } = self;
+        carry_out_mapped(patch, full, map, block, kind, payload, page)
     }
 
     fn read(&self, map: &[u8], block: u64, base: &[u8]) -> (Reading, Vec<u8>) {
@@ -32,12 +43,6 @@ impl Store {
         let reading = read_mapped(&self.patch, &self.full, map, block, base, &mut page);
         (reading, page)
     }
-}
-
-fn small() -> Vec<u8> {
-    let mut page = vec![0; PAGE];
-    page[0] = 7;
-    page
 }
 
 fn done(kind: u32) -> Reading {
@@ -48,26 +53,26 @@ fn refused(number: u32, offset: u32) -> Reading {
     Reading { number, kind: 0, offset }
 }
 
-/// A day's writes over a base of zeros, and the map after each.
+/// A day's decisions over a base of zeros, and the map after each.
 #[test]
-fn a_map_follows_its_writes() {
+fn a_map_follows_its_decisions() {
     let mut store = Store::fresh();
-    let (empty, patch, full) = (vec![0; PAGE], small(), vec![5; PAGE]);
-    for (block, page, kind, map) in [
-        (0, &patch, 1, [0x02, 0x00]),
-        (1, &full, 2, [0x06, 0x00]),
-        (3, &patch, 1, [0x86, 0x00]),
-        (5, &full, 2, [0x86, 0x04]),
-        (4, &patch, 1, [0x86, 0x06]),
-        (2, &full, 2, [0x96, 0x06]),
-        (0, &full, 2, [0x95, 0x06]),
-        (1, &patch, 1, [0x99, 0x06]),
-        (3, &empty, 0, [0x19, 0x06]),
-        (5, &empty, 0, [0x19, 0x02]),
-        (0, &empty, 0, [0x18, 0x02]),
+    for (block, decision, map) in [
+        (0, SMALL, [0x02, 0x00]),
+        (1, FULL, [0x06, 0x00]),
+        (3, SMALL, [0x86, 0x00]),
+        (5, FULL, [0x86, 0x04]),
+        (4, SMALL, [0x86, 0x06]),
+        (2, FULL, [0x96, 0x06]),
+        (0, FULL, [0x95, 0x06]),
+        (1, SMALL, [0x99, 0x06]),
+        (3, EMPTY, [0x19, 0x06]),
+        (5, EMPTY, [0x19, 0x02]),
+        (0, EMPTY, [0x18, 0x02]),
     ] {
-        let written = store.write(block, page);
-        assert_eq!((written.number, written.kind), (0, kind), "block {block}");
+        let written = store.carry_out(block, decision);
+        let length = if decision.0 == 1 { 2 } else { 0 };
+        assert_eq!(written, Written { number: 0, kind: decision.0, length }, "block {block}");
         assert_eq!(store.map, [map[0], map[1], 0xEE], "block {block}");
     }
     let mut built = vec![0xEE; 3];
@@ -75,14 +80,17 @@ fn a_map_follows_its_writes() {
     assert_eq!(built, store.map);
 }
 
-/// Every write is Write's own, but for the map.
+/// The same without a map, but for the map.
 #[test]
-fn the_areas_are_those_of_write() {
+fn the_areas_are_those_without_a_map() {
     let mut store = Store::fresh();
     let (mut patch, mut full) = (store.patch.clone(), store.full.clone());
-    for (block, page) in [(0, small()), (5, vec![5; PAGE]), (5, small()), (6, small())] {
-        let plain = write(&mut patch, &mut full, block, &[], &page);
-        assert_eq!(store.write(block, &page), plain);
+    for (block, decision) in
+        [(0, SMALL), (5, FULL), (5, SMALL), (6, SMALL), (4, (3, &[], &[])), (4, (1, &[0], &[]))]
+    {
+        let (kind, payload, page) = decision;
+        let plain = carry_out(&mut patch, &mut full, block, kind, payload, page);
+        assert_eq!(store.carry_out(block, decision), plain);
         assert_eq!((&store.patch, &store.full), (&patch, &full));
     }
 }
@@ -94,26 +102,29 @@ fn only_the_own_pair_is_set() {
     {
         let mut store = Store::fresh();
         store.map = vec![0xFF; 3];
-        assert_eq!(store.write(block, &small()).number, 0);
+        assert_eq!(store.carry_out(block, SMALL).number, 0);
         assert_eq!(store.map, [map[0], map[1], 0xFF], "block {block}");
     }
 }
 
 #[test]
-fn a_refused_write_leaves_the_map() {
+fn a_refused_decision_leaves_the_map() {
     let mut store = Store::fresh();
     store.map = vec![0x2D; 2];
-    assert_eq!(store.write(6, &small()).number, 5);
-    assert_eq!(store.write(0, &small()[1..]).number, 1);
+    assert_eq!(store.carry_out(6, SMALL).number, 5);
+    assert_eq!(store.carry_out(0, (2, &[], &[5; PAGE - 1])).number, 1);
+    assert_eq!(store.carry_out(0, (3, &[], &[])).number, 6);
+    assert_eq!(store.carry_out(0, (1, &[0, 7, 0], &[])).number, 7);
     store.full.truncate(4096 + PAGE);
-    assert_eq!(store.write(1, &[5; PAGE]).number, 8);
+    assert_eq!(store.carry_out(1, FULL).number, 8);
     store.patch[0] = 0;
-    assert_eq!(store.write(0, &small()).number, 3);
+    assert_eq!(store.carry_out(0, SMALL).number, 3);
     assert_eq!(store.map, [0x2D; 2]);
     store.map.truncate(1);
-    assert_eq!(store.write(0, &small()).number, 9);
+    assert_eq!(store.carry_out(0, SMALL).number, 9);
     store.full.push(0);
-    assert_eq!(store.write(0, &small()).number, 2);
+    assert_eq!(store.carry_out(0, SMALL).number, 2);
+    assert_eq!(store.carry_out(0, (2, &[], &[])).number, 1);
     assert_eq!(store.map, [0x2D]);
 }
 
@@ -121,9 +132,9 @@ fn a_refused_write_leaves_the_map() {
 /// with a page in its place.
 fn of_every_sort() -> Store {
     let mut store = Store::fresh();
-    store.write(0, &small());
-    store.write(1, &[5; PAGE]);
-    store.write(2, &small());
+    store.carry_out(0, SMALL);
+    store.carry_out(1, FULL);
+    store.carry_out(2, SMALL);
     store.patch[512 + 2 * 512 + 2] = 3; // a third byte, a jump without a value
     store.patch[512 + 3 * 512] = 9;
     store.full[4096 + 4 * PAGE..4096 + 5 * PAGE].fill(8);
@@ -178,10 +189,10 @@ fn a_full_page_wants_a_place() {
 #[test]
 fn reads_by_the_kept_map_are_reads() {
     let mut store = Store::fresh();
-    store.write(1, &[5; PAGE]);
-    store.write(3, &small());
-    store.write(4, &[6; PAGE]);
-    store.write(4, &small());
+    store.carry_out(1, FULL);
+    store.carry_out(3, SMALL);
+    store.carry_out(4, FULL);
+    store.carry_out(4, SMALL);
     for block in 0..7 {
         let mut page = vec![0xEE; PAGE];
         let plain = read(&store.patch, &store.full, block, &[], &mut page);

@@ -71,19 +71,20 @@ extern "C" {
         page_len: usize,
     ) -> thx_reading;
 
-    pub fn thx_write(
+    pub fn thx_carry_out(
         patch: *mut u8,
         patch_len: usize,
         full: *mut u8,
         full_len: usize,
         block: u64,
-        base: *const u8,
-        base_len: usize,
+        kind: u32,
+        payload: *const u8,
+        payload_len: usize,
         page: *const u8,
         page_len: usize,
     ) -> thx_written;
 
-    pub fn thx_write_mapped(
+    pub fn thx_carry_out_mapped(
         patch: *mut u8,
         patch_len: usize,
         full: *mut u8,
@@ -91,8 +92,9 @@ extern "C" {
         map: *mut u8,
         map_len: usize,
         block: u64,
-        base: *const u8,
-        base_len: usize,
+        kind: u32,
+        payload: *const u8,
+        payload_len: usize,
         page: *const u8,
         page_len: usize,
     ) -> thx_written;

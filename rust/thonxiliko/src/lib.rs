@@ -17,8 +17,12 @@
 //! Where a payload is not sound, [`apply`], [`read`], [`read_mapped`] and [`build`] also say at which of
 //! its bytes, and [`entries`] steps through it up to there.
 //!
+//! A page is written in two steps. [`compare`] makes a [`Decision`] from the page and its base: that
+//! nothing need be kept, a patch, or the full page. [`carry_out`] stores it. Between the two a program
+//! may show what would be stored, or leave it.
+//!
 //! [`build`] makes the *map*, which says of each block where its page is. A program that keeps it lends
-//! it to every write ([`write_mapped`]) and every cut ([`cut_mapped`]) and may then read by it
+//! it to every write ([`carry_out_mapped`]) and every cut ([`cut_mapped`]) and may then read by it
 //! ([`read_mapped`]).
 //!
 //! Where the data file has become shorter, [`cut`] drops the blocks past its end. [`highest`] tells up
@@ -28,18 +32,22 @@
 //! not have.
 //!
 //! ```
-//! use thonxiliko::{build, format, patch_area_len, read, tally, write, Kind, PAGE_SIZE};
+//! use thonxiliko::{build, carry_out, compare, format, patch_area_len, read, tally};
+//! use thonxiliko::{Kind, PAGE_SIZE, PAYLOAD_SIZE};
 //!
 //! // A store for four blocks without a full area.
 //! let mut patch = vec![0; patch_area_len(4)];
 //! let mut full = [];
 //! format(&mut patch, &mut full)?;
 //!
-//! // Block 2 gets one changed byte.
+//! // Block 2 gets one changed byte. What it would take is known before it is stored.
 //! let base = vec![7; PAGE_SIZE];
 //! let mut page = base.clone();
 //! page[100] = 8;
-//! let written = write(&mut patch, &mut full, 2, &base, &page)?;
+//! let mut payload = [0; PAYLOAD_SIZE];
+//! let decision = compare(&base, &page, &mut payload)?;
+//! assert_eq!(decision.kind(), Kind::Patch);
+//! let written = carry_out(&mut patch, &mut full, 2, &decision)?;
 //! assert_eq!((written.kind, written.length), (Kind::Patch, 2));
 //!
 //! // It reads back over the same base.
@@ -333,7 +341,7 @@ impl From<BuildRefusal> for Refusal {
     }
 }
 
-/// What [`compare`] found.
+/// What [`compare`] found, in numbers.
 #[derive(Clone, Copy, Debug, PartialEq, Eq)]
 pub struct Compared {
     /// How the pages differ.
@@ -344,6 +352,152 @@ pub struct Compared {
     pub entries: usize,
     /// The last position that differs.
     pub last: Option<usize>,
+}
+
+/// What a page takes to be stored over its base: made by [`compare`], carried out by [`carry_out`].
+///
+/// It holds the page that was compared and, of the lent buffer, just the payload's own bytes, and
+/// borrows both. Nothing but a [`compare`] that was done makes one. So the two mistakes that a caller of
+/// the C interface can make do not compile.
+///
+/// The right caller. Each of the others below differs from it in a line or two:
+///
+/// ```
+/// use thonxiliko::{carry_out, compare, format, patch_area_len, read, Kind, PAGE_SIZE};
+///
+/// let mut patch = vec![0; patch_area_len(1)];
+/// format(&mut patch, &mut [])?;
+/// let mut page = [5; PAGE_SIZE];
+/// page[0] = 7;
+/// let mut buffer = [0; 504];
+///
+/// let decision = compare(&[5; PAGE_SIZE], &page, &mut buffer)?;
+/// carry_out(&mut patch, &mut [], 0, &decision)?;
+///
+/// assert_eq!(decision.payload(), [0x00, 0x07]);
+/// let mut again = [0; PAGE_SIZE];
+/// assert_eq!(read(&patch, &[], 0, &[5; PAGE_SIZE], &mut again)?, Kind::Patch);
+/// assert_eq!(again, page);
+/// # Ok::<(), thonxiliko::Refusal>(())
+/// ```
+///
+/// A refused Compare has decided nothing. In C its kind is 0, and carried out it would make the block
+/// EMPTY: its page would be lost. Here the `?` cannot be left out:
+///
+/// ```compile_fail,E0308
+/// # use thonxiliko::{carry_out, compare, format, patch_area_len, read, Kind, PAGE_SIZE};
+/// # let mut patch = vec![0; patch_area_len(1)];
+/// # format(&mut patch, &mut [])?;
+/// # let mut page = [5; PAGE_SIZE];
+/// # page[0] = 7;
+/// # let mut buffer = [0; 504];
+/// let decision = compare(&[5; PAGE_SIZE], &page, &mut buffer);
+/// carry_out(&mut patch, &mut [], 0, &decision)?;
+/// # Ok::<(), thonxiliko::Refusal>(())
+/// ```
+///
+/// The whole buffer is not the payload. In C, `00 07` with 502 zeros after it is a sound payload of 252
+/// entries, which would make bytes 1 to 251 zero. Here no decision is made by hand:
+///
+/// ```compile_fail,E0451
+/// # use thonxiliko::{carry_out, compare, format, patch_area_len, read, Kind, PAGE_SIZE};
+/// # let mut patch = vec![0; patch_area_len(1)];
+/// # format(&mut patch, &mut [])?;
+/// # let mut page = [5; PAGE_SIZE];
+/// # page[0] = 7;
+/// # let mut buffer = [0; 504];
+/// let compared = compare(&[5; PAGE_SIZE], &page, &mut buffer)?.compared();
+/// let decision = thonxiliko::Decision { compared, payload: &buffer, page: &page };
+/// carry_out(&mut patch, &mut [], 0, &decision)?;
+/// # Ok::<(), thonxiliko::Refusal>(())
+/// ```
+///
+/// Nor does one that was made become another:
+///
+/// ```compile_fail,E0616
+/// # use thonxiliko::{carry_out, compare, format, patch_area_len, read, Kind, PAGE_SIZE};
+/// # let mut patch = vec![0; patch_area_len(1)];
+/// # format(&mut patch, &mut [])?;
+/// # let mut page = [5; PAGE_SIZE];
+/// # page[0] = 7;
+/// # let mut buffer = [0; 504];
+/// # let whole = [0; 504];
+/// let mut decision = compare(&[5; PAGE_SIZE], &page, &mut buffer)?;
+/// decision.payload = &whole;
+/// carry_out(&mut patch, &mut [], 0, &decision)?;
+/// # Ok::<(), thonxiliko::Refusal>(())
+/// ```
+///
+/// And neither the buffer nor the page changes between the two calls:
+///
+/// ```compile_fail,E0506
+/// # use thonxiliko::{carry_out, compare, format, patch_area_len, read, Kind, PAGE_SIZE};
+/// # let mut patch = vec![0; patch_area_len(1)];
+/// # format(&mut patch, &mut [])?;
+/// # let mut page = [5; PAGE_SIZE];
+/// # page[0] = 7;
+/// # let mut buffer = [0; 504];
+/// let decision = compare(&[5; PAGE_SIZE], &page, &mut buffer)?;
+/// buffer[1] = 8;
+/// carry_out(&mut patch, &mut [], 0, &decision)?;
+/// # Ok::<(), thonxiliko::Refusal>(())
+/// ```
+///
+/// ```compile_fail,E0506
+/// # use thonxiliko::{carry_out, compare, format, patch_area_len, read, Kind, PAGE_SIZE};
+/// # let mut patch = vec![0; patch_area_len(1)];
+/// # format(&mut patch, &mut [])?;
+/// # let mut page = [5; PAGE_SIZE];
+/// # page[0] = 7;
+/// # let mut buffer = [0; 504];
+/// let decision = compare(&[5; PAGE_SIZE], &page, &mut buffer)?;
+/// page[0] = 8;
+/// carry_out(&mut patch, &mut [], 0, &decision)?;
+/// # Ok::<(), thonxiliko::Refusal>(())
+/// ```
+///
+/// What it does not hold is the base and the block: carry it out on the block over whose base it was
+/// made. A payload that comes from elsewhere is carried out by the C interface (`thonxiliko-sys`).
+#[derive(Clone, Copy, PartialEq, Eq)]
+pub struct Decision<'a> {
+    compared: Compared,
+    payload: &'a [u8],
+    page: &'a [u8],
+}
+
+impl<'a> Decision<'a> {
+    /// The numbers that [`compare`] found.
+    pub fn compared(&self) -> Compared {
+        self.compared
+    }
+
+    /// The kind that is stored if the decision is carried out: what a desk shows before it commits.
+    pub fn kind(&self) -> Kind {
+        match self.compared.difference {
+            Difference::Same => Kind::Empty,
+            Difference::Patch => Kind::Patch,
+            Difference::Large => Kind::Full,
+        }
+    }
+
+    /// The payload; empty unless the kind is [`Kind::Patch`].
+    pub fn payload(&self) -> &'a [u8] {
+        self.payload
+    }
+
+    /// The page that was compared.
+    pub fn page(&self) -> &'a [u8] {
+        self.page
+    }
+}
+
+impl fmt::Debug for Decision<'_> {
+    // Without the page, of which 8,192 numbers would be printed.
+    fn fmt(&self, f: &mut fmt::Formatter<'_>) -> fmt::Result {
+        let mut text = f.debug_struct("Decision");
+        text.field("compared", &self.compared).field("payload", &self.payload);
+        text.finish_non_exhaustive()
+    }
 }
 
 /// What [`apply`] did.
@@ -385,12 +539,12 @@ pub struct Judged {
     pub length: usize,
 }
 
-/// What [`write()`] or [`write_mapped`] stored.
+/// What [`carry_out`] or [`carry_out_mapped`] stored.
 #[derive(Clone, Copy, Debug, PartialEq, Eq)]
 pub struct Written {
     /// The kind stored.
     pub kind: Kind,
-    /// Bytes of the stream, also where it was too long and the whole page was stored.
+    /// Bytes of the payload stored; 0 unless the kind is [`Kind::Patch`].
     pub length: usize,
 }
 
@@ -483,25 +637,43 @@ pub fn format(patch: &mut [u8], full: &mut [u8]) -> Result<(), Refusal> {
     accepted(done.number)
 }
 
-/// Finds the stream of bytes in which `page` differs from `base` and puts it into `payload` if it
-/// fits a slot ([`Difference::Patch`]). Otherwise, and after the stream, `payload` stays as it was.
+/// Finds the stream of bytes in which `page` differs from `base`, and so decides what the page takes to
+/// be stored: nothing, a patch or a full page.
+///
+/// The stream is put into `payload` if it fits a slot ([`Difference::Patch`]). Otherwise, and after the
+/// stream, `payload` stays as it was. The decision borrows `page` and `payload` until it is dropped.
 ///
 /// Refuses, in this order: [`Refusal::PageLength`]; [`Refusal::ShortBuffer`] if `payload` has less
 /// than 504 bytes.
 ///
 /// ```
-/// use thonxiliko::{compare, Difference, PAGE_SIZE, PAYLOAD_SIZE};
+/// use thonxiliko::{compare, Difference, Kind, Refusal, PAGE_SIZE, PAYLOAD_SIZE};
 ///
 /// let mut page = vec![0; PAGE_SIZE];
 /// page[0] = 7;
-/// let mut payload = [0; PAYLOAD_SIZE];
-/// let compared = compare(&[], &page, &mut payload)?;
-/// assert_eq!(compared.difference, Difference::Patch);
-/// assert_eq!(payload[..compared.length], [0x00, 0x07]);
-/// assert_eq!(compared.last, Some(0));
-/// # Ok::<(), thonxiliko::Refusal>(())
+/// let mut payload = [0xAA; PAYLOAD_SIZE];
+/// let decision = compare(&[], &page, &mut payload)?;
+/// assert_eq!((decision.kind(), decision.payload()), (Kind::Patch, &[0x00, 0x07][..]));
+/// let compared = decision.compared();
+/// assert_eq!((compared.difference, compared.last), (Difference::Patch, Some(0)));
+/// assert_eq!((compared.length, compared.entries), (2, 1));
+/// assert_eq!(payload[..3], [0x00, 0x07, 0xAA]);
+///
+/// // This one would take a full page.
+/// let large = vec![9; PAGE_SIZE];
+/// let decision = compare(&[], &large, &mut payload)?;
+/// assert_eq!((decision.kind(), decision.payload()), (Kind::Full, &[][..]));
+/// assert_eq!(decision.compared().length, 16_384);
+/// assert_eq!(decision.page(), large);
+///
+/// assert_eq!(compare(&[], &page[1..], &mut payload), Err(Refusal::PageLength));
+/// # Ok::<(), Refusal>(())
 /// ```
-pub fn compare(base: &[u8], page: &[u8], payload: &mut [u8]) -> Result<Compared, Refusal> {
+pub fn compare<'a>(
+    base: &[u8],
+    page: &'a [u8],
+    payload: &'a mut [u8],
+) -> Result<Decision<'a>, Refusal> {
     // SAFETY: as in `format`.
     let compared = unsafe {
         sys::thx_compare(
@@ -514,12 +686,19 @@ pub fn compare(base: &[u8], page: &[u8], payload: &mut [u8]) -> Result<Compared,
         )
     };
     accepted(compared.number)?;
-    Ok(Compared {
+    let compared = Compared {
         difference: difference(compared.kind),
         length: compared.length as usize,
         entries: compared.entries as usize,
         last: position(compared.last),
-    })
+    };
+    Ok(Decision { compared, payload: own_bytes(payload, &compared), page })
+}
+
+/// Of Compare's buffer, the bytes that are the payload.
+fn own_bytes<'a>(buffer: &'a [u8], compared: &Compared) -> &'a [u8] {
+    let length = if compared.difference == Difference::Patch { compared.length } else { 0 };
+    buffer.get(..length).unwrap_or_else(|| foreign("the length", length))
 }
 
 /// Fills `page` with `base` and then the entries of `payload`.
@@ -683,7 +862,9 @@ pub fn judge(slot: &[u8]) -> Result<Judged, Refusal> {
 ///
 /// let mut page = vec![0; thonxiliko::PAGE_SIZE];
 /// page[0] = 7;
-/// thonxiliko::write(&mut patch, &mut [], 0, &[], &page)?;
+/// let mut payload = [0; thonxiliko::PAYLOAD_SIZE];
+/// let decision = thonxiliko::compare(&[], &page, &mut payload)?;
+/// thonxiliko::carry_out(&mut patch, &mut [], 0, &decision)?;
 /// assert_eq!(thonxiliko::show(&patch, 0), Some(&[0x00, 0x07][..]));
 /// # Ok::<(), thonxiliko::Refusal>(())
 /// ```
@@ -745,68 +926,77 @@ pub fn read(
     Ok(kind(reading.kind))
 }
 
-/// Keeps `page` as the block's page.
+/// Carries out a decision: stores on a block what [`compare`] decided.
 ///
-/// `base` is the block's page in the base. The page is compared with it, not with what was written
-/// before. The block's slot is set; if the block has a place in the full area, that holds the page
-/// for [`Kind::Full`] and zeros otherwise. Nothing else changes.
+/// The block's slot is set: all zeros for [`Kind::Empty`], the payload for [`Kind::Patch`], a reference
+/// for [`Kind::Full`]. If the block has a place in the full area, that holds the page for [`Kind::Full`]
+/// and zeros otherwise. Nothing else changes. What the block held before is not looked at, so a slot that
+/// is not sound is replaced too. Read back over the base that was compared, the block is the page.
 ///
-/// Refuses, in this order: [`Refusal::PageLength`], [`Refusal::AreaLength`], [`Refusal::Header`] and
-/// [`Refusal::Version`], [`Refusal::Block`], and [`Refusal::NoFullPage`] if the page needs the full
-/// area and that has no place for the block.
+/// Refuses, in this order: [`Refusal::AreaLength`], [`Refusal::Header`] and [`Refusal::Version`],
+/// [`Refusal::Block`], and [`Refusal::NoFullPage`] if the kind is [`Kind::Full`] and the full area has no
+/// place for the block. The C interface has further ones, for decisions that are not Compare's.
 ///
 /// ```
-/// use thonxiliko::{format, full_area_len, patch_area_len, write, Kind, Refusal, PAGE_SIZE};
+/// use thonxiliko::{carry_out, compare, format, full_area_len, patch_area_len};
+/// use thonxiliko::{Kind, Refusal, Written, PAGE_SIZE, PAYLOAD_SIZE};
 ///
 /// let mut patch = vec![0; patch_area_len(2)];
 /// let mut full = vec![0; full_area_len(1)];
 /// format(&mut patch, &mut full)?;
 /// let page = vec![9; PAGE_SIZE];
-/// assert_eq!(write(&mut patch, &mut full, 0, &[], &page)?.kind, Kind::Full);
-/// assert_eq!(write(&mut patch, &mut full, 1, &[], &page), Err(Refusal::NoFullPage));
+/// let mut payload = [0; PAYLOAD_SIZE];
+/// let decision = compare(&[], &page, &mut payload)?;
+/// assert_eq!(decision.kind(), Kind::Full);
+/// assert_eq!(full[4_096], 0); // nothing is stored yet
+///
+/// let written = carry_out(&mut patch, &mut full, 0, &decision)?;
+/// assert_eq!(written, Written { kind: Kind::Full, length: 0 });
+/// assert_eq!(full[4_096..], page);
+/// assert_eq!(carry_out(&mut patch, &mut full, 1, &decision), Err(Refusal::NoFullPage));
 /// # Ok::<(), Refusal>(())
 /// ```
-pub fn write(
+pub fn carry_out(
     patch: &mut [u8],
     full: &mut [u8],
     block: u64,
-    base: &[u8],
-    page: &[u8],
+    decision: &Decision<'_>,
 ) -> Result<Written, Refusal> {
     // SAFETY: as in `format`.
     let written = unsafe {
-        sys::thx_write(
+        sys::thx_carry_out(
             patch.as_mut_ptr(),
             patch.len(),
             full.as_mut_ptr(),
             full.len(),
             block,
-            base.as_ptr(),
-            base.len(),
-            page.as_ptr(),
-            page.len(),
+            decision.kind().number(),
+            decision.payload.as_ptr(),
+            decision.payload.len(),
+            decision.page.as_ptr(),
+            decision.page.len(),
         )
     };
     accepted(written.number)?;
     Ok(Written { kind: kind(written.kind), length: written.length as usize })
 }
 
-/// Keeps `page` as the block's page, and the block's pair in `map`.
+/// Carries out a decision, and keeps the block's pair in `map`.
 ///
-/// It does to both areas what [`write()`] does. If it is done, the block's own pair is set to what was
+/// It does to both areas what [`carry_out`] does. If it is done, the block's own pair is set to what was
 /// stored, whatever it was before. Other pairs and later bytes of the map are not looked at and stay.
 ///
 /// A map tells the truth only if it is the store's own: all zeros beside fresh areas, else made by
 /// [`build`], and lent to every write and every cut since. After one of them without it, or with another
 /// store's map, [`read_mapped`] can give the page of before, or zeros. Build it anew then.
 ///
-/// Refuses, in this order: [`Refusal::PageLength`], [`Refusal::AreaLength`], [`Refusal::ShortBuffer`]
-/// if the map has less than [`map_len`] bytes, [`Refusal::Header`] and [`Refusal::Version`],
-/// [`Refusal::Block`], and [`Refusal::NoFullPage`] as in [`write()`]. A refused write leaves the map.
+/// Refuses, in this order: [`Refusal::AreaLength`], [`Refusal::ShortBuffer`] if the map has less than
+/// [`map_len`] bytes, [`Refusal::Header`] and [`Refusal::Version`], [`Refusal::Block`], and
+/// [`Refusal::NoFullPage`] as in [`carry_out`]. If it is refused, the map stays as it is.
 ///
 /// ```
-/// use thonxiliko::{build, format, full_area_len, map_len, patch_area_len, write_mapped};
-/// use thonxiliko::{Refusal, PAGE_SIZE};
+/// use thonxiliko::{build, carry_out_mapped, compare, format, full_area_len, map_len};
+/// use thonxiliko::{patch_area_len, Refusal, PAGE_SIZE, PAYLOAD_SIZE};
 ///
 /// let mut patch = vec![0; patch_area_len(3)];
 /// let mut full = vec![0; full_area_len(1)];
@@ -816,10 +1006,13 @@ pub fn write(
 /// let large = vec![9; PAGE_SIZE];
 /// let mut small = vec![0; PAGE_SIZE];
 /// small[100] = 8;
-/// write_mapped(&mut patch, &mut full, &mut map, 0, &[], &large)?;
-/// write_mapped(&mut patch, &mut full, &mut map, 2, &[], &small)?;
+/// let (mut first, mut second) = ([0; PAYLOAD_SIZE], [0; PAYLOAD_SIZE]);
+/// let large = compare(&[], &large, &mut first)?;
+/// let small = compare(&[], &small, &mut second)?;
+/// carry_out_mapped(&mut patch, &mut full, &mut map, 0, &large)?;
+/// carry_out_mapped(&mut patch, &mut full, &mut map, 2, &small)?;
 /// assert_eq!(map, [0b00_10_00_01]);
-/// let refused = write_mapped(&mut patch, &mut full, &mut map, 1, &[], &large);
+/// let refused = carry_out_mapped(&mut patch, &mut full, &mut map, 1, &large);
 /// assert_eq!(refused, Err(Refusal::NoFullPage));
 ///
 /// let mut built = vec![0; map_len(3)];
@@ -827,17 +1020,16 @@ pub fn write(
 /// assert_eq!(map, built);
 /// # Ok::<(), Refusal>(())
 /// ```
-pub fn write_mapped(
+pub fn carry_out_mapped(
     patch: &mut [u8],
     full: &mut [u8],
     map: &mut [u8],
     block: u64,
-    base: &[u8],
-    page: &[u8],
+    decision: &Decision<'_>,
 ) -> Result<Written, Refusal> {
     // SAFETY: as in `format`.
     let written = unsafe {
-        sys::thx_write_mapped(
+        sys::thx_carry_out_mapped(
             patch.as_mut_ptr(),
             patch.len(),
             full.as_mut_ptr(),
@@ -845,10 +1037,11 @@ pub fn write_mapped(
             map.as_mut_ptr(),
             map.len(),
             block,
-            base.as_ptr(),
-            base.len(),
-            page.as_ptr(),
-            page.len(),
+            decision.kind().number(),
+            decision.payload.as_ptr(),
+            decision.payload.len(),
+            decision.page.as_ptr(),
+            decision.page.len(),
         )
     };
     accepted(written.number)?;
@@ -860,7 +1053,7 @@ pub fn write_mapped(
 /// [`Pair::Empty`] gives the base, and neither slot nor full area is looked at. [`Pair::Patch`] needs a
 /// sound PATCH slot. [`Pair::Full`] gives the block's page in the full area, whatever its slot is.
 ///
-/// It trusts the map. With the map that [`build`] makes, or one kept by [`write_mapped`] and
+/// It trusts the map. With the map that [`build`] makes, or one kept by [`carry_out_mapped`] and
 /// [`cut_mapped`], it answers as [`read`] does. A map that does not belong to the areas is mostly not
 /// noticed: where it says EMPTY of a block that was written since, the base comes back, yesterday's page.
 ///
@@ -870,7 +1063,8 @@ pub fn write_mapped(
 /// [`Refusal::NoFullPage`], [`Refusal::Payload`]. Other blocks and their pairs are not looked at.
 ///
 /// ```
-/// use thonxiliko::{format, patch_area_len, read_mapped, write_mapped, Kind, Refusal, PAGE_SIZE};
+/// use thonxiliko::{carry_out_mapped, compare, format, patch_area_len, read_mapped};
+/// use thonxiliko::{Kind, Refusal, PAGE_SIZE, PAYLOAD_SIZE};
 ///
 /// let mut patch = vec![0; patch_area_len(2)];
 /// format(&mut patch, &mut [])?;
@@ -878,7 +1072,9 @@ pub fn write_mapped(
 /// let base = vec![5; PAGE_SIZE];
 /// let mut changed = base.clone();
 /// changed[0] = 6;
-/// write_mapped(&mut patch, &mut [], &mut map, 1, &base, &changed)?;
+/// let mut payload = [0; PAYLOAD_SIZE];
+/// let decision = compare(&base, &changed, &mut payload)?;
+/// carry_out_mapped(&mut patch, &mut [], &mut map, 1, &decision)?;
 ///
 /// let mut page = vec![0; PAGE_SIZE];
 /// assert_eq!(read_mapped(&patch, &[], &map, 1, &base, &mut page)?, Kind::Patch);
@@ -934,15 +1130,17 @@ pub fn read_mapped(
 /// A map that is kept must not miss it: see [`cut_mapped`].
 ///
 /// ```
-/// use thonxiliko::{cut, format, full_area_len, patch_area_len, read, write};
-/// use thonxiliko::{Kind, Refusal, PAGE_SIZE};
+/// use thonxiliko::{carry_out, compare, cut, format, full_area_len, patch_area_len, read};
+/// use thonxiliko::{Kind, Refusal, PAGE_SIZE, PAYLOAD_SIZE};
 ///
 /// let mut patch = vec![0; patch_area_len(3)];
 /// let mut full = vec![0; full_area_len(3)];
 /// format(&mut patch, &mut full)?;
 /// let (base, changed) = (vec![5; PAGE_SIZE], vec![9; PAGE_SIZE]);
+/// let mut payload = [0; PAYLOAD_SIZE];
+/// let decision = compare(&base, &changed, &mut payload)?;
 /// for block in 0..3 {
-///     write(&mut patch, &mut full, block, &base, &changed)?;
+///     carry_out(&mut patch, &mut full, block, &decision)?; // all three have this base
 /// }
 /// cut(&mut patch, &mut full, 1)?;
 ///
@@ -972,16 +1170,18 @@ pub fn cut(patch: &mut [u8], full: &mut [u8], k: u64) -> Result<(), Refusal> {
 /// [`Refusal::Block`] as in [`cut`]. A refused cut leaves the map.
 ///
 /// ```
-/// use thonxiliko::{build, cut_mapped, format, map_len, patch_area_len, write_mapped};
-/// use thonxiliko::{Refusal, PAGE_SIZE};
+/// use thonxiliko::{build, carry_out_mapped, compare, cut_mapped, format, map_len};
+/// use thonxiliko::{patch_area_len, Refusal, PAGE_SIZE, PAYLOAD_SIZE};
 ///
 /// let mut patch = vec![0; patch_area_len(6)];
 /// format(&mut patch, &mut [])?;
 /// let mut map = vec![0; map_len(6)];
 /// let mut page = vec![0; PAGE_SIZE];
 /// page[100] = 8;
+/// let mut payload = [0; PAYLOAD_SIZE];
+/// let decision = compare(&[], &page, &mut payload)?;
 /// for block in 0..6 {
-///     write_mapped(&mut patch, &mut [], &mut map, block, &[], &page)?;
+///     carry_out_mapped(&mut patch, &mut [], &mut map, block, &decision)?;
 /// }
 /// assert_eq!(map, [0b10_10_10_10, 0b10_10]);
 ///
@@ -1023,7 +1223,8 @@ pub fn cut_mapped(
 /// [`Refusal::Slot`] if any slot is not sound, wherever it stands. Payloads are not looked at.
 ///
 /// ```
-/// use thonxiliko::{format, highest, patch_area_len, write, Refusal, PAGE_SIZE};
+/// use thonxiliko::{carry_out, compare, format, highest, patch_area_len};
+/// use thonxiliko::{Refusal, PAGE_SIZE, PAYLOAD_SIZE};
 ///
 /// let mut patch = vec![0; patch_area_len(5)];
 /// format(&mut patch, &mut [])?;
@@ -1031,10 +1232,11 @@ pub fn cut_mapped(
 ///
 /// let mut page = vec![0; PAGE_SIZE];
 /// page[100] = 8;
-/// write(&mut patch, &mut [], 2, &[], &page)?;
+/// let mut payload = [0; PAYLOAD_SIZE];
+/// carry_out(&mut patch, &mut [], 2, &compare(&[], &page, &mut payload)?)?;
 /// assert_eq!(highest(&patch), Ok(3));
 /// // The data file may have a fourth page, which equals its base.
-/// write(&mut patch, &mut [], 3, &page, &page)?;
+/// carry_out(&mut patch, &mut [], 3, &compare(&page, &page, &mut payload)?)?;
 /// assert_eq!(highest(&patch), Ok(3));
 ///
 /// patch[512 + 511] = 1; // block 0: an EMPTY slot is all zeros

@@ -7,10 +7,18 @@
 use std::fs;
 use std::path::{Path, PathBuf};
 
-use crate::folder::{copy, make_like, relation_file, same_bytes, Listing, Pages, RelationFile};
+use crate::decided::{Decided, Files};
+use crate::folder::{copy, make_like, relation_file, same_bytes, Listing, RelationFile};
 use crate::progress::Progress;
 use crate::segment::{Areas, Counts, Day};
 use crate::Outcome;
+
+/// One changed segment, and what it would take.
+pub struct DecidedSegment {
+    path: PathBuf,
+    pub relation: RelationFile,
+    pub decided: Decided,
+}
 
 /// One segment that was stored.
 pub struct StoredSegment {
@@ -44,44 +52,88 @@ fn is_changed(base: &Path, changed: &Path) -> Outcome<bool> {
     Ok(!base.exists() || !same_bytes(base, changed)?)
 }
 
+/// The folders of a day: the base, what it was at noon, if that is known, and what it is now.
+#[derive(Clone, Copy)]
+pub struct Folders<'p> {
+    pub base: &'p Path,
+    pub noon: Option<&'p Path>,
+    pub changed: &'p Path,
+}
+
+impl Folders<'_> {
+    /// Does something with one file of each folder, and names the file if that fails.
+    fn with<T>(&self, path: &Path, act: impl FnOnce(Files<'_>) -> Outcome<T>) -> Outcome<T> {
+        let (base, changed) = (self.base.join(path), self.changed.join(path));
+        let noon = self.noon.map(|noon| noon.join(path));
+        act(Files { base: &base, noon: noon.as_deref(), changed: &changed })
+            .map_err(|problem| format!("{}: {problem}", path.display()).into())
+    }
+
+    /// Decides what every changed segment would take. Nothing is stored.
+    pub fn decide(&self, progress: &mut Progress) -> Outcome<Vec<DecidedSegment>> {
+        let mut segments = Vec::new();
+        let mut pages = 0;
+        for path in Listing::of(self.changed)?.files {
+            if let Some(relation) = relation_file(&path) {
+                if is_changed(&self.base.join(&path), &self.changed.join(&path))? {
+                    pages += self.with(&path, |files| files.pages())?;
+                    segments.push((path, relation));
+                }
+            }
+        }
+        progress.start("deciding", pages);
+        let mut decided = Vec::new();
+        for (path, relation) in segments {
+            let segment = self.with(&path, |files| files.decide(progress))?;
+            decided.push(DecidedSegment { path, relation, decided: segment });
+        }
+        progress.done();
+        Ok(decided)
+    }
+}
+
 /// Keeps what the changed folder has beyond the base, and reads all of it back. Where there is a folder
-/// of noon, its pages are written first, as they were in the course of the day.
+/// of noon, its pages are written first, as they were in the course of the day. Each segment takes what
+/// was decided of it.
 pub fn store(
-    base: &Path,
-    noon: Option<&Path>,
-    changed: &Path,
+    folders: Folders<'_>,
+    decided: Vec<DecidedSegment>,
     kept: &Path,
     progress: &mut Progress,
 ) -> Outcome<Stored> {
-    let (old, new) = (Listing::of(base)?, Listing::of(changed)?);
-    let mut stored = Stored::default();
-    let mut segments = Vec::new();
     fs::create_dir_all(kept.join("pages"))?;
-    for path in &new.files {
-        if !is_changed(&base.join(path), &changed.join(path))? {
-            stored.unchanged += 1;
-        } else if let Some(relation) = relation_file(path) {
-            segments.push((path, relation));
-        } else {
-            copy(&changed.join(path), &kept.join("whole").join(path))?;
-            stored.whole_files += 1;
-            stored.whole_bytes += fs::metadata(changed.join(path))?.len();
-        }
-    }
-    let mut blocks = 0;
-    for (path, _) in &segments {
-        blocks += Pages::open(&changed.join(path))?.count;
-    }
-    progress.start("storing", blocks);
-    for (path, relation) in segments {
-        let (base, changed) = (base.join(path), changed.join(path));
-        let noon = noon.map(|noon| noon.join(path));
-        let from = [&base, &changed];
-        let (counts, day) = store_segment(from, noon.as_deref(), &area_paths(kept, path), progress)
-            .map_err(|problem| format!("{}: {problem}", path.display()))?;
+    let mut stored = store_others(folders, &decided, kept)?;
+    progress.start("storing", decided.iter().map(|one| one.decided.evening.kinds.blocks()).sum());
+    for DecidedSegment { path, relation, decided } in decided {
+        let areas = area_paths(kept, &path);
+        let (counts, day) =
+            folders.with(&path, |files| store_segment(files, &decided, &areas, progress))?;
         stored.segments.push(StoredSegment { relation, counts, day });
     }
     progress.done();
+    Ok(stored)
+}
+
+/// Keeps the changed files that hold no relation's pages, and says what is gone. No changed segment may
+/// be left out of what was decided.
+fn store_others(
+    Folders { base, changed, .. }: Folders<'_>,
+    decided: &[DecidedSegment],
+    kept: &Path,
+) -> Outcome<Stored> {
+    let (old, new) = (Listing::of(base)?, Listing::of(changed)?);
+    let mut stored = Stored::default();
+    for path in &new.files {
+        if !is_changed(&base.join(path), &changed.join(path))? {
+            stored.unchanged += 1;
+        } else if relation_file(path).is_none() {
+            copy(&changed.join(path), &kept.join("whole").join(path))?;
+            stored.whole_files += 1;
+            stored.whole_bytes += fs::metadata(changed.join(path))?.len();
+        } else if !decided.iter().any(|segment| segment.path == *path) {
+            return Err(format!("{}: changed, and nothing was decided", path.display()).into());
+        }
+    }
     stored.gone = write_list(&kept.join("gone"), old.files.difference(&new.files))?;
     write_list(&kept.join("folders"), new.folders.iter())?;
     Ok(stored)
@@ -89,18 +141,21 @@ pub fn store(
 
 /// Keeps one segment in a patch file and a full file.
 fn store_segment(
-    [base, changed]: [&PathBuf; 2],
-    noon: Option<&Path>,
+    files: Files<'_>,
+    decided: &Decided,
     (patch, full): &(PathBuf, PathBuf),
     progress: &mut Progress,
 ) -> Outcome<(Counts, Day)> {
-    let (areas, day) = Areas::store(base, noon, changed, progress)?;
+    let (areas, day) = Areas::store(files, decided, progress)?;
     if let Some(parent) = patch.parent() {
         fs::create_dir_all(parent)?;
     }
     let kept = areas.save(patch, full)?;
     // Read back from the files, not from what is still in memory.
-    let counts = Areas::load(patch, full)?.check(base, changed)?;
+    let counts = Areas::load(patch, full)?.check(files.base, files.changed)?;
+    if counts.kinds != decided.evening.kinds {
+        return Err("the files hold other kinds than were decided".into());
+    }
     Ok((Counts { kept, ..counts }, day))
 }
 
@@ -258,20 +313,29 @@ mod tests {
         fs::create_dir_all(place.0.join("new/pg_notify")).expect("a folder");
     }
 
+    /// Decides and stores, by the folders `base`, `new` and, where it is asked for, `noon`.
+    fn stored(place: &Place, noon: bool) -> Stored {
+        let at = |name: &str| place.0.join(name);
+        let (base, noon, changed) = (at("base"), noon.then(|| at("noon")), at("new"));
+        let folders = Folders { base: &base, noon: noon.as_deref(), changed: &changed };
+        let mut progress = Progress::new(false);
+        let decided = folders.decide(&mut progress).expect("decided");
+        store(folders, decided, &at("kept"), &mut progress).expect("stored")
+    }
+
     #[test]
     fn a_folder_comes_back() {
         let place = Place::new("back");
         folders(&place);
         let at = |name: &str| place.0.join(name);
         let mut progress = Progress::new(false);
-        let stored =
-            store(&at("base"), None, &at("new"), &at("kept"), &mut progress).expect("stored");
+        let stored = stored(&place, false);
         assert_eq!((stored.segments.len(), stored.unchanged, stored.gone), (5, 2, 1));
         assert_eq!((stored.whole_files, stored.whole_bytes), (1, 100));
         let counts = |first: &str| {
             let segment = stored.segments.iter().find(|segment| segment.relation.first == first);
-            let counts = segment.expect("a stored segment").counts;
-            (counts.base_blocks, counts.blocks, counts.empty, counts.patch, counts.full)
+            let Counts { base_blocks, blocks, kinds, .. } = segment.expect("a segment").counts;
+            (base_blocks, blocks, kinds.empty, kinds.patch, kinds.full)
         };
         assert_eq!(counts("base/1/11"), (4, 4, 2, 1, 1));
         assert_eq!(counts("base/1/12"), (3, 6, 2, 1, 3));
@@ -297,12 +361,12 @@ mod tests {
         place.put("noon/base/1/16", &pages(2, &[(0, 300), (1, 20)]));
         let at = |name: &str| place.0.join(name);
         let mut progress = Progress::new(false);
-        let (base, noon, new, kept) = (at("base"), at("noon"), at("new"), at("kept"));
-        let stored = store(&base, Some(&noon), &new, &kept, &mut progress).expect("stored");
+        let stored = stored(&place, true);
         let stored_as = |first: &str| {
             let segment = stored.segments.iter().find(|segment| segment.relation.first == first);
             let StoredSegment { counts, day, .. } = segment.expect("a stored segment");
-            (day.writes, [counts.empty, counts.patch, counts.full], day.cut, day.highest)
+            let kinds = counts.kinds;
+            (day.writes, [kinds.empty, kinds.patch, kinds.full], day.cut, day.highest)
         };
         let cut = |at, before, after| Some(Cut { at, before, after });
         assert_eq!(stored_as("base/1/11"), (6 + 4, [2, 1, 1], cut(4, 6, 4), 4));
@@ -311,9 +375,52 @@ mod tests {
         assert_eq!(stored_as("base/1/13"), (5 + 2, [2, 0, 0], cut(2, 5, 2), 0));
         assert_eq!(stored_as("base/1/14"), (2, [0, 0, 2], None, 2));
         assert_eq!(stored_as("base/1/16"), (2, [0, 0, 0], cut(0, 2, 0), 0));
-        rebuild(&base, &kept, &at("again"), &mut progress).expect("rebuilt");
-        let found = differences(&new, &at("again")).expect("compared");
+        rebuild(&at("base"), &at("kept"), &at("again"), &mut progress).expect("rebuilt");
+        let found = differences(&at("new"), &at("again")).expect("compared");
         assert_eq!((found.files, found.found), (8, Vec::<String>::new()));
+    }
+
+    /// What each segment would take is known before anything is kept, and what is stored is held against
+    /// it: a page that changes in between is noticed.
+    #[test]
+    fn what_is_decided_is_stored() {
+        let place = Place::new("decided");
+        folders(&place);
+        place.put("noon/base/1/11", &pages(6, &[(0, 20), (1, 300), (2, 300), (3, 20), (5, 300)]));
+        let at = |name: &str| place.0.join(name);
+        let (base, noon, changed) = (at("base"), at("noon"), at("new"));
+        let folders = Folders { base: &base, noon: Some(&noon), changed: &changed };
+        let mut progress = Progress::new(false);
+        let decided = folders.decide(&mut progress).expect("decided");
+        let of = |first: &str| {
+            let segment = decided.iter().find(|segment| segment.relation.first == first);
+            let Decided { noon, evening } = segment.expect("a changed segment").decided;
+            [noon, evening].map(|file| {
+                (file.kinds.empty, file.kinds.patch, file.kinds.full, file.pages, file.base_blocks)
+            })
+        };
+        assert_eq!(decided.len(), 5);
+        assert_eq!(of("base/1/11"), [(0, 2, 4, 6, 4), (2, 1, 1, 4, 4)]);
+        assert_eq!(of("base/1/12"), [(0, 0, 0, 0, 3), (2, 1, 3, 6, 3)]);
+        assert_eq!(of("base/1/13"), [(0, 0, 0, 0, 5), (2, 0, 0, 0, 5)]);
+        assert_eq!(of("base/1/14"), [(0, 0, 0, 0, 0), (0, 0, 2, 2, 0)]);
+        assert_eq!(of("base/1/16"), [(0, 0, 0, 0, 2), (0, 0, 0, 0, 2)]);
+        assert!(!at("kept").exists());
+
+        place.put("new/base/1/11", &pages(4, &[(1, 20), (2, 20), (3, 300)]));
+        let again = folders.decide(&mut progress).expect("decided");
+        let problem = store(folders, decided, &at("kept"), &mut progress).err();
+        assert_eq!(
+            problem.expect("noticed").to_string(),
+            "base/1/11: decided was Kinds { empty: 2, patch: 1, full: 1 }, \
+             stored was Kinds { empty: 1, patch: 2, full: 1 }"
+        );
+        place.put("new/base/1/10", &pages(4, &[(1, 20)]));
+        let problem = store(folders, again, &at("kept"), &mut progress).err();
+        assert_eq!(
+            problem.expect("noticed").to_string(),
+            "base/1/10: changed, and nothing was decided"
+        );
     }
 
     #[test]
@@ -322,7 +429,7 @@ mod tests {
         folders(&place);
         let at = |name: &str| place.0.join(name);
         let mut progress = Progress::new(false);
-        store(&at("base"), None, &at("new"), &at("kept"), &mut progress).expect("stored");
+        stored(&place, false);
         let patch = at("kept/pages/base/1/11.patch");
         let sound = fs::read(&patch).expect("a patch area");
 

@@ -1,9 +1,11 @@
 //! A trial copy of a PostgreSQL data folder.
 //!
-//! The base folder is last night's backup and is never written to. `store` keeps every changed page of
-//! the relation files of another folder beside it, `rebuild` makes that other folder again from the
-//! base and what was kept, `compare` holds two folders against each other byte by byte.
+//! The base folder is last night's backup and is never written to. `decide` tells what the changed pages
+//! of the relation files of another folder would take beside it, `store` keeps them there, `rebuild`
+//! makes that other folder again from the base and what was kept, `compare` holds two folders against
+//! each other byte by byte.
 
+mod decided;
 mod folder;
 mod kept;
 mod names;
@@ -15,17 +17,21 @@ use std::error::Error;
 use std::path::Path;
 use std::process::ExitCode;
 
+use kept::Folders;
 use names::Names;
 use progress::Progress;
 
 pub type Outcome<T> = Result<T, Box<dyn Error>>;
 
 const HELP: &str = "\
-usage: trial store BASE CHANGED KEPT [--noon FOLDER] [--names FILE] [--live]
+usage: trial decide BASE CHANGED [--names FILE] [--live]
+       trial store BASE CHANGED KEPT [--noon FOLDER] [--names FILE] [--live]
        trial rebuild BASE KEPT FOLDER [--live]
        trial compare FOLDER FOLDER
 
-  store    keeps in KEPT what CHANGED has beyond BASE, reads it back and prints a table
+  decide   tells what the changed blocks of CHANGED would take: nothing, a patch or a full page;
+           nothing is stored
+  store    tells the same, keeps in KEPT what CHANGED has beyond BASE, reads it back and prints a table
   rebuild  makes FOLDER from BASE and KEPT
   compare  says whether both folders hold the same files with the same bytes
 
@@ -40,6 +46,12 @@ struct Words {
     names: Option<String>,
     noon: Option<String>,
     live: bool,
+}
+
+impl Words {
+    fn names(&self) -> Outcome<Names> {
+        self.names.as_ref().map_or(Ok(Names::default()), |file| Names::from_file(Path::new(file)))
+    }
 }
 
 fn words() -> Outcome<Words> {
@@ -60,15 +72,20 @@ fn run() -> Outcome<bool> {
     let words = words()?;
     let plain: Vec<&str> = words.plain.iter().map(String::as_str).collect();
     match plain[..] {
+        ["decide", base, changed] => {
+            let folders = Folders { base: base.as_ref(), noon: None, changed: changed.as_ref() };
+            let decided = folders.decide(&mut Progress::new(words.live))?;
+            table::print_decided(&decided, &words.names()?);
+            Ok(true)
+        }
         ["store", base, changed, kept] => {
-            let names = match &words.names {
-                Some(file) => Names::from_file(Path::new(file))?,
-                None => Names::default(),
-            };
-            let mut progress = Progress::new(words.live);
             let noon = words.noon.as_deref().map(Path::new);
-            let (base, changed, kept) = (base.as_ref(), changed.as_ref(), kept.as_ref());
-            let stored = kept::store(base, noon, changed, kept, &mut progress)?;
+            let folders = Folders { base: base.as_ref(), noon, changed: changed.as_ref() };
+            let names = words.names()?;
+            let mut progress = Progress::new(words.live);
+            let decided = folders.decide(&mut progress)?;
+            table::print_would_take(&decided);
+            let stored = kept::store(folders, decided, kept.as_ref(), &mut progress)?;
             table::print(&stored, &names);
             Ok(true)
         }

@@ -6,11 +6,12 @@ use std::os::unix::fs::MetadataExt;
 use std::path::Path;
 
 use thonxiliko::{
-    build, compare, cut_mapped, format, full_area_len, highest, look_up, map_len, patch_area_len,
-    read, read_mapped, tally, write_mapped, Difference, Kind, Pair, MAX_BLOCKS, PAGE_SIZE,
-    PATCH_HEADER_SIZE, PAYLOAD_SIZE, SLOT_SIZE,
+    build, carry_out_mapped, compare, cut_mapped, format, full_area_len, highest, look_up, map_len,
+    patch_area_len, read, read_mapped, tally, Kind, Pair, MAX_BLOCKS, PAGE_SIZE, PATCH_HEADER_SIZE,
+    PAYLOAD_SIZE, SLOT_SIZE,
 };
 
+use crate::decided::{Decided, Files, Kinds};
 use crate::folder::Pages;
 use crate::progress::Progress;
 use crate::Outcome;
@@ -48,14 +49,12 @@ pub struct Day {
     pub highest: u64,
 }
 
-/// What was stored of a segment.
+/// What was stored of a segment, or would be.
 #[derive(Clone, Copy, Debug, Default, PartialEq, Eq)]
 pub struct Counts {
     pub blocks: u64,
     pub base_blocks: u64,
-    pub empty: u64,
-    pub patch: u64,
-    pub full: u64,
+    pub kinds: Kinds,
     /// Bytes that both area files take on disk.
     pub kept: u64,
 }
@@ -64,32 +63,14 @@ impl Counts {
     pub fn add(&mut self, other: &Counts) {
         self.blocks += other.blocks;
         self.base_blocks += other.base_blocks;
-        self.empty += other.empty;
-        self.patch += other.patch;
-        self.full += other.full;
+        self.kinds.add(&other.kinds);
         self.kept += other.kept;
     }
 
     /// What the changed blocks would take as whole pages.
     pub fn whole_pages(&self) -> u64 {
-        (self.patch + self.full) * PAGE_SIZE as u64
+        (self.kinds.patch + self.kinds.full) * PAGE_SIZE as u64
     }
-}
-
-/// How many pages the full area needs: up to the last block that differs in too much for a slot.
-fn pages_needed(base: &Path, changed: &Path) -> Outcome<u64> {
-    let (mut base, mut changed) = (Pages::open(base)?, Pages::open(changed)?);
-    let (mut base_page, mut page) = (Vec::new(), Vec::new());
-    let mut payload = [0; PAYLOAD_SIZE];
-    let mut needed = 0;
-    for block in 0..changed.count {
-        base.next_page(&mut base_page)?;
-        changed.next_page(&mut page)?;
-        if compare(&base_page, &page, &mut payload)?.difference == Difference::Large {
-            needed = block + 1;
-        }
-    }
-    Ok(needed)
 }
 
 impl Areas {
@@ -138,32 +119,31 @@ impl Areas {
 
     /// Stores every page of the changed file over its base; before that, where there is a file of noon,
     /// the pages that it had then. Each is read back by the map at once. Where the file had more pages
-    /// at noon, they are cut. In the end the areas are as long as the changed file wants them.
+    /// at noon, they are cut. In the end the areas are as long as the changed file wants them. Each file
+    /// must take what was decided of it before.
     pub fn store(
-        base: &Path,
-        noon: Option<&Path>,
-        changed: &Path,
+        files: Files<'_>,
+        decided: &Decided,
         progress: &mut Progress,
     ) -> Outcome<(Areas, Day)> {
-        let blocks = Pages::open(changed)?.count;
-        let noon_blocks = noon.map_or(Ok(0), |noon| Pages::open(noon).map(|pages| pages.count))?;
+        let (noon, evening) = (&decided.noon, &decided.evening);
+        let (noon_blocks, blocks) = (noon.kinds.blocks(), evening.kinds.blocks());
         let most = blocks.max(noon_blocks);
         if most > MAX_BLOCKS {
             return Err(format!("{most} blocks are more than a segment has").into());
         }
-        let mut pages = pages_needed(base, changed)?;
-        if let Some(noon) = noon {
-            pages = pages.max(pages_needed(base, noon)?);
-        }
-        let mut areas = Areas::fresh(most, pages)?;
+        let mut areas = Areas::fresh(most, noon.pages.max(evening.pages))?;
         let mut day = Day::default();
-        if let Some(noon) = noon {
-            day.writes += areas.write_all(base, noon, |_| ())?;
+        if let Some(file) = files.noon {
+            as_decided(areas.write_all(files.base, file, |_| ())?, noon.kinds)?;
+            day.writes += noon_blocks;
         }
         if blocks < noon_blocks {
             day.cut = Some(areas.cut(blocks)?);
         }
-        day.writes += areas.write_all(base, changed, |_| progress.block())?;
+        let stored = areas.write_all(files.base, files.changed, |_| progress.block())?;
+        as_decided(stored, evening.kinds)?;
+        day.writes += blocks;
         areas.check_kept_map()?;
         day.highest = areas.shorten(blocks)?;
         areas.check_kept_map()?;
@@ -196,33 +176,36 @@ impl Areas {
         Ok(highest)
     }
 
-    /// Writes the pages of a file and reads each by the map.
+    /// Writes the pages of a file and reads each by the map. Gives the kinds that were stored.
     fn write_all(
         &mut self,
         base: &Path,
         from: &Path,
         mut written: impl FnMut(u64),
-    ) -> Outcome<u64> {
+    ) -> Outcome<Kinds> {
         let (mut base, mut from) = (Pages::open(base)?, Pages::open(from)?);
         let (mut base_page, mut page) = (Vec::new(), Vec::new());
         let mut again = vec![0; PAGE_SIZE];
+        let mut kinds = Kinds::default();
         for block in 0..from.count {
             base.next_page(&mut base_page)?;
             from.next_page(&mut page)?;
-            self.write(block, &base_page, &page)?;
+            kinds.count(self.write(block, &base_page, &page)?);
             self.read(block, &base_page, &mut again)?;
             if again != page {
                 return Err(format!("block {block} reads wrongly after its write").into());
             }
             written(block);
         }
-        Ok(from.count)
+        Ok(kinds)
     }
 
-    /// Writes one block. No write goes without the map.
-    fn write(&mut self, block: u64, base: &[u8], page: &[u8]) -> Outcome<()> {
-        write_mapped(&mut self.patch, &mut self.full, &mut self.map, block, base, page)
-            .map(|_| ())
+    /// Writes one block: what Compare decides is carried out. No write goes without the map.
+    fn write(&mut self, block: u64, base: &[u8], page: &[u8]) -> Outcome<Kind> {
+        let Areas { patch, full, map } = self;
+        compare(base, page, &mut [0; PAYLOAD_SIZE])
+            .and_then(|decision| carry_out_mapped(patch, full, map, block, &decision))
+            .map(|written| written.kind)
             .map_err(|refusal| format!("block {block}: {refusal}").into())
     }
 
@@ -257,12 +240,12 @@ impl Areas {
                 let path = changed_path.display();
                 return Err(format!("{path}: block {block} reads back wrongly").into());
             }
-            let (count, pair) = match kind {
-                Kind::Empty => (&mut counts.empty, Pair::Empty),
-                Kind::Patch => (&mut counts.patch, Pair::Patch),
-                Kind::Full => (&mut counts.full, Pair::Full),
+            let pair = match kind {
+                Kind::Empty => Pair::Empty,
+                Kind::Patch => Pair::Patch,
+                Kind::Full => Pair::Full,
             };
-            *count += 1;
+            counts.kinds.count(kind);
             if kind != Kind::Empty {
                 last = block + 1;
             }
@@ -271,7 +254,7 @@ impl Areas {
             }
         }
         let tally = tally(&self.map, blocks)?;
-        if (tally.patch, tally.full) != (counts.patch, counts.full) {
+        if (tally.patch, tally.full) != (counts.kinds.patch, counts.kinds.full) {
             return Err(format!("the tally is {tally:?}, counted were {counts:?}").into());
         }
         let highest = highest(&self.patch)?;
@@ -305,6 +288,14 @@ impl Areas {
     }
 }
 
+/// The blocks of a file took what was decided, and told, before.
+fn as_decided(stored: Kinds, decided: Kinds) -> Outcome<()> {
+    if stored != decided {
+        return Err(format!("decided was {decided:?}, stored was {stored:?}").into());
+    }
+    Ok(())
+}
+
 /// Leaves out stretches of zeros, so that they take no room on disk.
 fn save_with_holes(bytes: &[u8], path: &Path) -> Outcome<u64> {
     const STRETCH: usize = 4096;
@@ -330,8 +321,8 @@ mod tests {
         let mut areas = Areas::fresh(5, 4).expect("fresh areas");
         let mut small = vec![0; PAGE_SIZE];
         small[9] = 1;
-        areas.write(1, &[], &small).expect("written");
-        areas.write(3, &[], &[7; PAGE_SIZE]).expect("written");
+        assert_eq!(areas.write(1, &[], &small).expect("written"), Kind::Patch);
+        assert_eq!(areas.write(3, &[], &[7; PAGE_SIZE]).expect("written"), Kind::Full);
         areas
     }
 
@@ -339,8 +330,12 @@ mod tests {
     fn the_map_is_kept_with_every_write() {
         let mut areas = areas();
         assert_eq!(areas.map, [0b01_00_10_00, 0]);
-        areas.write(3, &[], &[0; PAGE_SIZE]).expect("written");
-        assert!(areas.write(4, &[], &[7; PAGE_SIZE]).is_err());
+        assert_eq!(areas.write(3, &[], &[0; PAGE_SIZE]).expect("written"), Kind::Empty);
+        let refused = areas.write(4, &[], &[7; PAGE_SIZE]).expect_err("no place").to_string();
+        assert_eq!(refused, "block 4: refused 8: the full area has no place for the block");
+        // A page that is none: nothing is decided, so nothing is carried out.
+        let refused = areas.write(1, &[], &[0; 100]).expect_err("no page").to_string();
+        assert_eq!(refused, "block 1: refused 1: a page has a wrong length");
         assert_eq!(areas.map, [0b00_00_10_00, 0]);
         assert!(areas.check_kept_map().is_ok());
     }

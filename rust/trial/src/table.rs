@@ -1,8 +1,10 @@
-//! The table that is printed after storing.
+//! The tables that are printed before storing and after it.
 
 use std::collections::BTreeMap;
 
-use crate::kept::{Stored, StoredSegment};
+use crate::decided::Kinds;
+use crate::folder::RelationFile;
+use crate::kept::{DecidedSegment, Stored, StoredSegment};
 use crate::names::Names;
 use crate::segment::Counts;
 
@@ -10,6 +12,8 @@ use crate::segment::Counts;
 #[derive(Default)]
 struct Row {
     name: String,
+    /// PostgreSQL's own, many files in one row.
+    catalogs: bool,
     counts: Counts,
     files: u64,
     /// Blocks of the main fork, now and in the base.
@@ -18,11 +22,10 @@ struct Row {
 }
 
 impl Row {
-    fn add(&mut self, segment: &StoredSegment) {
-        let counts = &segment.counts;
+    fn add(&mut self, relation: &RelationFile, counts: &Counts) {
         self.counts.add(counts);
         self.files += 1;
-        match &segment.relation.fork {
+        match &relation.fork {
             None => {
                 self.main.0 += counts.blocks;
                 self.main.1 += counts.base_blocks;
@@ -33,6 +36,9 @@ impl Row {
     }
 
     fn note(&self) -> String {
+        if self.catalogs {
+            return format!("{} files", self.files);
+        }
         let mut notes = Vec::new();
         match self.main {
             (0, 0) => {}
@@ -79,32 +85,94 @@ fn print_row(name: &str, counts: &Counts, note: &str) {
     println!(
         "{name:<34} {:>8} {:>8} {:>8} {:>8} {:>10} {:>12} {:>6}  {note}",
         thousands(counts.blocks),
-        thousands(counts.empty),
-        thousands(counts.patch),
-        thousands(counts.full),
+        thousands(counts.kinds.empty),
+        thousands(counts.kinds.patch),
+        thousands(counts.kinds.full),
         size(counts.kept),
         size(counts.whole_pages()),
         share(counts),
     );
 }
 
-/// One row for each relation with all its forks and segments; the catalogs share one.
-fn rows(stored: &Stored, names: &Names) -> (Vec<Row>, Row) {
+/// One row for each relation with all its forks and segments; the catalogs share one, the last. Then
+/// what all of them come to.
+fn rows<'s>(
+    segments: impl Iterator<Item = (&'s RelationFile, Counts)>,
+    names: &Names,
+) -> (Vec<Row>, Counts) {
     let mut by_name: BTreeMap<String, Row> = BTreeMap::new();
-    let mut catalogs = Row::default();
-    for segment in &stored.segments {
-        let name = names.of(&segment.relation.first);
+    let name = "PostgreSQL's own catalogs".to_string();
+    let mut catalogs = Row { name, catalogs: true, ..Row::default() };
+    let mut total = Counts::default();
+    for (relation, counts) in segments {
+        let name = names.of(&relation.first);
         let row = if name.system {
             &mut catalogs
         } else {
             let fresh = || Row { name: name.name.clone(), ..Row::default() };
-            by_name.entry(segment.relation.first.clone()).or_insert_with(fresh)
+            by_name.entry(relation.first.clone()).or_insert_with(fresh)
         };
-        row.add(segment);
+        row.add(relation, &counts);
+        total.add(&counts);
     }
     let mut rows: Vec<Row> = by_name.into_values().collect();
     rows.sort_by(|a, b| b.counts.blocks.cmp(&a.counts.blocks).then(a.name.cmp(&b.name)));
-    (rows, catalogs)
+    if catalogs.files > 0 {
+        rows.push(catalogs);
+    }
+    (rows, total)
+}
+
+fn print_taking(name: &str, kinds: &Kinds, note: &str) {
+    println!(
+        "{name:<34} {:>8} {:>8} {:>8} {:>12}  {note}",
+        thousands(kinds.blocks()),
+        thousands(kinds.empty),
+        thousands(kinds.patch),
+        thousands(kinds.full),
+    );
+}
+
+fn print_taking_head(what: &str) {
+    println!();
+    println!("{:<43} {:-^30}", "", " would take ");
+    println!("{what:<34} {:>8} {:>8} {:>8} {:>12}", "blocks", "nothing", "a patch", "a full page");
+    println!("{}", "-".repeat(74));
+}
+
+/// What each changed relation would take in the evening, and what all of them would.
+pub fn print_decided(decided: &[DecidedSegment], names: &Names) {
+    let counts = |segment: &DecidedSegment| {
+        let evening = segment.decided.evening;
+        let (blocks, base_blocks) = (evening.kinds.blocks(), evening.base_blocks);
+        Counts { blocks, base_blocks, kinds: evening.kinds, kept: 0 }
+    };
+    let (rows, total) =
+        rows(decided.iter().map(|segment| (&segment.relation, counts(segment))), names);
+    print_taking_head("changed relation");
+    for row in &rows {
+        print_taking(&row.name, &row.counts.kinds, &row.note());
+    }
+    println!("{}", "-".repeat(74));
+    print_taking("all", &total.kinds, "");
+    println!();
+    println!("So Compare decides. Nothing is stored.");
+}
+
+/// What a day's pages would take, in short: to be told before they are stored.
+pub fn print_would_take(decided: &[DecidedSegment]) {
+    let (mut noon, mut evening) = (Kinds::default(), Kinds::default());
+    for segment in decided {
+        noon.add(&segment.decided.noon.kinds);
+        evening.add(&segment.decided.evening.kinds);
+    }
+    print_taking_head("changed relations");
+    if noon.blocks() > 0 {
+        print_taking("at noon", &noon, "");
+    }
+    print_taking("in the evening", &evening, "");
+    println!();
+    println!("So Compare decides. Nothing is stored yet; now it is carried out.");
 }
 
 /// One line for each segment that was cut; nothing if none was.
@@ -142,25 +210,16 @@ fn print_cuts(stored: &Stored, names: &Names) {
 }
 
 pub fn print(stored: &Stored, names: &Names) {
-    let (rows, catalogs) = rows(stored, names);
+    let (rows, total) =
+        rows(stored.segments.iter().map(|segment| (&segment.relation, segment.counts)), names);
     println!();
     println!(
         "{:<34} {:>8} {:>8} {:>8} {:>8} {:>10} {:>12} {:>6}",
         "changed relation", "blocks", "EMPTY", "PATCH", "full", "kept", "whole pages", "kept/w"
     );
     println!("{}", "-".repeat(101));
-    let mut total = Counts::default();
     for row in &rows {
         print_row(&row.name, &row.counts, &row.note());
-        total.add(&row.counts);
-    }
-    if catalogs.files > 0 {
-        print_row(
-            "PostgreSQL's own catalogs",
-            &catalogs.counts,
-            &format!("{} files", catalogs.files),
-        );
-        total.add(&catalogs.counts);
     }
     println!("{}", "-".repeat(101));
     print_row("all", &total, "");
@@ -171,7 +230,10 @@ pub fn print(stored: &Stored, names: &Names) {
     println!(
         "kept: what the two area files take on disk. whole pages: 8,192 bytes for each changed"
     );
-    println!("block, the PATCH and the full ones. Every block was read back and compared.");
+    println!(
+        "block, the PATCH and the full ones. Every block was read back and compared, and took what"
+    );
+    println!("was decided before.");
     let days = || stored.segments.iter().map(|segment| segment.day);
     let writes = days().map(|day| day.writes).sum();
     let cuts = days().filter(|day| day.cut.is_some()).count();

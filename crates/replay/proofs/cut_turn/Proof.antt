@@ -1,4 +1,4 @@
-use Rattle.replay.specs.Laws.{cut-done, cut-refused}
+use Rattle.replay.proofs.Turns.{cut-done, cut-refused}
 use borrow.Author.Needs.{needs}
 use Rattle.replay.proofs.cut_turn.Statement.{statement}
 use Rattle.replay.proofs.cut_turn.Tie as tie

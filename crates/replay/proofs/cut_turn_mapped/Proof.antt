@@ -1,4 +1,4 @@
-use Rattle.replay.specs.Laws.{cut-mapped-done, cut-mapped-refused}
+use Rattle.replay.proofs.Turns.{cut-mapped-done, cut-mapped-refused}
 use borrow.Author.Needs.{needs}
 use Rattle.replay.proofs.cut_turn_mapped.Statement.{statement}
 use Rattle.replay.proofs.cut_turn_mapped.Tie as tie

@@ -1,4 +1,4 @@
-use Rattle.replay.specs.Laws.{made-write, made-cut}
+use Rattle.replay.proofs.Turns.{made-write, made-cut}
 use borrow.Author.Needs.{needs}
 use Rattle.replay.proofs.turn.Statement.{statement}
 use Rattle.replay.proofs.turn.Tie as tie
@@ -15,7 +15,7 @@ same-length-2 c = search needs
 returns : tie.Need-returns
 returns c =
     let x = c .before .before .before .before in
-    made-write _ _ (x .before .before .before .if1 .taken) (x .write-turn .ensures)
+    made-write _ _ _ _ (x .before .before .before .if1 .taken) (x .write-turn .ensures)
 
 cut-turn-requires : tie.Need-cut-turn-requires
 cut-turn-requires c κs = search needs
@@ -29,7 +29,7 @@ same-length-4 c = search needs
 returns-2 : tie.Need-returns-2
 returns-2 c =
     let x = c .before .before .before .before in
-    made-cut _ _ (x .before .before .before .if1 .left) (x .cut-turn .ensures)
+    made-cut _ _ _ _ (x .before .before .before .if1 .left) (x .cut-turn .ensures)
 
 pub turn-spec : {M : Type 1} → statement M
 turn-spec =

@@ -1,4 +1,4 @@
-use Rattle.replay.specs.Laws.{made-write, made-cut}
+use Rattle.replay.proofs.Turns.{made-write, made-cut}
 use borrow.Author.Needs.{needs}
 use Rattle.replay.proofs.turn_mapped.Statement.{statement}
 use Rattle.replay.proofs.turn_mapped.Tie as tie
@@ -18,7 +18,7 @@ same-length-3 c = search needs
 returns : tie.Need-returns
 returns c =
     let x = c .before .before .before .before .before .before in
-    made-write _ _ (x .before .before .before .before .if1 .taken) (x .write-turn-mapped .ensures)
+    made-write _ _ _ _ (x .before .before .before .before .if1 .taken) (x .write-turn-mapped .ensures)
 
 cut-turn-mapped-requires : tie.Need-cut-turn-mapped-requires
 cut-turn-mapped-requires c κs = search needs
@@ -35,7 +35,7 @@ same-length-6 c = search needs
 returns-2 : tie.Need-returns-2
 returns-2 c =
     let x = c .before .before .before .before .before .before in
-    made-cut _ _ (x .before .before .before .before .if1 .left) (x .cut-turn-mapped .ensures)
+    made-cut _ _ _ _ (x .before .before .before .before .if1 .left) (x .cut-turn-mapped .ensures)
 
 pub turn-mapped-spec : {M : Type 1} → statement M
 turn-mapped-spec =

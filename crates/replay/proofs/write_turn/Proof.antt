@@ -1,16 +1,50 @@
-use Rattle.replay.specs.Laws.{write-done, write-refused}
+use Prim.Native.Nat.{_-_}
+use native.Mathlib.Omega.{arith}
+use Rattle.span.specs.Bytes.{zeros}
+use Rattle.replay.proofs.Turns.{write-refused, used-fits, decision-is, made-decided, carried-out}
 use borrow.Author.Needs.{needs}
 use Rattle.replay.proofs.write_turn.Statement.{statement}
 use Rattle.replay.proofs.write_turn.Tie as tie
 
-write-requires : tie.Need-write-requires
-write-requires c κs = search needs
+slice-aggregate-compare : tie.Need-slice-aggregate-compare
+slice-aggregate-compare c = search needs
+
+compare-requires : tie.Need-compare-requires
+compare-requires c κs = search needs
 
 enum-told : tie.Need-enum-told
 enum-told c = search needs
 
-enum-told-2 : tie.Need-enum-told-2
-enum-told-2 c = search needs
+enum-known-kind : tie.Need-enum-known-kind
+enum-known-kind c = search needs
+
+kind-number-requires : tie.Need-kind-number-requires
+kind-number-requires c κs = search needs
+
+payload-length-requires : tie.Need-payload-length-requires
+payload-length-requires c κs = search needs
+
+sub-carry-out : tie.Need-sub-carry-out
+sub-carry-out c = search needs
+
+part-carry-out-start : tie.Need-part-carry-out-start
+part-carry-out-start c = search needs
+
+part-carry-out-end : tie.Need-part-carry-out-end
+unfolding zeros
+part-carry-out-end c =
+    let d = c .before .before .before .before .before .before .before .before .before .compare in
+    omega (arith, used-fits (d .ensures) (c .before .before .before .before .before .before .kind .given .1) (c .before .before .before .payload-length .ensures), d .kept .1 .1 .0)
+
+carry-out-requires : tie.Need-carry-out-requires
+carry-out-requires c κs = search needs
+
+mark-of-requires : tie.Need-mark-of-requires
+mark-of-requires c κs = search needs
+
+returns : tie.Need-returns
+unfolding zeros
+returns c = write-refused (c .before .before .before .compare .ensures) (c .before .before .before .before .before .before .before .before .before .args .block) _ (c .enum-told .given .1)
 
 same-length : tie.Need-same-length
 same-length c = search needs
@@ -18,30 +52,34 @@ same-length c = search needs
 same-length-2 : tie.Need-same-length-2
 same-length-2 c = search needs
 
-returns : tie.Need-returns
-returns c =
-    write-done (c .before .before .before .before .before .before .write .ensures) _ _ (c .enum-told .given .1)
-
-same-length-3 : tie.Need-same-length-3
-same-length-3 c = search needs
-
-same-length-4 : tie.Need-same-length-4
-same-length-4 c = search needs
-
 returns-2 : tie.Need-returns-2
+unfolding zeros
 returns-2 c =
-    write-refused (c .before .before .before .before .before .before .write .ensures) _ (c .enum-told2 .given .1)
+    let w = c .before .before .before .before .before in
+    let u = w .before .before .before .before .before in
+    let k = u .before .before .before in
+    let d = k .before .before .before .compare .ensures in
+    let e = k .kind .given .1 in
+    made-decided d e
+    (carried-out (w .carry-out .ensures)
+    (decision-is d e (u .payload-length .result - 0) (u .before .kind-number .ensures) (u .payload-length .ensures) (omega arith)) (c .mark-of .ensures))
 
 pub write-turn-spec : {M : Type 1} → statement M
 write-turn-spec =
     tie.close
     (tie.spec
-    write-requires
+    slice-aggregate-compare
+    compare-requires
     enum-told
-    enum-told-2
+    enum-known-kind
+    kind-number-requires
+    payload-length-requires
+    sub-carry-out
+    part-carry-out-start
+    part-carry-out-end
+    carry-out-requires
+    mark-of-requires
+    returns
     same-length
     same-length-2
-    returns
-    same-length-3
-    same-length-4
     returns-2)

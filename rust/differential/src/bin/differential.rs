@@ -17,7 +17,7 @@ Gives the same inputs to libthonxiliko.a over its C interface, to the safe wrapp
 independent implementation; compares every answer and every lent byte after every call.
 
   --quick       a few seconds (the default)
-  --long        more than three million calls
+  --long        more than four million calls
   --seed N      replay with this seed (otherwise drawn from the clock, and printed)
   --part NAME   only one part: cases, orders, lengths, numbers, payloads, readers, pairs, maps, cuts,
                 random, runs, huge
@@ -64,7 +64,7 @@ const PARTS: [Part; 12] = [
     },
     Part {
         name: "runs",
-        work: Work::Drawn { quick: 80, long: 1_500, run: random_run },
+        work: Work::Drawn { quick: 130, long: 2_500, run: random_run },
         meets_all: false,
     },
     Part { name: "huge", work: Work::Whole(largest), meets_all: false },
@@ -219,6 +219,10 @@ impl Session {
             for (call, number) in counts.unseen() {
                 holes.push(format!("{}: {} never gave {number}", part.name, call.name()));
             }
+            for (call, number) in counts.unseen_by_wrapper() {
+                let name = call.name();
+                holes.push(format!("{}: the wrapper's {name} never gave {number}", part.name));
+            }
         }
         if let (true, Some(hole)) = (self.ran("runs"), self.runs.hole()) {
             holes.push(format!("runs: {hole}"));
@@ -227,6 +231,27 @@ impl Session {
             holes.push("maps: Build accepted no store".to_string());
         }
         holes
+    }
+
+    /// What the runs met.
+    fn print_runs(&self) {
+        let runs::Met { mapped, unmapped, cuts, refused_cuts, new_bases, .. } = self.runs;
+        println!("runs: {mapped} with a map lent to every decision and cut, {unmapped} without");
+        let runs::Met { by_compare, with_others, decisions, from_elsewhere, .. } = self.runs;
+        let runs::Met { refused_decisions, spoiled, refused_compares, .. } = self.runs;
+        println!(
+            "decisions in runs: {by_compare} runs decided by Compare, {with_others} with others; of \
+             Compare {decisions} accepted and {refused_decisions} refused, {from_elsewhere} from \
+             elsewhere, {spoiled} spoiled; {refused_compares} Compares refused"
+        );
+        println!("cuts in runs: {cuts} accepted, {refused_cuts} refused, {new_bases} new bases");
+        let runs::Met { alike, different, .. } = self.runs;
+        println!("runs compared in pairs: {alike} ended alike, {different} did not");
+        let runs::Met { other_bases, blocks_alike, blocks_different, .. } = self.runs;
+        println!(
+            "pairs with other bases: {other_bases}; of blocks with the same base in them \
+             {blocks_alike} ended alike, {blocks_different} did not"
+        );
     }
 
     /// Prints what was met and how it came out; true if all is well.
@@ -239,18 +264,7 @@ impl Session {
             println!("stores from elsewhere: Build accepted {accepted} and refused {refused}");
         }
         if self.ran("runs") {
-            let runs::Met { mapped, unmapped, cuts, refused_cuts, new_bases, .. } = self.runs;
-            println!("runs: {mapped} with a map lent to every write and cut, {unmapped} without");
-            println!(
-                "cuts in runs: {cuts} accepted, {refused_cuts} refused, {new_bases} new bases"
-            );
-            let runs::Met { alike, different, .. } = self.runs;
-            println!("runs compared in pairs: {alike} ended alike, {different} did not");
-            let runs::Met { other_bases, blocks_alike, blocks_different, .. } = self.runs;
-            println!(
-                "pairs with other bases: {other_bases}; of blocks with the same base in them \
-                 {blocks_alike} ended alike, {blocks_different} did not"
-            );
+            self.print_runs();
         }
         let (compared, seed) = (all.total(), self.options.seed);
         if let Err(failure) = result {

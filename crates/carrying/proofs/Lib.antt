@@ -1,0 +1,2 @@
+pub mod CarryTold
+pub mod Decisions
