@@ -26,7 +26,7 @@ const WRITE: u8 = b'w';
 
 const BUILD: u8 = b'b';
 
-// Read and Write with the map: a read by it, and a write that keeps it.
+// With the map: a read by it, and a write that keeps it.
 const MAPPED: u8 = b'm';
 
 const KEEP: u8 = b'k';

@@ -96,6 +96,12 @@ module _ (patch full : List ℕ) (b : ℕ) (d : Decision) where
         → readOutcome pageSize (outcome .patch) (outcome .full) b base page ≡ readDone (d .kind) x
     reads-decided = pair.reads-decided pageSize patch full b d done
 
+    -- "taking any sound one": for a patch each entry's value stands at its place over the base, by whichever entries spell the payload
+    pub reads-entries : (base page : List ℕ) → PagesFit pageSize base page → d .kind ≡ 1 → (w : Spelled pageSize start (d .payload))
+        → readOutcome pageSize (outcome .patch) (outcome .full) b base page
+        ≡ readDone 1 (pokes (pageOf pageSize base) (placed 0 (w .entries)))
+    reads-entries = pair.reads-entries pageSize patch full b d done
+
   -- and every other block reads as before, whatever it holds and whether or not the call was refused
   pub others : (c : ℕ) → (c ≡ b → ⊥) → (base page : List ℕ)
       → readOutcome pageSize (outcome .patch) (outcome .full) c base page ≡ readOutcome pageSize patch full c base page

@@ -8,7 +8,12 @@ use mathlib.Core.Logic.{_↔_}
 use mathlib.Core.List.{List, []}
 use lib.ListN.{length}
 use Rattle.layout.specs.Sizes.{room}
+use Rattle.payload.specs.Entries.{start}
+use Rattle.payload.specs.Spelling.{Spelled}
+use Rattle.writer.specs.Writer.{placed}
+use Rattle.writer.specs.ReadBack.{pokes}
 use Rattle.stream.specs.Calls.{pageOf, kindFor}
+use Rattle.stream.specs.Landing.{spelled-lands}
 use Rattle.stream.specs.Kinds.{same-iff, kind-0, kind-1, kind-2, accepted-fits}
 use Rattle.store.specs.Block.{slotOf}
 use Rattle.reading.specs.Read.{readOutcome, readDone}
@@ -82,6 +87,14 @@ module _ (P : ℕ) (patch full : List ℕ) (b : ℕ) (d : Decision) where
             (rw (s .frame .full-length) m)
             ∙ ap (λ (y : List ℕ). readDone 2 y) (s .place-is m ∙ place-anew P d _ ∙ own)
             ∙ rw k
+
+    -- a patch by the entries that spell its payload
+    pub reads-entries : (base page : List ℕ) → PagesFit P base page → d .kind ≡ 1 → (w : Spelled P start (d .payload))
+        → readOutcome P (carryOutcome P patch full b d .patch) (carryOutcome P patch full b d .full) b base page
+        ≡ readDone 1 (pokes (pageOf P base) (placed 0 (w .entries)))
+    reads-entries base page p k w =
+        reads-decided base page _ p (ReadAs.patched k)
+        ∙ (λ i. readDone (k i) (spelled-lands P (d .payload) w .page (pageOf P base) i))
 
   pub others-read : (c : ℕ) → (c ≡ b → ⊥) → (base page : List ℕ)
       → readOutcome P (carryOutcome P patch full b d .patch) (carryOutcome P patch full b d .full) c base page

@@ -15,7 +15,6 @@ use Rattle.layout.specs.Numbers.{kindNumber, refusalNumber}
 use Rattle.layout.specs.NumberLaws.{refusal-some}
 use Rattle.layout.specs.declared.Kind.{Kind}
 use Rattle.layout.specs.declared.Refusal.{Refusal}
-use Rattle.writer.specs.Differences.{written}
 use Rattle.stream.specs.Calls.{ComparedNumbers, compareNumbers, comparedNumbers, Compare}
 use Rattle.stream.specs.Kinds.{compare-length, compare-patch}
 use Rattle.stream.specs.declared.Compared.{Compared}
@@ -70,12 +69,12 @@ module _ {P : ℕ} {base page buffer : List ℕ} {a : Compared} (q : Compare P b
         go false h f = omega (arith, f)
 
     -- the decision that is carried out is Compare's
-    pub decision-is : {number used : ℕ} (v : ℕ) → number ≡ kindNumber k → used ≡ cond (eqb (kindNumber k) patchKind) n 0 → v ≡ used
-        → _≡_ {A = Decision} (record { kind = number; payload = take v buffer; page = page }) (decisionOf P base page)
+    pub decision-is : {number used : ℕ} {payload : List ℕ} → number ≡ kindNumber k → used ≡ cond (eqb (kindNumber k) patchKind) n 0
+        → payload ≡ take used buffer → _≡_ {A = Decision} (record { kind = number; payload = payload; page = page }) (decisionOf P base page)
     unfolding decisionOf
-    decision-is v en eu ev =
-        let first = ev ∙ eu ∙ (λ j. cond (eqb (kind-is j) patchKind) (length-is j) 0) in
-        λ i. record { kind = (en ∙ kind-is) i; payload = take (first i) (q .bytes i); page = page }
+    decision-is en eu ep =
+        let used-is = eu ∙ (λ j. cond (eqb (kind-is j) patchKind) (length-is j) 0) in
+        λ i. record { kind = (en ∙ kind-is) i; payload = (ep ∙ (λ j. take (used-is j) (q .bytes j))) i; page = page }
 
     -- and it is the operation
     pub made-decided : {S : Type 0} {takes : S → Operation → Bool} {does : S → Operation → S} {s s′ : S} {b m : ℕ}

@@ -470,18 +470,19 @@ fn all_sets(harness: &mut Harness, start: &Input, faults: &[Fault]) -> Result<()
 }
 
 pub fn check(harness: &mut Harness) -> Result<(), Mismatch> {
-    cut(harness)?;
-    cut_mapped(harness)?;
-    highest(harness)?;
-    read_patch(harness)?;
-    read_full(harness)?;
-    carry_out(harness)?;
-    read_mapped_patch(harness)?;
-    read_mapped_full(harness)?;
-    carry_out_mapped(harness)?;
-    build_patches(harness)?;
-    build_full(harness)?;
+    // Those with few sets first: what is wrong with them is then found soon.
     without_areas(harness)?;
     maps(harness)?;
-    steps(harness)
+    steps(harness)?;
+    highest(harness)?;
+    cut(harness)?;
+    cut_mapped(harness)?;
+    build_patches(harness)?;
+    build_full(harness)?;
+    read_patch(harness)?;
+    read_full(harness)?;
+    read_mapped_patch(harness)?;
+    read_mapped_full(harness)?;
+    carry_out(harness)?;
+    carry_out_mapped(harness)
 }

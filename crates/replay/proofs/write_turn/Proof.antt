@@ -1,4 +1,4 @@
-use Prim.Native.Nat.{_-_}
+use native.Mathlib.Nat.{sub-zero}
 use native.Mathlib.Omega.{arith}
 use Rattle.span.specs.Bytes.{zeros}
 use Rattle.replay.proofs.Turns.{write-refused, used-fits, decision-is, made-decided, carried-out}
@@ -62,7 +62,7 @@ returns-2 c =
     let e = k .kind .given .1 in
     made-decided d e
     (carried-out (w .carry-out .ensures)
-    (decision-is d e (u .payload-length .result - 0) (u .before .kind-number .ensures) (u .payload-length .ensures) (omega arith)) (c .mark-of .ensures))
+    (decision-is d e (u .before .kind-number .ensures) (u .payload-length .ensures) (search sub-zero)) (c .mark-of .ensures))
 
 pub write-turn-spec : {M : Type 1} → statement M
 write-turn-spec =
