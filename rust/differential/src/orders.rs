@@ -483,6 +483,11 @@ pub fn check(harness: &mut Harness) -> Result<(), Mismatch> {
     read_full(harness)?;
     read_mapped_patch(harness)?;
     read_mapped_full(harness)?;
+    of_decisions(harness)
+}
+
+/// Those of a decision alone, which are the most.
+pub fn of_decisions(harness: &mut Harness) -> Result<(), Mismatch> {
     carry_out(harness)?;
     carry_out_mapped(harness)
 }

@@ -2009,7 +2009,7 @@ fn what_runs_do_not_show_is_noticed_elsewhere() {
             "an empty payload taken" | "clearing only after FULL_REF" => {
                 (payloads::every_short_one(&mut harness), "demand on readers")
             }
-            _ => (orders::check(&mut harness), "order of refusals"),
+            _ => (orders::of_decisions(&mut harness), "order of refusals"),
         };
         assert_eq!(found.err().map(|mismatch| mismatch.side), Some(side), "{name}");
     }
@@ -2132,6 +2132,12 @@ fn another_order_of_refusals_is_noticed() {
     }
     let mut harness = Harness::new();
     assert!(orders::check(&mut harness).is_ok());
+    let mut must_notice = |check: fn(&mut Harness) -> Result<(), Mismatch>, wrong: Side| {
+        harness.expected = wrong;
+        harness.in_place_of_library = Some(wrong);
+        let mismatch = check(&mut harness).expect_err("noticed");
+        assert_eq!(mismatch.side, "order of refusals");
+    };
     for wrong in [
         version_first as Side,
         end_first,
@@ -2141,15 +2147,16 @@ fn another_order_of_refusals_is_noticed() {
         cut_has_k_before_headers,
         cut_refuses_n,
         highest_has_slots_before_the_header,
-        checks_the_page_for_patch,
+    ] {
+        must_notice(orders::check, wrong);
+    }
+    for wrong in [
+        checks_the_page_for_patch as Side,
         checks_the_payload_for_empty,
         checks_the_payload_for_full_ref,
         answers_the_length_for_full_ref,
     ] {
-        harness.expected = wrong;
-        harness.in_place_of_library = Some(wrong);
-        let mismatch = orders::check(&mut harness).expect_err("noticed");
-        assert_eq!(mismatch.side, "order of refusals");
+        must_notice(orders::of_decisions, wrong);
     }
 }
 
