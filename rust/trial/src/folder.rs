@@ -143,6 +143,15 @@ pub fn same_bytes(one: &Path, other: &Path) -> Outcome<bool> {
     }
 }
 
+/// Refuses a folder that has anything in it: a file that is not written again there would be taken for
+/// today's.
+pub fn must_be_empty(folder: &Path) -> Outcome<()> {
+    if folder.exists() && fs::read_dir(folder)?.next().is_some() {
+        return Err(format!("{}: the folder is not empty", folder.display()).into());
+    }
+    Ok(())
+}
+
 /// Makes a folder with the permissions of another; PostgreSQL starts only on a private one.
 pub fn make_like(folder: &Path, model: &Path) -> Outcome<()> {
     fs::create_dir_all(folder)?;

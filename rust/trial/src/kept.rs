@@ -8,7 +8,9 @@ use std::fs;
 use std::path::{Path, PathBuf};
 
 use crate::decided::{Decided, Files};
-use crate::folder::{copy, make_like, relation_file, same_bytes, Listing, RelationFile};
+use crate::folder::{
+    copy, make_like, must_be_empty, relation_file, same_bytes, Listing, RelationFile,
+};
 use crate::progress::Progress;
 use crate::segment::{Areas, Counts, Day};
 use crate::Outcome;
@@ -94,13 +96,14 @@ impl Folders<'_> {
 
 /// Keeps what the changed folder has beyond the base, and reads all of it back. Where there is a folder
 /// of noon, its pages are written first, as they were in the course of the day. Each segment takes what
-/// was decided of it.
+/// was decided of it. The kept folder must be new: what an earlier day left there would be rebuilt too.
 pub fn store(
     folders: Folders<'_>,
     decided: Vec<DecidedSegment>,
     kept: &Path,
     progress: &mut Progress,
 ) -> Outcome<Stored> {
+    must_be_empty(kept)?;
     fs::create_dir_all(kept.join("pages"))?;
     let mut stored = store_others(folders, &decided, kept)?;
     progress.start("storing", decided.iter().map(|one| one.decided.evening.kinds.blocks()).sum());
@@ -179,6 +182,7 @@ pub fn rebuild(
     folder: &Path,
     progress: &mut Progress,
 ) -> Outcome<Rebuilt> {
+    must_be_empty(folder)?;
     make_folders(base, kept, folder)?;
     let whole = kept.join("whole");
     let whole_files = if whole.exists() { Listing::of(&whole)?.files } else { Default::default() };
@@ -416,11 +420,41 @@ mod tests {
              stored was Kinds { empty: 1, patch: 2, full: 1 }"
         );
         place.put("new/base/1/10", &pages(4, &[(1, 20)]));
-        let problem = store(folders, again, &at("kept"), &mut progress).err();
+        let problem = store(folders, again, &at("other"), &mut progress).err();
         assert_eq!(
             problem.expect("noticed").to_string(),
             "base/1/10: changed, and nothing was decided"
         );
+    }
+
+    /// Yesterday segment 11 was changed, and today it is as in the base again: stored into yesterday's
+    /// folder, yesterday's pages would come back. So would a file of yesterday's in a rebuilt folder.
+    #[test]
+    fn yesterdays_folders_are_refused() {
+        let place = Place::new("yesterday");
+        folders(&place);
+        let at = |name: &str| place.0.join(name);
+        let (base, changed) = (at("base"), at("new"));
+        let mut progress = Progress::new(false);
+        stored(&place, false);
+        let before = fs::read(at("kept/pages/base/1/11.patch")).expect("yesterday's");
+        place.put("new/base/1/11", &pages(4, &[]));
+
+        let folders = Folders { base: &base, noon: None, changed: &changed };
+        let decided = folders.decide(&mut progress).expect("decided");
+        let problem = store(folders, decided, &at("kept"), &mut progress).err().expect("refused");
+        assert_eq!(
+            problem.to_string(),
+            format!("{}: the folder is not empty", at("kept").display())
+        );
+        assert_eq!(fs::read(at("kept/pages/base/1/11.patch")).expect("as it was"), before);
+
+        place.put("again/base/1/15", &pages(2, &[]));
+        assert!(rebuild(&base, &at("kept"), &at("again"), &mut progress).is_err());
+        assert!(!at("again/base/1/11").exists());
+        // A folder that is there, and has nothing in it, will do.
+        fs::create_dir_all(at("empty")).expect("a folder");
+        rebuild(&base, &at("kept"), &at("empty"), &mut progress).expect("rebuilt");
     }
 
     #[test]

@@ -33,6 +33,7 @@ usage: trial decide BASE CHANGED [--names FILE] [--live]
            nothing is stored
   store    tells the same, keeps in KEPT what CHANGED has beyond BASE, reads it back and prints a table
   rebuild  makes FOLDER from BASE and KEPT
+           KEPT of store and FOLDER of rebuild must be new, or have nothing in them
   compare  says whether both folders hold the same files with the same bytes
 
   --noon FOLDER what CHANGED was like at noon: its pages are stored first, then those of CHANGED;
