@@ -91,7 +91,7 @@ module _ (P : ℕ) (full : List ℕ) (b k : ℕ) (payload : List ℕ) (none : fi
 
 -- The outcome
 
-module _ (P : ℕ) (buffers : List Row) (patch full : List ℕ) (b : ℕ) (d : Decision) (stores : ℕ) where
+module _ (P : ℕ) (buffers : List Row) (patch full : List ℕ) (b : ℕ) (d : Decision) where
   rest : List Row
   rest = decisionRows P full b (d .kind) (d .payload)
 
@@ -101,57 +101,58 @@ module _ (P : ℕ) (buffers : List Row) (patch full : List ℕ) (b : ℕ) (d : D
   unfolding carryRows frameRows
   carry-rows = in-halves _
 
-  pub carry-number : carryBy P buffers patch full b d stores .number ≡ firstOf (carryRows P buffers patch full b d)
-  unfolding carryBy
-  carry-number = decided-number (λ (o : CarryOutcome). o .number) _ _ (firstOf (carryRows P buffers patch full b d)) refl (λ k. refl)
+  module _ (stores : ℕ) where
+    pub carry-number : carryBy P buffers patch full b d stores .number ≡ firstOf (carryRows P buffers patch full b d)
+    unfolding carryBy
+    carry-number = decided-number (λ (o : CarryOutcome). o .number) _ _ (firstOf (carryRows P buffers patch full b d)) refl (λ k. refl)
 
-  -- by its number
-  pub carry-done : carryBy P buffers patch full b d stores .number ≡ 0 → carryBy P buffers patch full b d stores ≡ carryDone P patch full b d stores
-  unfolding carryBy
-  carry-done e = decided-done _ _ (firstOf (carryRows P buffers patch full b d)) (sym carry-number ∙ e)
+    -- by its number
+    pub carry-done : carryBy P buffers patch full b d stores .number ≡ 0 → carryBy P buffers patch full b d stores ≡ carryDone P patch full b d stores
+    unfolding carryBy
+    carry-done e = decided-done _ _ (firstOf (carryRows P buffers patch full b d)) (sym carry-number ∙ e)
 
-  pub carry-not : (carryBy P buffers patch full b d stores .number ≡ 0 → ⊥)
-      → carryBy P buffers patch full b d stores ≡ carryRefused (carryBy P buffers patch full b d stores .number) patch full
-  unfolding carryBy
-  carry-not h = decided-refused _ _ (firstOf (carryRows P buffers patch full b d)) _ (sym carry-number) h
+    pub carry-not : (carryBy P buffers patch full b d stores .number ≡ 0 → ⊥)
+        → carryBy P buffers patch full b d stores ≡ carryRefused (carryBy P buffers patch full b d stores .number) patch full
+    unfolding carryBy
+    carry-not h = decided-refused _ _ (firstOf (carryRows P buffers patch full b d)) _ (sym carry-number) h
 
-  -- what is carried out has nothing wrong with it, and so the length answered is at most a slot's room
-  pub carry-sound : carryBy P buffers patch full b d stores .number ≡ 0 → firstOf (decisionRows P full b (d .kind) (d .payload)) ≡ 0
-  unfolding rest
-  carry-sound e =
-      let z = or-none (firstOf (frameRows P (wrongPage P d) buffers patch full)) (firstOf (blockRows patch b ++ rest))
-      (sym carry-rows ∙ sym carry-number ∙ e) in
-      or-none (firstOf (blockRows patch b)) (firstOf rest) (sym (first-append (blockRows patch b) rest) ∙ z .1) .1
+    -- what is carried out has nothing wrong with it, and so the length answered is at most a slot's room
+    pub carry-sound : carryBy P buffers patch full b d stores .number ≡ 0 → firstOf (decisionRows P full b (d .kind) (d .payload)) ≡ 0
+    unfolding rest
+    carry-sound e =
+        let z = or-none (firstOf (frameRows P (wrongPage P d) buffers patch full)) (firstOf (blockRows patch b ++ rest))
+        (sym carry-rows ∙ sym carry-number ∙ e) in
+        or-none (firstOf (blockRows patch b)) (firstOf rest) (sym (first-append (blockRows patch b) rest) ∙ z .1) .1
 
-  pub carry-few : carryBy P buffers patch full b d stores .length ≤ room
-  carry-few = go (carryBy P buffers patch full b d stores .number) refl
-    where
-      go : (k : ℕ) → carryBy P buffers patch full b d stores .number ≡ k → carryBy P buffers patch full b d stores .length ≤ room
-      go zero e = rw (carry-done e) (payload-few P full b (d .kind) (d .payload) (carry-sound e))
-      go (suc k) e = rw (carry-not (λ q. omega (arith, e, q))) (omega arith)
+    pub carry-few : carryBy P buffers patch full b d stores .length ≤ room
+    carry-few = go (carryBy P buffers patch full b d stores .number) refl
+      where
+        go : (k : ℕ) → carryBy P buffers patch full b d stores .number ≡ k → carryBy P buffers patch full b d stores .length ≤ room
+        go zero e = rw (carry-done e) (payload-few P full b (d .kind) (d .payload) (carry-sound e))
+        go (suc k) e = rw (carry-not (λ q. omega (arith, e, q))) (omega arith)
 
-  -- and by what is wrong first: the frame's refusal is the call's
-  pub carry-frame : (k : ℕ) → firstOf (frameRows P (wrongPage P d) buffers patch full) ≡ k → (k ≡ 0 → ⊥)
-      → carryBy P buffers patch full b d stores ≡ carryRefused k patch full
-  unfolding carryBy rest
-  carry-frame k e h =
-      decided-refused _ _ (firstOf (carryRows P buffers patch full b d)) k
-      (carry-rows ∙ ap (λ (n : ℕ). orElse n (firstOf (blockRows patch b ++ rest))) e ∙ or-some k (firstOf (blockRows patch b ++ rest)) h) h
-
-  module _ (e : firstOf (frameRows P (wrongPage P d) buffers patch full) ≡ 0) where
-    pub carry-block : blocksIn (length patch) ≤ b → carryBy P buffers patch full b d stores ≡ carryRefused 5 patch full
+    -- and by what is wrong first: the frame's refusal is the call's
+    pub carry-frame : (k : ℕ) → firstOf (frameRows P (wrongPage P d) buffers patch full) ≡ k → (k ≡ 0 → ⊥)
+        → carryBy P buffers patch full b d stores ≡ carryRefused k patch full
     unfolding carryBy rest
-    carry-block h =
-        decided-refused _ _ (firstOf (carryRows P buffers patch full b d)) 5
-        (carry-rows ∙ or-skip (firstOf (frameRows P (wrongPage P d) buffers patch full)) (firstOf (blockRows patch b ++ rest)) e
-        ∙ first-hit 4 (leb (blocksIn (length patch)) b) rest (le-leb (blocksIn (length patch)) b h)) (λ q. omega arith)
+    carry-frame k e h =
+        decided-refused _ _ (firstOf (carryRows P buffers patch full b d)) k
+        (carry-rows ∙ ap (λ (n : ℕ). orElse n (firstOf (blockRows patch b ++ rest))) e ∙ or-some k (firstOf (blockRows patch b ++ rest)) h) h
 
-    pub carry-within : b < blocksIn (length patch) → carryBy P buffers patch full b d stores ≡ blockOutcome P patch full b d stores
-    unfolding carryBy blockOutcome rest
-    carry-within h =
-        ap (λ (n : ℕ). decided n (carryDone P patch full b d stores) (λ (k : ℕ). carryRefused k patch full))
-        (carry-rows ∙ or-skip (firstOf (frameRows P (wrongPage P d) buffers patch full)) (firstOf (blockRows patch b ++ rest)) e
-        ∙ first-skip 5 (leb (blocksIn (length patch)) b) rest (lt-leb (blocksIn (length patch)) b h))
+    module _ (e : firstOf (frameRows P (wrongPage P d) buffers patch full) ≡ 0) where
+      pub carry-block : blocksIn (length patch) ≤ b → carryBy P buffers patch full b d stores ≡ carryRefused 5 patch full
+      unfolding carryBy rest
+      carry-block h =
+          decided-refused _ _ (firstOf (carryRows P buffers patch full b d)) 5
+          (carry-rows ∙ or-skip (firstOf (frameRows P (wrongPage P d) buffers patch full)) (firstOf (blockRows patch b ++ rest)) e
+          ∙ first-hit 4 (leb (blocksIn (length patch)) b) rest (le-leb (blocksIn (length patch)) b h)) (λ q. omega arith)
+
+      pub carry-within : b < blocksIn (length patch) → carryBy P buffers patch full b d stores ≡ blockOutcome P patch full b d stores
+      unfolding carryBy blockOutcome rest
+      carry-within h =
+          ap (λ (n : ℕ). decided n (carryDone P patch full b d stores) (λ (k : ℕ). carryRefused k patch full))
+          (carry-rows ∙ or-skip (firstOf (frameRows P (wrongPage P d) buffers patch full)) (firstOf (blockRows patch b ++ rest)) e
+          ∙ first-skip 5 (leb (blocksIn (length patch)) b) rest (lt-leb (blocksIn (length patch)) b h))
 
 -- a block below n, by what is wrong with the decision
 module _ (P : ℕ) (patch full : List ℕ) (b : ℕ) (d : Decision) (stores : ℕ) where
