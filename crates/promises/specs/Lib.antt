@@ -51,7 +51,9 @@ pub mod ShowLaws
 pub mod SlotLaws
 pub mod SpellingLaws
 pub mod StandingLaws
+pub mod Stops
 pub mod StoreLaws
+pub mod SweepRuns
 pub mod Tables
 pub mod TalliesWrong
 pub mod Words
