@@ -1,25 +1,22 @@
 -- The laws of the map that Build writes: made byte by byte from the slots' first bytes, laid over a buffer, and its pairs.
-use Prim.Native.Nat.{ℕ, zero, suc, _+_, _-_, _*_, _/_, _%_, _^_, _≤_, _<_}
+use Prim.Native.Nat.{ℕ, zero, suc, _+_, _*_, _/_, _%_, _^_, _≤_, _<_}
 use native.Mathlib.Omega.{arith}
 use mathlib.Core.Path.{_≡_, refl, sym, ap, _∙_}
 use mathlib.Core.Logic.{inl, inr}
-use mathlib.Core.Bool.{Bool, true, false, cond}
+use mathlib.Core.Bool.{Bool, true, false}
 use mathlib.Core.List.{List, [], _∷_, _++_}
-use lib.Dec.{eqb}
 use lib.ListN.{length, getD, set}
-use borrow.Author.Tests.{eqb-true, eqb-false}
-use Rattle.span.specs.Bytes.{zeros, part, same, splice}
-use Rattle.span.specs.Laws.{part-at, splice-more, splice-in, splice-after, splice-length}
-use Rattle.layout.specs.Sizes.{slotSize, slotAt}
+use Rattle.span.specs.Bytes.{splice}
+use Rattle.span.specs.Laws.{splice-more, splice-in, splice-after, splice-length}
 use Rattle.layout.specs.FirstFaultLaws.{none-below}
 use Rattle.layout.specs.Lengths.{blocksIn}
-use Rattle.slots.specs.Slots.{SlotNumbers, slotNumbers, soundSlot, unsoundSlot, payloadLength, isPatch}
-use Rattle.slots.specs.SlotLaws.{plainNumbers, slot-short, slot-patch, slot-other}
+use Rattle.slots.specs.Slots.{slotNumbers}
 use Rattle.blockmap.specs.Pairs.{mapBytes, pairAt, reservedPair, badPairs}
 use Rattle.blockmap.specs.Meaning.{BadPair, bad-iff}
 use Rattle.blockmap.specs.Pack.{pairOf, packedByte, packedFirst, packed}
 use Rattle.blockmap.specs.PackLaws.{pair-of-below, packed-length, packed-used, packed-unused, packed-more, packed-first-length, packed-same}
 use Rattle.store.specs.Block.{slotOf}
+use Rattle.store.specs.BlockLaws.{kind-at}
 use Rattle.building.specs.Build.{blockFault, buildFault, builtMap}
 use Rattle.building.specs.Steps.{kindPair}
 use Rattle.building.specs.BuildLaws.{slot-sound}
@@ -43,56 +40,15 @@ map-turn buffer map f n at v h e q =
     ∙ ap (λ (w : ℕ). splice buffer 0 (packedFirst f n at ++ (w ∷ []))) q
     ∙ ap (λ (m : List ℕ). splice buffer 0 m) (sym (packed-more f n at))
 
--- The first byte of a sound slot is its kind
-
-kind-first : (s : List ℕ) → slotNumbers s .number ≡ 0 → slotNumbers s .kind ≡ getD s 0 0
-unfolding plainNumbers
-kind-first s e = long (eqb (length s) slotSize) refl
-  where
-    never : {A : Type 0} → slotNumbers s ≡ unsoundSlot → A
-    never q =
-        let z : slotNumbers s .number ≡ 6 = ap (λ (x : SlotNumbers). x .number) q in
-        absurd (omega arith)
-
-    kind : {k n : ℕ} → slotNumbers s ≡ soundSlot k n → getD s 0 0 ≡ k → slotNumbers s .kind ≡ getD s 0 0
-    kind q p = ap (λ (x : SlotNumbers). x .kind) q ∙ sym p
-
-    patch : (t : Bool) → getD s 0 0 ≡ 1 → slotNumbers s ≡ cond t (soundSlot 1 (payloadLength s)) unsoundSlot
-        → slotNumbers s .kind ≡ getD s 0 0
-    patch true k q = kind q k
-    patch false k q = never q
-
-    plain : (a b : Bool) → eqb (getD s 0 0) 0 ≡ a → eqb (getD s 0 0) 2 ≡ b
-        → slotNumbers s ≡ cond a (soundSlot 0 0) (cond b (soundSlot 2 0) unsoundSlot) → slotNumbers s .kind ≡ getD s 0 0
-    plain true b p r q = kind q (eqb-true (getD s 0 0) 0 p)
-    plain false true p r q = kind q (eqb-true (getD s 0 0) 2 r)
-    plain false false p r q = never q
-
-    other : (t : Bool) → slotNumbers s ≡ cond t (plainNumbers (getD s 0 0)) unsoundSlot → slotNumbers s .kind ≡ getD s 0 0
-    other true q = plain (eqb (getD s 0 0) 0) (eqb (getD s 0 0) 2) refl refl q
-    other false q = never q
-
-    first : (t : Bool) → length s ≡ slotSize → eqb (getD s 0 0) 1 ≡ t → slotNumbers s .kind ≡ getD s 0 0
-    first true l k = patch (isPatch s) (eqb-true (getD s 0 0) 1 k) (slot-patch s l (eqb-true (getD s 0 0) 1 k))
-    first false l k = other (same (part 1 (slotSize - 1) s) (zeros (slotSize - 1))) (slot-other s l (eqb-false (getD s 0 0) 1 k))
-
-    long : (t : Bool) → eqb (length s) slotSize ≡ t → slotNumbers s .kind ≡ getD s 0 0
-    long true l = first (eqb (getD s 0 0) 1) (eqb-true (length s) slotSize l) refl
-    long false l = never (slot-short s (eqb-false (length s) slotSize l))
-
--- so the map may be made from the slots' first bytes
+-- The first byte of a sound slot is its kind, so the map may be made from the slots' first bytes
 pub built-kinds : (P : ℕ) (patch full : List ℕ) → buildFault P patch full .number ≡ 0
     → builtMap patch ≡ packed (kindPair patch) (blocksIn (length patch))
-unfolding builtMap kindPair slotOf
+unfolding builtMap kindPair
 built-kinds P patch full e =
     packed-same (λ b. pairOf (slotNumbers (slotOf patch b) .kind)) (kindPair patch) (blocksIn (length patch))
     (λ b h.
     let none : blockFault P patch full b ≡ 0 = none-below (blockFault P patch full) (blocksIn (length patch)) .0 e b h in
-    let q : slotAt b + 0 ≡ slotAt b = omega arith in
-    ap pairOf
-    (kind-first (slotOf patch b) (slot-sound P patch full b none)
-    ∙ part-at (slotAt b) slotSize patch 0 (omega arith)
-    ∙ ap (λ (k : ℕ). getD patch k 0) q))
+    ap pairOf (kind-at patch b (slot-sound P patch full b none)))
 
 -- A map laid over a buffer: its pairs, and the bytes after it
 

@@ -4,8 +4,7 @@ use native.Mathlib.Omega.{arith}
 use mathlib.Core.Path.{_≡_, refl, sym, ap, _∙_}
 use mathlib.Core.Bool.{true, cond}
 use mathlib.Core.List.{List, []}
-use Rattle.span.specs.Bytes.{part}
-use Rattle.layout.specs.Sizes.{segment, slotSize, slotAt}
+use Rattle.layout.specs.Sizes.{segment}
 use Rattle.layout.specs.Numbers.{refusalNumber}
 use Rattle.layout.specs.NumberLaws.{refusal-some}
 use Rattle.layout.specs.Refusals.{firstOf}
@@ -13,8 +12,6 @@ use Rattle.layout.specs.RefusalLaws.{decided-number, decided-done, decided-refu
 use Rattle.layout.specs.FirstFault.{BlockFault, firstFault, rowsFrom}
 use Rattle.layout.specs.FirstFaultLaws.{fault-next, fault-here, fault-end, first-by-rows}
 use Rattle.layout.specs.declared.Refusal.{Refusal}
-use Rattle.slots.specs.Slots.{slotNumbers, stateNumbers}
-use Rattle.slots.specs.declared.SlotState.{SlotState}
 use Rattle.store.specs.Block.{slotOf, slotRows}
 use Rattle.store.specs.Open.{openNumbers, openedNumbers}
 use Rattle.store.specs.OpenLaws.{opened-frame, opened-refused}
@@ -23,13 +20,6 @@ use Rattle.store.specs.declared.Opened.the-variants.{Refused, Frame}
 use Rattle.cutting.specs.Highest.{extent, nonEmpty, HighestNumbers, highestNumbers}
 use Rattle.cutting.specs.HighestLaws.{extent-more, highest-refused, highest-scanned}
 use Rattle.cutting.specs.Parts.{slotExtent, scanNumbers}
-
--- what a block's slot was found to be
-pub slot-state : (patch : List ℕ) (b at : ℕ) (slot : List ℕ) (r x : SlotState) → at ≡ slotAt b → slot ≡ part at slotSize patch
-    → stateNumbers r ≡ slotNumbers slot → r ≡ x → slotNumbers (slotOf patch b) ≡ stateNumbers x
-unfolding slotOf
-slot-state patch b at slot r x e f g q =
-    sym (ap slotNumbers (f ∙ ap (λ (k : ℕ). part k slotSize patch) e)) ∙ sym g ∙ ap stateNumbers q
 
 -- what is wrong with a block's slot
 abbrev pub slotFault : List ℕ → ℕ → ℕ

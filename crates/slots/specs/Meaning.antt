@@ -87,6 +87,19 @@ by-image {A} s empty patch full unsound = go (same s emptySlot) (isPatch s) (sam
     go false false true p q r = full (same-is s fullSlot r)
     go false false false p q r = unsound (rw (p, q, r))
 
+-- The first byte of a sound slot is its kind
+pub kind-first : (s : List ℕ) → slotNumbers s .number ≡ 0 → slotNumbers s .kind ≡ getD s 0 0
+unfolding emptySlot fullSlot
+kind-first s e =
+    by-image s (λ q. image q empty-numbers (zeros-at slotSize 0))
+    (λ a b q. image q (patch-numbers (payloadOf s) b a) (kind-one (payloadOf s) b)) (λ q. image q full-numbers refl)
+    (λ q.
+    let z : slotNumbers s .number ≡ 6 = ap (λ (x : SlotNumbers). x .number) q in
+    absurd (omega arith))
+  where
+    image : {t : List ℕ} {k n : ℕ} → s ≡ t → slotNumbers t ≡ soundSlot k n → getD t 0 0 ≡ k → slotNumbers s .kind ≡ getD s 0 0
+    image q f g = ap (λ (x : SlotNumbers). x .kind) (ap slotNumbers q ∙ f) ∙ sym (ap (λ (x : List ℕ). getD x 0 0) q ∙ g)
+
 -- A slot's numbers say which image it is
 pub record SlotMeans (s : List ℕ) : Type 0 where
   pub empty : (slotNumbers s ≡ soundSlot 0 0) ↔ (s ≡ emptySlot)

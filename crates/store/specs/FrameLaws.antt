@@ -67,6 +67,10 @@ none-in P l e =
     let q : l - fullHead ≡ 0 = omega arith in
     ap (λ (k : ℕ). k / P) q ∙ zero-div P
 
+-- and no area has more places than there are blocks
+pub fewer-places : (P n l : ℕ) → fullFits P n l ≡ true → pagesIn P l ≤ n
+fewer-places P n l e = ⊎-elim (λ q. omega (arith, none-in P l q)) (λ q. q .1) (full-fits-is P n l e)
+
 pub places : (P n : ℕ) (full : List ℕ) → 0 < P → fullFits P n (length full) ≡ true → Places P full
 places P n full h e b k = ⊎-elim absent present (full-fits-is P n (length full) e)
   where

@@ -3,7 +3,6 @@ use Prim.Native.Nat.{ℕ, zero, suc, _≤_}
 use native.Mathlib.Omega.{arith}
 use mathlib.Core.Path.{_≡_, refl, sym, ap, _∙_, subst}
 use mathlib.Core.Bool.{Bool, true, not}
-use mathlib.Core.Logic.{⊎-elim}
 use mathlib.Core.List.{List, [], _∷_}
 use lib.ListN.{length}
 use Rattle.span.specs.Laws.{and-left, and-right}
@@ -14,14 +13,14 @@ use Rattle.layout.specs.declared.Refusal.{Refusal}
 use Rattle.layout.specs.Refusals.{Row, _⇐_, firstOf}
 use Rattle.layout.specs.RefusalLaws.{decided-done, decided-refused}
 use Rattle.layout.specs.Lengths.{blocksIn, pagesIn, patchFits, fullFits}
-use Rattle.layout.specs.LengthLaws.{patch-fits-is, full-fits-is, most-blocks}
+use Rattle.layout.specs.LengthLaws.{patch-fits-is, most-blocks}
 use Rattle.store.specs.declared.Opened.{Opened}
 use Rattle.store.specs.declared.Opened.the-variants.{Refused, Frame}
 use Rattle.stream.specs.Calls.{pagesFit, pageRows}
 use Rattle.stream.specs.Laws.{page-length, base-length}
 use Rattle.store.specs.Frame.{frameRows}
 use Rattle.store.specs.Open.{openRows, FrameNumbers, openNumbers, openedNumbers}
-use Rattle.store.specs.FrameLaws.{frame-is, frame-sound, frame-pages, none-in}
+use Rattle.store.specs.FrameLaws.{frame-is, frame-sound, frame-pages, fewer-places}
 
 -- what a frame that has nothing wrong gives: its rows, tests that hold, and lengths that fit
 pub record Framed (P : ℕ) (pages buffers : Bool) (patch full : List ℕ) : Type 0 where
@@ -48,8 +47,7 @@ module _ (P : ℕ) (pages buffers : Bool) (patch full : List ℕ) where
       let p : patchFits P (length patch) ≡ true = and-left (patchFits P (length patch)) (fullFits P n (length full)) (f .1) in
       let q : fullFits P n (length full) ≡ true = and-right (patchFits P (length patch)) (fullFits P n (length full)) (f .1) in
       let blocks : n ≤ segment = omega (arith, patch-fits-is P (length patch) p .1, most-blocks P) in
-      let places : pagesIn P (length full) ≤ n =
-      ⊎-elim (λ x. omega (arith, none-in P (length full) x)) (λ x. x .1) (full-fits-is P n (length full) q) in
+      let places : pagesIn P (length full) ≤ n = fewer-places P n (length full) q in
       record {
         none = e;
         pages-fit = f .0;

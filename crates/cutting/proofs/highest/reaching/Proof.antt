@@ -4,8 +4,8 @@ use mathlib.Core.Path.{_≡_, ap, _∙_}
 use Rattle.slots.specs.Slots.{slotNumbers, stateNumbers}
 use Rattle.slots.specs.declared.SlotState.{SlotState}
 use Rattle.store.specs.Block.{slotOf}
+use Rattle.store.specs.BlockLaws.{slot-state}
 use Rattle.cutting.specs.HighestLaws.{slot-unsound, slot-empty, slot-used}
-use Rattle.cutting.proofs.HighestTold.{slot-state}
 use borrow.Author.Needs.{needs}
 use Rattle.cutting.proofs.highest.reaching.Statement.{statement}
 use Rattle.cutting.proofs.highest.reaching.Tie as tie

@@ -1,0 +1,5 @@
+pub mod Parts
+pub mod Sweep
+pub mod ZeroedLaws
+pub mod SweepLaws
+pub mod Given
