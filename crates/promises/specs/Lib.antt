@@ -54,6 +54,9 @@ pub mod StandingLaws
 pub mod Stops
 pub mod StoreLaws
 pub mod SweepRuns
+pub mod SweepTables
+pub mod SweepWords
+pub mod SweptLaws
 pub mod Tables
 pub mod TalliesWrong
 pub mod Words

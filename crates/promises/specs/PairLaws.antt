@@ -108,7 +108,7 @@ module _ (P : ℕ) (patch full : List ℕ) (b : ℕ) (d : Decision) where
           let s = carry-stored P patch full b d e in
           let f = s .frame in
           read-same P patch full _ _ c base page (frame-same P patch full _ _ f base page) (f .patch-length) (f .full-length)
-          (s .other-slots c q) (s .other-places c q)
+          (s .other-slots c q) (λ z. s .other-places c q)
       go (suc k) e =
           ap (λ (o : CarryOutcome). readOutcome P (o .patch) (o .full) c base page)
           (carry-not P [] patch full b d all (λ z. omega arith))
