@@ -51,6 +51,10 @@ pub mod ShowLaws
 pub mod SlotLaws
 pub mod SpellingLaws
 pub mod StandingLaws
+pub mod StopReads
+pub mod StopStore
+pub mod StopStoreLaws
+pub mod StopWords
 pub mod Stops
 pub mod StoreLaws
 pub mod SweepRuns
