@@ -3,6 +3,7 @@ use Prim.Native.Nat.{ℕ, zero, suc, _≤_, _<_}
 use native.Mathlib.Omega.{arith}
 use native.Mathlib.Decide.{decLt}
 use mathlib.Core.Path.{_≡_, refl, sym, ap, _∙_}
+use mathlib.Core.Logic.{_⊎_, inl, inr}
 use mathlib.Core.Bool.{Bool, true, false, not, _&&_, cond}
 use mathlib.Core.List.{List, [], _∷_, _++_}
 use lib.Dec.{eqb, ltb}
@@ -150,6 +151,17 @@ module _ (P : ℕ) (patch full map : List ℕ) where
       (buildDone (splice map 0 (builtMap patch)))
       (λ k. buildRefused k (buildFault P patch full .block) (offsetWith k P (payloadOf (slotOf patch (buildFault P patch full .block)))) map))
       (λ k. buildRefused k 0 0 map)
+
+  -- the number is the frame's or a block's
+  pub build-either : (k : ℕ) → buildOutcome P patch full map .number ≡ k
+      → (firstOf (buildRows P patch full map) ≡ k) ⊎ (buildFault P patch full .number ≡ k)
+  unfolding buildOutcome byNumbers decided
+  build-either k e = go (firstOf (buildRows P patch full map)) (buildFault P patch full .number) e
+    where
+      go : (x y : ℕ) → byNumbers x y .number ≡ k → (x ≡ k) ⊎ (y ≡ k)
+      go zero zero q = inl q
+      go zero (suc y) q = inr q
+      go (suc x) y q = inl q
 
   -- accepted by its number: nothing was found
   pub build-zero : buildOutcome P patch full map .number ≡ 0

@@ -1,5 +1,5 @@
 -- "Each refusal is given when its condition holds and no earlier one does, and at no other time": Build.
-use Prim.Native.Nat.{ℕ, zero, suc}
+use Prim.Native.Nat.{ℕ, zero, suc, _<_}
 use native.Mathlib.Omega.{arith}
 use mathlib.Core.Path.{_≡_, refl, sym, ap, _∙_}
 use mathlib.Core.Bool.{Bool, true, false, not}
@@ -72,14 +72,14 @@ fault-once P patch full b = refl
 pub build-once : (P : ℕ) (patch full map : List ℕ) → once (buildGroups P patch full map) ≡ true
 build-once P patch full map = refl
 
--- Build's frame gives no 7
-frame-other : (P : ℕ) (patch full map : List ℕ) → firstOf (buildRows P patch full map) ≡ 7 → ⊥
-frame-other P patch full map q =
+-- Build's frame gives 9 and no other number above 4
+pub frame-other : (P : ℕ) (patch full map : List ℕ) (k : ℕ) → 4 < suc k → (9 ≡ suc k → ⊥) → firstOf (buildRows P patch full map) ≡ suc k → ⊥
+frame-other P patch full map k high other q =
     let fits : Bool = leb (mapBytes (blocksIn (length patch))) (length map) in
     let buffer : List Row = (9 ⇐ not fits) ∷ [] in
-    first-lacks (frameRows P ((1 ⇐ false) ∷ []) buffer patch full) 6
-    (frame-lacks P patch full ((1 ⇐ false) ∷ []) buffer 7 (omega arith) (lacks 1 (λ e. omega arith) no-such)
-    (lacks 9 (λ e. omega arith) no-such))
+    first-lacks (frameRows P ((1 ⇐ false) ∷ []) buffer patch full) k
+    (frame-lacks P patch full ((1 ⇐ false) ∷ []) buffer (suc k) high (lacks 1 (λ e. omega arith) no-such)
+    (lacks 9 other no-such))
     (sym (build-frame P patch full map fits (not-fits (mapBytes (blocksIn (length patch))) (length map))) ∙ q)
 
 -- the offset goes with 7 alone
@@ -100,4 +100,4 @@ build-told P patch full map = go (firstOf (buildRows P patch full map)) refl
     go zero e = inside e (buildFault P patch full .number) refl
     go (suc k) e =
         rw (build-refused P patch full map (suc k) e (λ q. omega arith))
-        (sym (offset-other (suc k) P (payloadOf (slotOf patch 0)) (λ q. frame-other P patch full map (e ∙ q))))
+        (sym (offset-other (suc k) P (payloadOf (slotOf patch 0)) (λ q. frame-other P patch full map 6 (omega arith) (λ z. omega arith) (e ∙ q))))

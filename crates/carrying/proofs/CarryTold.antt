@@ -2,7 +2,7 @@
 use Prim.Native.Nat.{ℕ, _+_, _≤_, _<_}
 use native.Mathlib.Omega.{arith}
 use mathlib.Core.Path.{_≡_, sym, ap, _∙_, subst}
-use mathlib.Core.Bool.{Bool, true, not, _&&_}
+use mathlib.Core.Bool.{Bool, true, not, _&&_, cond}
 use mathlib.Core.List.{List}
 use lib.Dec.{eqb, leb}
 use lib.ListN.{length}
@@ -25,10 +25,10 @@ use Rattle.store.specs.Open.{openNumbers, openedNumbers}
 use Rattle.store.specs.OpenLaws.{Opening, opened-frame, opened-refused}
 use Rattle.store.specs.declared.Opened.{Opened}
 use Rattle.store.specs.declared.Opened.the-variants.{Refused, Frame}
-use Rattle.carrying.specs.Puts.{Decision}
+use Rattle.carrying.specs.Puts.{Decision, toldAll}
 use Rattle.carrying.specs.CarryOut.{wrongPage, CarryOutcome, carryRefused, carryBy}
 use Rattle.carrying.specs.CarryOut.{CarryNumbers, writtenNumbers, carryNumbers, CarryOut}
-use Rattle.carrying.specs.Mapped.{carryMappedOutcome, CarryOutMapped}
+use Rattle.carrying.specs.Mapped.{carryMappedTold, CarryOutMapped}
 use Rattle.carrying.specs.CarryLaws.{carry-done, carry-frame, carry-block, carry-within}
 use Rattle.carrying.specs.CarryLaws.{told-frame, carry-alone, carry-told, map-done, map-not}
 use Rattle.carrying.specs.Parts.{toldRows, BlockCarry, CarryWith}
@@ -43,17 +43,17 @@ pub record Lent (size m : ℕ) (patch full : List ℕ) (b : ℕ) (d : Decision) 
   pub counted : m ≡ pagesIn size (length full)
   pub places-in : Places size full
 
-module _ (P : ℕ) (fit fits : Bool) (patch full : List ℕ) (b : ℕ) (d : Decision)
+module _ (P : ℕ) (fit fits : Bool) (patch full : List ℕ) (b : ℕ) (d : Decision) (stores : ℕ)
     (paged : not fit ≡ (eqb (d .kind) fullKind && not (eqb (length (d .page)) P)))
     (x : Opened) (told : openedNumbers x ≡ openNumbers P fit fits patch full) where
-  stays : (r : Refusal) → carryBy P (toldRows fits) patch full b d ≡ carryRefused (refusalNumber r) patch full
-      → CarryWith P fits patch full b d (WrittenRefused r) patch full
+  stays : (r : Refusal) → carryBy P (toldRows fits) patch full b d stores ≡ carryRefused (refusalNumber r) patch full
+      → CarryWith P fits patch full b d stores (WrittenRefused r) patch full
   stays r e = record { numbers = rw e; patch-bytes = rw e; full-bytes = rw e }
 
-  pub told-refused : (r : Refusal) → x ≡ Refused r → CarryWith P fits patch full b d (WrittenRefused r) patch full
+  pub told-refused : (r : Refusal) → x ≡ Refused r → CarryWith P fits patch full b d stores (WrittenRefused r) patch full
   told-refused r is =
       stays r
-      (carry-frame P (toldRows fits) patch full b d (refusalNumber r)
+      (carry-frame P (toldRows fits) patch full b d stores (refusalNumber r)
       (told-frame P fit fits patch full d paged ∙ opened-refused P fit fits patch full r (sym (ap openedNumbers is) ∙ told)) (refusal-some r))
 
   module _ (size n m : ℕ) (is : x ≡ Frame size n m) where
@@ -63,8 +63,8 @@ module _ (P : ℕ) (fit fits : Bool) (patch full : List ℕ) (b : ℕ) (d : Deci
     none : firstOf (frameRows P (wrongPage P d) (toldRows fits) patch full) ≡ 0
     none = told-frame P fit fits patch full d paged ∙ frame .framed .none
 
-    pub told-block : n ≤ b → CarryWith P fits patch full b d (WrittenRefused Block) patch full
-    told-block h = stays Block (carry-block P (toldRows fits) patch full b d none (omega (arith, frame .blocks)))
+    pub told-block : n ≤ b → CarryWith P fits patch full b d stores (WrittenRefused Block) patch full
+    told-block h = stays Block (carry-block P (toldRows fits) patch full b d stores none (omega (arith, frame .blocks)))
 
     -- a page that is looked at has the size
     page-fits : d .kind ≡ fullKind → length (d .page) ≡ P
@@ -85,19 +85,19 @@ module _ (P : ℕ) (fit fits : Bool) (patch full : List ℕ) (b : ℕ) (d : Deci
             places-in = places P (blocksIn (length patch)) full (s .0) (frame .framed .full-fit);
           })
 
-      pub told-within : (answer : Written) (patch′ full′ : List ℕ) → BlockCarry size patch full b d answer patch′ full′
-          → CarryWith P fits patch full b d answer patch′ full′
+      pub told-within : (answer : Written) (patch′ full′ : List ℕ) → BlockCarry size patch full b d stores answer patch′ full′
+          → CarryWith P fits patch full b d stores answer patch′ full′
       told-within answer patch′ full′ w =
-          let e = carry-within P (toldRows fits) patch full b d none (omega (arith, frame .blocks)) in
-          let w′ : BlockCarry P patch full b d answer patch′ full′ =
-          subst (λ (k : ℕ). BlockCarry k patch full b d answer patch′ full′) (frame .own) w in
+          let e = carry-within P (toldRows fits) patch full b d stores none (omega (arith, frame .blocks)) in
+          let w′ : BlockCarry P patch full b d stores answer patch′ full′ =
+          subst (λ (k : ℕ). BlockCarry k patch full b d stores answer patch′ full′) (frame .own) w in
           record { numbers = rw e (w′ .numbers); patch-bytes = rw e (w′ .patch-bytes); full-bytes = rw e (w′ .full-bytes) }
 
 -- without a map
-pub told-alone : (P : ℕ) (patch full : List ℕ) (b : ℕ) (d : Decision) (answer : Written) (patch′ full′ : List ℕ)
-    → CarryWith P true patch full b d answer patch′ full′ → CarryOut P patch full b d answer patch′ full′
-told-alone P patch full b d answer patch′ full′ w =
-    let e = carry-alone P patch full b d in
+pub told-alone : (P : ℕ) (patch full : List ℕ) (b : ℕ) (d : Decision) (stores : ℕ) (answer : Written) (patch′ full′ : List ℕ)
+    → CarryWith P true patch full b d stores answer patch′ full′ → CarryOut P patch full b d stores answer patch′ full′
+told-alone P patch full b d stores answer patch′ full′ w =
+    let e = carry-alone P patch full b d stores in
     record {
       numbers = w .numbers ∙ ap carryNumbers e;
       patch-bytes = w .patch-bytes ∙ ap (λ (o : CarryOutcome). o .patch) e;
@@ -105,16 +105,17 @@ told-alone P patch full b d answer patch′ full′ w =
     }
 
 -- with a map, told whether it is long enough
-module _ (P : ℕ) (fits : Bool) (patch full map : List ℕ) (b : ℕ) (d : Decision) (answer : Written) (patch′ full′ : List ℕ)
-    (long : fits ≡ leb (mapBytes (blocksIn (length patch))) (length map)) (w : CarryWith P fits patch full b d answer patch′ full′) where
-  same : carryBy P (toldRows fits) patch full b d ≡ carryMappedOutcome P patch full map b d .areas
-  same = carry-told P patch full map b d fits long
+module _ (P : ℕ) (fits : Bool) (patch full map : List ℕ) (b : ℕ) (d : Decision) (stores : ℕ) (answer : Written)
+    (patch′ full′ : List ℕ) (long : fits ≡ leb (mapBytes (blocksIn (length patch))) (length map))
+    (w : CarryWith P fits patch full b d stores answer patch′ full′) where
+  same : carryBy P (toldRows fits) patch full b d stores ≡ carryMappedTold P patch full map b d stores .areas
+  same = carry-told P patch full map b d stores fits long
 
-  numbers : writtenNumbers answer ≡ carryNumbers (carryMappedOutcome P patch full map b d .areas)
+  numbers : writtenNumbers answer ≡ carryNumbers (carryMappedTold P patch full map b d stores .areas)
   numbers = w .numbers ∙ ap carryNumbers same
 
-  kept : (x : Written) (map′ : List ℕ) → answer ≡ x → map′ ≡ carryMappedOutcome P patch full map b d .map
-      → CarryOutMapped P patch full map b d x patch′ full′ map′
+  kept : (x : Written) (map′ : List ℕ) → answer ≡ x → map′ ≡ carryMappedTold P patch full map b d stores .map
+      → CarryOutMapped P patch full map b d stores x patch′ full′ map′
   kept x map′ is m =
       record {
         numbers = sym (ap writtenNumbers is) ∙ numbers;
@@ -123,21 +124,22 @@ module _ (P : ℕ) (fits : Bool) (patch full map : List ℕ) (b : ℕ) (d : Deci
         map-bytes = m;
       }
 
-  number : (x : Written) → answer ≡ x → writtenNumbers x .number ≡ carryMappedOutcome P patch full map b d .areas .number
+  number : (x : Written) → answer ≡ x → writtenNumbers x .number ≡ carryMappedTold P patch full map b d stores .areas .number
   number x is = ap (λ (n : CarryNumbers). n .number) (sym (ap writtenNumbers is) ∙ numbers)
 
-  pub mapped-refused : (r : Refusal) → answer ≡ WrittenRefused r → CarryOutMapped P patch full map b d (WrittenRefused r) patch′ full′ map
+  pub mapped-refused : (r : Refusal) → answer ≡ WrittenRefused r → CarryOutMapped P patch full map b d stores (WrittenRefused r) patch′ full′ map
   mapped-refused r is =
-      kept (WrittenRefused r) map is (sym (map-not P patch full map b d (λ z. refusal-some r (number (WrittenRefused r) is ∙ z))))
+      kept (WrittenRefused r) map is (sym (map-not P patch full map b d stores (λ z. refusal-some r (number (WrittenRefused r) is ∙ z))))
 
-  -- the pair that is set is of the kind that was stored, which is the decision's
-  pub mapped-done : (k : Kind) (n v : ℕ) (map′ : List ℕ) → answer ≡ WrittenDone k n → v ≡ pairOf (kindNumber k) → map′ ≡ setPair map b v
-      → CarryOutMapped P patch full map b d (WrittenDone k n) patch′ full′ map′
-  mapped-done k n v map′ is e set =
+  -- the pair that is set, if all stores were made, is of the kind that was stored, which is the decision's
+  pub mapped-done : (k : Kind) (n : ℕ) (map′ : List ℕ) → answer ≡ WrittenDone k n
+      → map′ ≡ cond (toldAll stores) (setPair map b (pairOf (kindNumber k))) map
+      → CarryOutMapped P patch full map b d stores (WrittenDone k n) patch′ full′ map′
+  mapped-done k n map′ is set =
       let done = sym (ap writtenNumbers is) ∙ w .numbers in
       let kind : kindNumber k ≡ d .kind = ap (λ (x : CarryNumbers). x .kind) done
       ∙ ap (λ (o : CarryOutcome). o .kind)
-      (carry-done P (toldRows fits) patch full b d (sym (ap (λ (x : CarryNumbers). x .number) done))) in
+      (carry-done P (toldRows fits) patch full b d stores (sym (ap (λ (x : CarryNumbers). x .number) done))) in
       kept (WrittenDone k n) map′ is
-      (set ∙ ap (λ (x : ℕ). setPair map b x) (e ∙ ap pairOf kind)
-      ∙ sym (map-done P patch full map b d (sym (number (WrittenDone k n) is))))
+      (set ∙ ap (λ (x : ℕ). cond (toldAll stores) (setPair map b (pairOf x)) map) kind
+      ∙ sym (map-done P patch full map b d stores (sym (number (WrittenDone k n) is))))

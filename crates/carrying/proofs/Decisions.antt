@@ -9,8 +9,8 @@ use lib.IntN.{ℤ}
 use lib.ListN.{length, take, length-take}
 use lib.Seq.{take-all}
 use borrow.Author.Tests.{lt-ltb, le-ltb, le-leb, eq-eqb}
-use Rattle.span.specs.Bytes.{splice}
-use Rattle.layout.specs.Sizes.{room, slotAt, patchKind, fullKind}
+use Rattle.span.specs.Bytes.{zeros}
+use Rattle.layout.specs.Sizes.{room, patchKind, fullKind}
 use Rattle.layout.specs.Lengths.{pagesIn}
 use Rattle.layout.specs.Numbers.{kindNumber, refusalNumber}
 use Rattle.layout.specs.NumberLaws.{refusal-some}
@@ -24,10 +24,10 @@ use Rattle.payload.specs.StepLaws.{Judges, judged}
 use Rattle.payload.specs.declared.Checked.{Checked}
 use Rattle.payload.specs.declared.Checked.the-variants.{Unsound, Sound}
 use Rattle.slots.specs.Slots.{slotImage}
-use Rattle.carrying.specs.Puts.{putSlot, putPlace}
+use Rattle.carrying.specs.Puts.{Decision, Areas, puts, order, carried}
 use Rattle.carrying.specs.CarryOut.{carryDone}
-use Rattle.carrying.specs.CarryLaws.{carried-is, slot-payload, kind-known, payload-few, block-refused, block-done}
-use Rattle.carrying.specs.Parts.{decisionRows, blockOutcome, BlockCarry}
+use Rattle.carrying.specs.CarryLaws.{puts-alike, slot-payload, kind-known, payload-few, block-refused, block-done}
+use Rattle.carrying.specs.Parts.{decisionRows, blockOutcome, BlockCarry, Made}
 use Rattle.carrying.specs.declared.Written.the-variants.{Done, Refused}
 
 -- what the check of a payload tells, in a page within the stream's reach
@@ -75,10 +75,11 @@ module _ (P : ℕ) (full : List ℕ) (b k : ℕ) (payload : List ℕ) where
       pub nothing-wrong : (eqb k patchKind && not (sound P payload)) ≡ false → firstOf (decisionRows P full b k payload) ≡ 0
       nothing-wrong h = first-done (decisionRows P full b k payload) (known-kind, (placed, (h, tt {0})))
 
-  pub decision-refused : (patch page : List ℕ) (r : Refusal) → firstOf (decisionRows P full b k payload) ≡ refusalNumber r
-      → BlockCarry P patch full b (record { kind = k; payload = payload; page = page }) (Refused r) patch full
-  decision-refused patch page r wrong =
-      let e = block-refused P patch full b (record { kind = k; payload = payload; page = page }) (refusalNumber r) wrong (refusal-some r) in
+  pub decision-refused : (patch page : List ℕ) (stores : ℕ) (r : Refusal) → firstOf (decisionRows P full b k payload) ≡ refusalNumber r
+      → BlockCarry P patch full b (record { kind = k; payload = payload; page = page }) stores (Refused r) patch full
+  decision-refused patch page stores r wrong =
+      let d : Decision = record { kind = k; payload = payload; page = page } in
+      let e = block-refused P patch full b d stores (refusalNumber r) wrong (refusal-some r) in
       record { numbers = rw e; patch-bytes = rw e; full-bytes = rw e }
 
   -- where nothing is wrong, so much of the payload is stored
@@ -99,22 +100,33 @@ module _ (P : ℕ) (full : List ℕ) (b k : ℕ) (payload : List ℕ) where
           let v : used ≡ length payload = u ∙ rw (eq-eqb k patchKind e) in
           take-all (used - 0) payload (omega arith)
 
-      module _ (patch page : List ℕ) (stored : Kind) (is : k ≤ fullKind → kindNumber stored ≡ k) where
-        pub decision-stored : (patch′ full′ : List ℕ) → patch′ ≡ putSlot patch b (kindNumber stored) (take (used - 0) payload)
-            → full′ ≡ putPlace P full b (kindNumber stored) page
-            → BlockCarry P patch full b (record { kind = k; payload = payload; page = page }) (Done stored used) patch′ full′
-        unfolding putSlot
-        decision-stored patch′ full′ p f =
-            let kind : kindNumber stored ≡ k = is (kind-known P full b k payload none) in
-            let e : blockOutcome P patch full b (record { kind = k; payload = payload; page = page })
-            ≡ carryDone P patch full b (record { kind = k; payload = payload; page = page }) =
-            block-done P patch full b (record { kind = k; payload = payload; page = page }) none in
-            let s = carried-is P b (record { kind = k; payload = payload; page = page }) (record { patch = patch; full = full }) in
+      -- the stores that were made are those of the decision, though only so much of its payload was lent to them
+      module _ (patch page : List ℕ) (stores : ℕ) (stored : Kind) (is : k ≤ fullKind → kindNumber stored ≡ k) where
+        abbrev d : Decision
+        d = record { kind = k; payload = payload; page = page }
+
+        abbrev lent : Decision
+        lent = record { kind = kindNumber stored; payload = take (used - 0) payload; page = page }
+
+        kind : kindNumber stored ≡ k
+        kind = is (kind-known P full b k payload none)
+
+        same-stores : puts P b lent (take stores (order (kindNumber stored))) (record { patch = patch; full = full })
+            ≡ carried P b d stores (record { patch = patch; full = full })
+        unfolding carried
+        same-stores =
+            puts-alike P b lent d
+            (ap (λ (n : ℕ). slotImage n (take (used - 0) payload)) kind ∙ slot-payload k (take (used - 0) payload) payload whole-payload)
+            (ap (λ (n : ℕ). cond (eqb n fullKind) page (zeros P)) kind)
+            (take stores (order (kindNumber stored))) (record { patch = patch; full = full })
+            ∙ ap (λ (n : ℕ). puts P b d (take stores (order n)) (record { patch = patch; full = full })) kind
+
+        pub decision-stored : (patch′ full′ : List ℕ) → Made P b lent (take stores (order (kindNumber stored))) patch full patch′ full′
+            → BlockCarry P patch full b d stores (Done stored used) patch′ full′
+        decision-stored patch′ full′ made =
+            let e : blockOutcome P patch full b d stores ≡ carryDone P patch full b d stores = block-done P patch full b d stores none in
             record {
               numbers = rw e (λ i. record { number = 0; kind = kind i; length = u i });
-              patch-bytes =
-                  rw (e, s)
-                  (p ∙ ap (λ (n : ℕ). splice patch (slotAt b) (slotImage n (take (used - 0) payload))) kind
-                  ∙ ap (λ (l : List ℕ). splice patch (slotAt b) l) (slot-payload k (take (used - 0) payload) payload whole-payload));
-              full-bytes = rw (e, s) (f ∙ ap (λ (n : ℕ). putPlace P full b n page) kind);
+              patch-bytes = rw e (made .patch-bytes ∙ ap (λ (s : Areas). s .patch) same-stores);
+              full-bytes = rw e (made .full-bytes ∙ ap (λ (s : Areas). s .full) same-stores);
             }

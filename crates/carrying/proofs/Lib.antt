@@ -1,2 +1,3 @@
 pub mod CarryTold
 pub mod Decisions
+pub mod Making

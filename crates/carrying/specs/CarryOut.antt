@@ -16,7 +16,7 @@ use Rattle.payload.specs.Entries.{sound}
 use Rattle.store.specs.Block.{blockRows}
 use Rattle.carrying.specs.declared.Written.{Written}
 use Rattle.carrying.specs.declared.Written.the-variants.{Done, Refused}
-use Rattle.carrying.specs.Puts.{Decision, carried}
+use Rattle.carrying.specs.Puts.{Decision, carried, all}
 
 -- "It looks at the payload only for PATCH, taking any sound one, and at the page only for FULL_REF."
 abbrev pub wrongPage : ℕ → Decision → List Row
@@ -46,10 +46,10 @@ pub record CarryOutcome : Type 0 where
   pub patch : List ℕ
   pub full : List ℕ
 
--- done: "the kind and the payload's length, 0 unless PATCH"
-abbrev pub carryDone : ℕ → List ℕ → List ℕ → ℕ → Decision → CarryOutcome
-carryDone P patch full b d =
-    let s = carried P b d (record { patch = patch; full = full }) in
+-- done: "the kind and the payload's length, 0 unless PATCH", whatever number of stores is told
+abbrev pub carryDone : ℕ → List ℕ → List ℕ → ℕ → Decision → ℕ → CarryOutcome
+carryDone P patch full b d stores =
+    let s = carried P b d stores (record { patch = patch; full = full }) in
     record {
       number = 0;
       kind = d .kind;
@@ -62,13 +62,18 @@ carryDone P patch full b d =
 abbrev pub carryRefused : ℕ → List ℕ → List ℕ → CarryOutcome
 carryRefused number patch full = record { number = number; kind = 0; length = 0; patch = patch; full = full }
 
-unfoldable pub carryBy : ℕ → List Row → List ℕ → List ℕ → ℕ → Decision → CarryOutcome
-carryBy P buffers patch full b d =
-    decided (firstOf (carryRows P buffers patch full b d)) (carryDone P patch full b d) (λ n. carryRefused n patch full)
+-- "told how many of them to make ... with the same refusals and answer"
+unfoldable pub carryBy : ℕ → List Row → List ℕ → List ℕ → ℕ → Decision → ℕ → CarryOutcome
+carryBy P buffers patch full b d stores =
+    decided (firstOf (carryRows P buffers patch full b d)) (carryDone P patch full b d stores) (λ n. carryRefused n patch full)
 
 -- without a map
+abbrev pub carryTold : ℕ → List ℕ → List ℕ → ℕ → Decision → ℕ → CarryOutcome
+carryTold P patch full b d stores = carryBy P [] patch full b d stores
+
+-- and told all: the whole write. "Demands 2 and 3 speak of writes told all"
 abbrev pub carryOutcome : ℕ → List ℕ → List ℕ → ℕ → Decision → CarryOutcome
-carryOutcome P patch full b d = carryBy P [] patch full b d
+carryOutcome P patch full b d = carryTold P patch full b d all
 
 -- the paper's numbers for each case of the answer
 pub record CarryNumbers : Type 0 where
@@ -83,7 +88,8 @@ writtenNumbers (Refused r) = record { number = refusalNumber r; kind = 0; length
 abbrev pub carryNumbers : CarryOutcome → CarryNumbers
 carryNumbers o = record { number = o .number; kind = o .kind; length = o .length }
 
-pub record CarryOut (P : ℕ) (patch full : List ℕ) (b : ℕ) (d : Decision) (answer : Written) (patch′ full′ : List ℕ) : Type 0 where
-  pub numbers : writtenNumbers answer ≡ carryNumbers (carryOutcome P patch full b d)
-  pub patch-bytes : patch′ ≡ carryOutcome P patch full b d .patch
-  pub full-bytes : full′ ≡ carryOutcome P patch full b d .full
+pub record CarryOut (P : ℕ) (patch full : List ℕ) (b : ℕ) (d : Decision) (stores : ℕ) (answer : Written) (patch′ full′ : List ℕ)
+    : Type 0 where
+  pub numbers : writtenNumbers answer ≡ carryNumbers (carryTold P patch full b d stores)
+  pub patch-bytes : patch′ ≡ carryTold P patch full b d stores .patch
+  pub full-bytes : full′ ≡ carryTold P patch full b d stores .full

@@ -1,9 +1,10 @@
--- Carrying out a decision on a block: two whole stores, the block's slot and its place in the full area, and their order.
+-- Carrying out a decision on a block: two whole stores, the block's slot and its place in the full area, their order, and how many of them
+-- are made.
 use Prim.Native.Nat.{ℕ}
-use mathlib.Core.Bool.{cond}
+use mathlib.Core.Bool.{Bool, cond}
 use mathlib.Core.List.{List, [], _∷_}
 use lib.Dec.{eqb, ltb}
-use lib.ListN.{length}
+use lib.ListN.{length, take}
 use Rattle.span.specs.Bytes.{zeros, splice}
 use Rattle.layout.specs.Sizes.{slotAt, pageAt, fullKind}
 use Rattle.layout.specs.Lengths.{pagesIn}
@@ -41,10 +42,17 @@ unfoldable pub puts : ℕ → ℕ → Decision → List Put → Areas → Areas
 puts P b d [] s = s
 puts P b d (x ∷ xs) s = puts P b d xs (put P b d x s)
 
--- the page before the slot that refers to it, the slot before the place that nothing refers to any more
+-- "at most two whole stores: page then slot for FULL_REF, slot then zeroed page place for the other kinds"
 unfoldable pub order : ℕ → List Put
 order kind = cond (eqb kind fullKind) (place ∷ slot ∷ []) (slot ∷ place ∷ [])
 
--- both areas with a decision carried out on block b
-unfoldable pub carried : ℕ → ℕ → Decision → Areas → Areas
-carried P b d s = puts P b d (order (d .kind)) s
+-- both areas with the first `stores` of them made on block b: "0, 1 or, for any other number, all", which are two
+unfoldable pub carried : ℕ → ℕ → Decision → ℕ → Areas → Areas
+carried P b d stores s = puts P b d (take stores (order (d .kind))) s
+
+-- a call that is told all
+abbrev pub all : ℕ
+all = 2
+
+abbrev pub toldAll : ℕ → Bool
+toldAll stores = ltb 1 stores

@@ -1,10 +1,11 @@
--- "It looks at the payload only for PATCH ... and at the page only for FULL_REF": the outcome does not depend on what is not looked at.
+-- "It looks at the payload only for PATCH ... and at the page only for FULL_REF": the outcome does not depend on what is not looked at,
+-- whatever number of stores is told.
 use Prim.Native.Nat.{ℕ}
 use mathlib.Core.Path.{_≡_, refl, ap, _∙_}
-use mathlib.Core.Bool.{Bool, true, false}
+use mathlib.Core.Bool.{Bool, true, false, cond}
 use mathlib.Core.List.{List}
 use lib.Dec.{eqb}
-use lib.ListN.{length}
+use lib.ListN.{length, take}
 use borrow.Author.Tests.{eqb-true}
 use Rattle.layout.specs.Sizes.{patchKind, fullKind}
 use Rattle.layout.specs.Refusals.{Row, firstOf, decided}
@@ -12,32 +13,30 @@ use Rattle.layout.specs.Lengths.{blocksIn}
 use Rattle.slots.specs.Slots.{slotImage}
 use Rattle.blockmap.specs.Pack.{pairOf, setPair}
 use Rattle.blockmap.specs.Calls.{shortMap}
-use Rattle.carrying.specs.Puts.{Decision, putSlot, putPlace}
+use Rattle.carrying.specs.Puts.{Decision, order, carried, toldAll}
 use Rattle.carrying.specs.CarryOut.{carryRows, CarryOutcome, carryBy}
-use Rattle.carrying.specs.Mapped.{carryMappedRows, carryMappedOutcome}
-use Rattle.carrying.specs.CarryLaws.{carried-is}
+use Rattle.carrying.specs.Mapped.{carryMappedRows, carryMappedTold}
+use Rattle.carrying.specs.CarryLaws.{puts-alike}
 
 abbrev with : ℕ → List ℕ → List ℕ → Decision
 with k payload page = record { kind = k; payload = payload; page = page }
 
-module _ (P : ℕ) (buffers : List Row) (patch full : List ℕ) (b : ℕ) where
+module _ (P : ℕ) (buffers : List Row) (patch full : List ℕ) (b stores : ℕ) where
   -- rows and outcome together: what the map goes by too
   abbrev seen : Decision → ℕ × CarryOutcome
-  seen d = (firstOf (carryRows P buffers patch full b d), carryBy P buffers patch full b d)
+  seen d = (firstOf (carryRows P buffers patch full b d), carryBy P buffers patch full b d stores)
 
   no-payload : (k : ℕ) (p q page : List ℕ) → eqb k patchKind ≡ false → seen (with k p page) ≡ seen (with k q page)
-  unfolding carryRows carryBy putSlot slotImage
+  unfolding carryRows carryBy carried slotImage
   no-payload k p q page e = rw (
-    carried-is P b (with k p page) (record { patch = patch; full = full }),
-    carried-is P b (with k q page) (record { patch = patch; full = full }),
+    puts-alike P b (with k p page) (with k q page) (rw e) refl (take stores (order k)) (record { patch = patch; full = full }),
     e,
   )
 
   no-page : (k : ℕ) (p x y : List ℕ) → eqb k fullKind ≡ false → seen (with k p x) ≡ seen (with k p y)
-  unfolding carryRows carryBy putPlace
+  unfolding carryRows carryBy carried
   no-page k p x y e = rw (
-    carried-is P b (with k p x) (record { patch = patch; full = full }),
-    carried-is P b (with k p y) (record { patch = patch; full = full }),
+    puts-alike P b (with k p x) (with k p y) refl (rw e) (take stores (order k)) (record { patch = patch; full = full }),
     e,
   )
 
@@ -57,16 +56,16 @@ module _ (P : ℕ) (buffers : List Row) (patch full : List ℕ) (b : ℕ) where
       page false q = no-page (d .kind) (e .payload) (d .page) (e .page) q
 
   pub unseen : (d e : Decision) → d .kind ≡ e .kind → (d .kind ≡ patchKind → d .payload ≡ e .payload)
-      → (d .kind ≡ fullKind → d .page ≡ e .page) → carryBy P buffers patch full b d ≡ carryBy P buffers patch full b e
+      → (d .kind ≡ fullKind → d .page ≡ e .page) → carryBy P buffers patch full b d stores ≡ carryBy P buffers patch full b e stores
   unseen d e kinds payloads pages = ap (λ (x : ℕ × CarryOutcome). x .1) (alike d e kinds payloads pages)
 
-pub unseen-mapped : (P : ℕ) (patch full map : List ℕ) (b : ℕ) (d e : Decision) → d .kind ≡ e .kind
+pub unseen-mapped : (P : ℕ) (patch full map : List ℕ) (b stores : ℕ) (d e : Decision) → d .kind ≡ e .kind
     → (d .kind ≡ patchKind → d .payload ≡ e .payload) → (d .kind ≡ fullKind → d .page ≡ e .page)
-    → carryMappedOutcome P patch full map b d ≡ carryMappedOutcome P patch full map b e
-unfolding carryMappedOutcome carryMappedRows
-unseen-mapped P patch full map b d e kinds payloads pages =
-    let same = alike P (shortMap map (blocksIn (length patch))) patch full b d e kinds payloads pages in
+    → carryMappedTold P patch full map b d stores ≡ carryMappedTold P patch full map b e stores
+unfolding carryMappedTold carryMappedRows
+unseen-mapped P patch full map b stores d e kinds payloads pages =
+    let same = alike P (shortMap map (blocksIn (length patch))) patch full b stores d e kinds payloads pages in
     λ i. record {
       areas = same i .1;
-      map = decided (same i .0) (setPair map b (pairOf (kinds i))) (λ _. map);
+      map = decided (same i .0) (cond (toldAll stores) (setPair map b (pairOf (kinds i))) map) (λ _. map);
     }

@@ -1,4 +1,5 @@
-// Carry out a decision (kind, payload, page) on a block. Compare decides; this stores. No base is looked at, and nothing of what stood there.
+// Carry out a decision (kind, payload, page) on a block, in at most two whole stores. Compare decides; this stores. No base is looked at, and
+// nothing of what stood there.
 pub mod mapped;
 mod stores;
 
@@ -105,19 +106,21 @@ fn carry_block(
     kind: u32,
     payload: &[u8],
     page: &[u8],
+    stores: usize,
 ) -> Written
     requires { ⌜ Sized size × (kind ≡ fullKind → length (now page) ≡ size) ⌝ }
     requires { ⌜ slotAt block + slotSize ≤ length (now patch) ⌝ }
     requires { ⌜ (m ≡ pagesIn size (length (now full))) × Places size (now full) ⌝ }
     ensures { λ r. ⌜ BlockCarry size (now (patch .entry)) (now (full .entry)) block
-        (record { kind = kind; payload = now (payload .entry); page = now (page .entry) }) r (now (patch .exit)) (now (full .exit)) ⌝ }
+        (record { kind = kind; payload = now (payload .entry); page = now (page .entry) }) stores r (now (patch .exit)) (now (full .exit)) ⌝ }
 {
     match decision_fault(size, m, full, block, kind, payload) {
         Fault::Found(refusal) => Written::Refused(refusal),
         Fault::Nothing => {
             let stored = kind_of(kind);
             let length = room_used(kind, payload.len());
-            stores::store_both(
+            stores::store_first(
+                stores,
                 size,
                 m,
                 patch,
@@ -144,9 +147,10 @@ pub(crate) fn carry_with(
     kind: u32,
     payload: &[u8],
     page: &[u8],
+    stores: usize,
 ) -> Written
     ensures { λ r. ⌜ CarryWith pageSize «buffer_fits» (now (patch .entry)) (now (full .entry)) block
-        (record { kind = kind; payload = now (payload .entry); page = now (page .entry) }) r (now (patch .exit)) (now (full .exit)) ⌝ }
+        (record { kind = kind; payload = now (payload .entry); page = now (page .entry) }) stores r (now (patch .exit)) (now (full .exit)) ⌝ }
 {
     let page_size = Layout::PAGE as u32;
     let fit = page_fits(page_size, kind, page);
@@ -156,12 +160,23 @@ pub(crate) fn carry_with(
             if (n as usize) <= block {
                 return Written::Refused(Refusal::Block);
             }
-            carry_block(size, m, patch, full, block as u32, kind, payload, page)
+            carry_block(
+                size,
+                m,
+                patch,
+                full,
+                block as u32,
+                kind,
+                payload,
+                page,
+                stores,
+            )
         }
     }
 }
 
-// Stores a decision at a block: its slot, and its place in the full area if there is one.
+// Stores a decision at a block: its slot, and its place in the full area if there is one. It is told how many stores to make: 0, 1, or any
+// other number for all. Refusals and answer are the same whatever it is told.
 pub fn carry_out(
     patch: &mut [u8],
     full: &mut [u8],
@@ -169,9 +184,10 @@ pub fn carry_out(
     kind: u32,
     payload: &[u8],
     page: &[u8],
+    stores: usize,
 ) -> Written
     ensures { λ r. ⌜ CarryOut pageSize (now (patch .entry)) (now (full .entry)) block
-        (record { kind = kind; payload = now (payload .entry); page = now (page .entry) }) r (now (patch .exit)) (now (full .exit)) ⌝ }
+        (record { kind = kind; payload = now (payload .entry); page = now (page .entry) }) stores r (now (patch .exit)) (now (full .exit)) ⌝ }
 {
-    carry_with(true, patch, full, block, kind, payload, page)
+    carry_with(true, patch, full, block, kind, payload, page, stores)
 }

@@ -1,16 +1,19 @@
-// The two whole stores of carrying out a decision (kind, payload, page) on a block: its slot, and its place in the full area.
+// The two whole stores of carrying out a decision (kind, payload, page) on a block, its slot and its place in the full area, and as many of
+// them as are told, in their order.
 use layout::Kind;
 use layout::Layout;
 ghost use mathlib.Core.Path.{_≡_};
 ghost use mathlib.Core.Bool.{cond};
+ghost use mathlib.Core.List.{[], _∷_};
 ghost use Prim.Native.Nat.{_+_, _≤_};
 ghost use lib.Dec.{eqb};
-ghost use lib.ListN.{length};
+ghost use lib.ListN.{length, take};
 ghost use Rattle.layout.specs.Sizes.{slotSize, slotAt, room, fullKind};
 ghost use Rattle.layout.specs.Lengths.{pagesIn};
 ghost use Rattle.layout.specs.Numbers.{kindNumber};
 ghost use Rattle.store.specs.Block.{Places};
-ghost use Rattle.carrying.specs.Puts.{putSlot, putPlace};
+ghost use Rattle.carrying.specs.Puts.{slot, place, putSlot, putPlace, order};
+ghost use Rattle.carrying.specs.Parts.{Made};
 
 // The block's slot, whatever stood there.
 fn store_slot(patch: &mut [u8], block: u32, kind: Kind, payload: &[u8])
@@ -40,9 +43,9 @@ fn store_place(size: u32, m: u32, full: &mut [u8], block: u32, kind: Kind, page:
     }
 }
 
-// The first store: the page for FULL_REF, the slot for the other kinds. The slot is what a block is read by, so a stop after it leaves the
-// block as it was or as it shall be.
-fn first_store(
+// One store: the place or the slot.
+fn one_store(
+    of_place: bool,
     size: u32,
     m: u32,
     patch: &mut [u8],
@@ -55,20 +58,30 @@ fn first_store(
     requires { ⌜ (slotAt block + slotSize ≤ length (now patch)) × (length (now payload) ≤ room) ⌝ }
     requires { ⌜ (m ≡ pagesIn size (length (now full))) × Places size (now full) ⌝ }
     requires { ⌜ (kindNumber kind ≡ fullKind → length (now page) ≡ size) ⌝ }
-    ensures { λ _. ⌜ (now (patch .exit) ≡ cond (eqb (kindNumber kind) fullKind) (now (patch .entry))
-        (putSlot (now (patch .entry)) block (kindNumber kind) (now (payload .entry))))
-        × (now (full .exit) ≡ cond (eqb (kindNumber kind) fullKind)
-        (putPlace size (now (full .entry)) block (kindNumber kind) (now (page .entry))) (now (full .entry))) ⌝ }
+    ensures { λ _. ⌜ Made size block (record { kind = kindNumber kind; payload = now (payload .entry); page = now (page .entry) })
+        (cond «of_place» place slot ∷ []) (now (patch .entry)) (now (full .entry)) (now (patch .exit)) (now (full .exit)) ⌝ }
+{
+    if of_place {
+        return store_place(size, m, full, block, kind, page);
+    }
+    store_slot(patch, block, kind, payload);
+}
+
+// Whether the place is stored before the slot. The slot is what a block is read by, so a page must be there before its slot refers to it,
+// and an old page must stay until no slot refers to it.
+fn place_first(kind: Kind) -> bool
+    ensures { λ r. ⌜ r ≡ eqb (kindNumber kind) fullKind ⌝ }
 {
     match kind {
-        Kind::Full => store_place(size, m, full, block, kind, page),
-        Kind::Empty => store_slot(patch, block, kind, payload),
-        Kind::Patch => store_slot(patch, block, kind, payload),
+        Kind::Full => true,
+        Kind::Empty => false,
+        Kind::Patch => false,
     }
 }
 
-// The second store: the other one.
-fn second_store(
+// As many stores as are told: none, the first, or, for any other number, both.
+pub(crate) fn store_first(
+    stores: usize,
     size: u32,
     m: u32,
     patch: &mut [u8],
@@ -81,35 +94,16 @@ fn second_store(
     requires { ⌜ (slotAt block + slotSize ≤ length (now patch)) × (length (now payload) ≤ room) ⌝ }
     requires { ⌜ (m ≡ pagesIn size (length (now full))) × Places size (now full) ⌝ }
     requires { ⌜ (kindNumber kind ≡ fullKind → length (now page) ≡ size) ⌝ }
-    ensures { λ _. ⌜ (now (patch .exit) ≡ cond (eqb (kindNumber kind) fullKind)
-        (putSlot (now (patch .entry)) block (kindNumber kind) (now (payload .entry))) (now (patch .entry)))
-        × (now (full .exit) ≡ cond (eqb (kindNumber kind) fullKind) (now (full .entry))
-        (putPlace size (now (full .entry)) block (kindNumber kind) (now (page .entry)))) ⌝ }
+    ensures { λ _. ⌜ Made size block (record { kind = kindNumber kind; payload = now (payload .entry); page = now (page .entry) })
+        (take stores (order (kindNumber kind))) (now (patch .entry)) (now (full .entry)) (now (patch .exit)) (now (full .exit)) ⌝ }
 {
-    match kind {
-        Kind::Full => store_slot(patch, block, kind, payload),
-        Kind::Empty => store_place(size, m, full, block, kind, page),
-        Kind::Patch => store_place(size, m, full, block, kind, page),
+    let of_place = place_first(kind);
+    if stores == 0 {
+        return;
     }
-}
-
-// Page then slot for FULL_REF, slot then zeroed place for the other kinds.
-pub(crate) fn store_both(
-    size: u32,
-    m: u32,
-    patch: &mut [u8],
-    full: &mut [u8],
-    block: u32,
-    kind: Kind,
-    payload: &[u8],
-    page: &[u8],
-)
-    requires { ⌜ (slotAt block + slotSize ≤ length (now patch)) × (length (now payload) ≤ room) ⌝ }
-    requires { ⌜ (m ≡ pagesIn size (length (now full))) × Places size (now full) ⌝ }
-    requires { ⌜ (kindNumber kind ≡ fullKind → length (now page) ≡ size) ⌝ }
-    ensures { λ _. ⌜ (now (patch .exit) ≡ putSlot (now (patch .entry)) block (kindNumber kind) (now (payload .entry)))
-        × (now (full .exit) ≡ putPlace size (now (full .entry)) block (kindNumber kind) (now (page .entry))) ⌝ }
-{
-    first_store(size, m, patch, full, block, kind, payload, page);
-    second_store(size, m, patch, full, block, kind, payload, page);
+    one_store(of_place, size, m, patch, full, block, kind, payload, page);
+    if stores == 1 {
+        return;
+    }
+    one_store(!of_place, size, m, patch, full, block, kind, payload, page);
 }

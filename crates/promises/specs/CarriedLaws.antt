@@ -9,7 +9,7 @@ use lib.ListN.{length}
 use borrow.Author.Tests.{ne-eqb, eqb-true, eqb-false, ltb-true}
 use Rattle.span.specs.Bytes.{zeros}
 use Rattle.store.specs.Block.{slotOf, placeOf}
-use Rattle.carrying.specs.Puts.{Decision, Areas}
+use Rattle.carrying.specs.Puts.{Decision, Areas, all}
 use Rattle.carrying.specs.CarryOut.{CarryOutcome, carryOutcome}
 use Rattle.carrying.specs.CarryLaws.{carry-done}
 use Rattle.promises.specs.Words.{places}
@@ -25,7 +25,7 @@ pub carried-length : (P : ℕ) (patch full : List ℕ) (b : ℕ) (d : Decision) 
     × ((d .kind ≡ 1 → ⊥) → carryOutcome P patch full b d .length ≡ 0)
 carried-length P patch full b d e =
     let l : carryOutcome P patch full b d .length ≡ cond (eqb (d .kind) 1) (length (d .payload)) 0 =
-    ap (λ (o : CarryOutcome). o .length) (carry-done P [] patch full b d e) in
+    ap (λ (o : CarryOutcome). o .length) (carry-done P [] patch full b d all e) in
     (λ k. l ∙ rw k, λ k. l ∙ rw (ne-eqb (d .kind) 1 k))
 
 -- one kind has one slot and one place

@@ -19,10 +19,10 @@ use Rattle.blockmap.specs.Pairs.{mapBytes}
 use Rattle.store.specs.Block.{blockRows}
 use Rattle.store.specs.Frame.{frameRows}
 use Rattle.store.specs.FrameLaws.{lengthsFit}
-use Rattle.carrying.specs.Puts.{Decision}
+use Rattle.carrying.specs.Puts.{Decision, all}
 use Rattle.carrying.specs.Parts.{decisionRows}
 use Rattle.carrying.specs.CarryOut.{carryRows, carryDone, carryRefused, carryBy, carryOutcome}
-use Rattle.carrying.specs.Mapped.{carryMappedRows, carryMappedOutcome}
+use Rattle.carrying.specs.Mapped.{carryMappedRows, carryMappedTold, carryMappedOutcome}
 use Rattle.carrying.specs.CarryLaws.{carry-rows, carry-number, carry-mapped-number}
 use Rattle.promises.specs.Words.{blocks, places, LengthsFit, AreasRefuse, AreasFit, MapFits}
 use Rattle.promises.specs.FrameLaws.{tells-no, no-tells, tells-lengths}
@@ -173,8 +173,8 @@ module _ (P : ℕ) (patch full : List ℕ) (b : ℕ) (d : Decision) where
 
   pub carry-table : (k : ℕ) → (carryOutcome P patch full b d .number ≡ k) ↔ CarryGives P patch full b d k
   carry-table k = (
-    λ e. subst (λ (j : ℕ). CarryGives P patch full b d j) (sym (carry-number P [] patch full b d) ∙ e) carry-given,
-    λ g. carry-number P [] patch full b d ∙ gives-carry k g,
+    λ e. subst (λ (j : ℕ). CarryGives P patch full b d j) (sym (carry-number P [] patch full b d all) ∙ e) carry-given,
+    λ g. carry-number P [] patch full b d all ∙ gives-carry k g,
   )
 
 -- what an accepted one tells of what it was lent
@@ -200,8 +200,8 @@ module _ (P : ℕ) (patch full map : List ℕ) (b : ℕ) (d : Decision) where
   long-rows h = rw (le-ltb (length map) (mapBytes (blocks patch)) h)
 
   pub mapped-as-carry : MapFits patch map → carryMappedOutcome P patch full map b d .areas ≡ carryOutcome P patch full b d
-  unfolding carryMappedOutcome carryBy carryMappedRows
-  mapped-as-carry h = ap (λ (k : ℕ). decided k (carryDone P patch full b d) (λ (n : ℕ). carryRefused n patch full)) (long-rows h)
+  unfolding carryMappedTold carryBy carryMappedRows
+  mapped-as-carry h = ap (λ (k : ℕ). decided k (carryDone P patch full b d all) (λ (n : ℕ). carryRefused n patch full)) (long-rows h)
 
   -- and with one that does not, 1, 2 or 9
   short-rows : length map < mapBytes (blocks patch)
@@ -219,7 +219,7 @@ module _ (P : ℕ) (patch full map : List ℕ) (b : ℕ) (d : Decision) where
 
   pub carry-short : PageFits P d → LengthsFit P patch full → length map < mapBytes (blocks patch)
       → carryMappedOutcome P patch full map b d .areas .number ≡ 9
-  carry-short f l h = carry-mapped-number P patch full map b d ∙ short-rows h ∙ rw (fits-page P d f, tells-lengths P patch full .1 l)
+  carry-short f l h = carry-mapped-number P patch full map b d all ∙ short-rows h ∙ rw (fits-page P d f, tells-lengths P patch full .1 l)
 
   given : CarryMappedGives P patch full map b d (firstOf (carryMappedRows P patch full map b d))
   given = go (ltb (length map) (mapBytes (blocks patch))) refl
@@ -258,8 +258,8 @@ module _ (P : ℕ) (patch full map : List ℕ) (b : ℕ) (d : Decision) where
 
   pub carry-mapped-table : (k : ℕ) → (carryMappedOutcome P patch full map b d .areas .number ≡ k) ↔ CarryMappedGives P patch full map b d k
   carry-mapped-table k = (
-    λ e. subst (λ (j : ℕ). CarryMappedGives P patch full map b d j) (sym (carry-mapped-number P patch full map b d) ∙ e) given,
-    λ g. carry-mapped-number P patch full map b d ∙ gives k g,
+    λ e. subst (λ (j : ℕ). CarryMappedGives P patch full map b d j) (sym (carry-mapped-number P patch full map b d all) ∙ e) given,
+    λ g. carry-mapped-number P patch full map b d all ∙ gives k g,
   )
 
   -- an accepted one had a map that fits

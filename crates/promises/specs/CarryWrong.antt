@@ -23,7 +23,7 @@ use Rattle.writer.specs.Differences.{diffs, spelled, coded, written}
 use Rattle.stream.specs.Calls.{pageOf, pagesFit, compareRows, compareNumbers}
 use Rattle.store.specs.Block.{slotOf}
 use Rattle.reading.specs.Read.{ReadOutcome}
-use Rattle.carrying.specs.Puts.{Decision}
+use Rattle.carrying.specs.Puts.{Decision, all}
 use Rattle.carrying.specs.CarryOut.{carryRefused}
 use Rattle.cutting.specs.Highest.{highestNumbers}
 use Rattle.promises.specs.Words.{blocks, streamOf}
@@ -64,7 +64,7 @@ right-carries =
       kind = λ s w e. kind-stored (s .patch) (s .full) (w .block) (w .decision) e;
       payload-length = λ s w e. length-stored (s .patch) (s .full) (w .block) (w .decision) e;
       stored = λ s w e. carries (s .patch) (s .full) (w .block) (w .decision) e;
-      kept = λ s w h. carry-kept pageSize (s .patch) (s .full) (w .block) (w .decision) h;
+      kept = λ s w h. carry-kept pageSize (s .patch) (s .full) (w .block) (w .decision) all h;
     }
 
 -- a decision, whoever made it, on block 0 of the fresh areas

@@ -165,7 +165,7 @@ module _ (P : ℕ) (patch full : List ℕ) (K : ℕ) where
     kept-reads h =
         let d = cut-drops e in
         read-same P patch full _ _ b base page (frame-same P patch full _ _ (d .frame) base page) (d .frame .patch-length)
-        (d .frame .full-length) (d .same-slots b h) (d .same-places b h)
+        (d .frame .full-length) (d .same-slots b h) (λ q. d .same-places b h)
 
 -- With a lent map
 

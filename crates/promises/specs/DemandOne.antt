@@ -118,9 +118,11 @@ module _ (P : ℕ) where
       → Exactly (readRows P patch full b base page) (readingNumbers a .number)
   read-refuses patch full b base page a after x = rw (x .numbers) (read-exactly P patch full b base page)
 
-  pub carry-out-refuses : (patch full : List ℕ) (b : ℕ) (d : Decision) (a : Written) (p f : List ℕ) → CarryOut P patch full b d a p f
+  -- whatever number of stores is told
+  pub carry-out-refuses : (patch full : List ℕ) (b : ℕ) (d : Decision) (k : ℕ) (a : Written) (p f : List ℕ)
+      → CarryOut P patch full b d k a p f
       → Exactly (carryRows P [] patch full b d) (writtenNumbers a .number)
-  carry-out-refuses patch full b d a p f x = rw (x .numbers) (carry-exactly P patch full b d)
+  carry-out-refuses patch full b d k a p f x = rw (x .numbers) (carry-exactly P patch full b d k)
 
   -- with a lent map: "9 for a short map in 01's place; on reads only, 11 for pair 3, after 5"
   pub read-mapped-refuses : (patch full map : List ℕ) (b : ℕ) (base page : List ℕ) (a : Reading) (after : List ℕ)
@@ -128,10 +130,10 @@ module _ (P : ℕ) where
       → Exactly (readMappedRows P patch full map b base page) (readingNumbers a .number)
   read-mapped-refuses patch full map b base page a after x = rw (x .numbers) (read-mapped-exactly P patch full map b base page)
 
-  pub carry-out-mapped-refuses : (patch full map : List ℕ) (b : ℕ) (d : Decision) (a : Written) (p f m : List ℕ)
-      → CarryOutMapped P patch full map b d a p f m
+  pub carry-out-mapped-refuses : (patch full map : List ℕ) (b : ℕ) (d : Decision) (k : ℕ) (a : Written) (p f m : List ℕ)
+      → CarryOutMapped P patch full map b d k a p f m
       → Exactly (carryMappedRows P patch full map b d) (writtenNumbers a .number)
-  carry-out-mapped-refuses patch full map b d a p f m x = rw (x .numbers) (carry-mapped-exactly P patch full map b d)
+  carry-out-mapped-refuses patch full map b d k a p f m x = rw (x .numbers) (carry-mapped-exactly P patch full map b d k)
 
   -- "2, 9, headers, 5 for K above n"
   pub cut-refuses : (patch full : List ℕ) (K : ℕ) (a : Shortened) (p f : List ℕ) → Cut P patch full K a p f
@@ -186,11 +188,12 @@ module _ (P : ℕ) where
   read-keeps patch full b base page a after x h =
       x .bytes ∙ read-kept P patch full b base page (λ e. h (ap (λ (n : ReadNumbers). n .number) (x .numbers) ∙ e))
 
-  pub carry-out-keeps : (patch full : List ℕ) (b : ℕ) (d : Decision) (a : Written) (p f : List ℕ) → CarryOut P patch full b d a p f
+  pub carry-out-keeps : (patch full : List ℕ) (b : ℕ) (d : Decision) (k : ℕ) (a : Written) (p f : List ℕ)
+      → CarryOut P patch full b d k a p f
       → (writtenNumbers a .number ≡ 0 → ⊥) → (p ≡ patch) × (f ≡ full)
-  carry-out-keeps patch full b d a p f x h =
-      let k = carry-kept P patch full b d (λ e. h (ap (λ (n : CarryNumbers). n .number) (x .numbers) ∙ e)) in
-      (x .patch-bytes ∙ k .0, x .full-bytes ∙ k .1)
+  carry-out-keeps patch full b d k a p f x h =
+      let same = carry-kept P patch full b d k (λ e. h (ap (λ (n : CarryNumbers). n .number) (x .numbers) ∙ e)) in
+      (x .patch-bytes ∙ same .0, x .full-bytes ∙ same .1)
 
   pub read-mapped-keeps : (patch full map : List ℕ) (b : ℕ) (base page : List ℕ) (a : Reading) (after : List ℕ)
       → ReadMapped P patch full map b base page a after
@@ -198,11 +201,11 @@ module _ (P : ℕ) where
   read-mapped-keeps patch full map b base page a after x h =
       x .bytes ∙ read-mapped-kept P patch full map b base page (λ e. h (ap (λ (n : ReadNumbers). n .number) (x .numbers) ∙ e))
 
-  pub carry-out-mapped-keeps : (patch full map : List ℕ) (b : ℕ) (d : Decision) (a : Written) (p f m : List ℕ)
-      → CarryOutMapped P patch full map b d a p f m → (writtenNumbers a .number ≡ 0 → ⊥) → (p ≡ patch) × (f ≡ full) × (m ≡ map)
-  carry-out-mapped-keeps patch full map b d a p f m x h =
-      let k = carry-mapped-kept P patch full map b d (λ e. h (ap (λ (n : CarryNumbers). n .number) (x .numbers) ∙ e)) in
-      (x .patch-bytes ∙ k .0, x .full-bytes ∙ k .1, x .map-bytes ∙ k .2)
+  pub carry-out-mapped-keeps : (patch full map : List ℕ) (b : ℕ) (d : Decision) (k : ℕ) (a : Written) (p f m : List ℕ)
+      → CarryOutMapped P patch full map b d k a p f m → (writtenNumbers a .number ≡ 0 → ⊥) → (p ≡ patch) × (f ≡ full) × (m ≡ map)
+  carry-out-mapped-keeps patch full map b d k a p f m x h =
+      let same = carry-mapped-kept P patch full map b d k (λ e. h (ap (λ (n : CarryNumbers). n .number) (x .numbers) ∙ e)) in
+      (x .patch-bytes ∙ same .0, x .full-bytes ∙ same .1, x .map-bytes ∙ same .2)
 
   pub cut-keeps : (patch full : List ℕ) (K : ℕ) (a : Shortened) (p f : List ℕ) → Cut P patch full K a p f → (shortenedNumber a ≡ 0 → ⊥)
       → (p ≡ patch) × (f ≡ full)

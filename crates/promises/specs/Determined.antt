@@ -23,10 +23,10 @@ use Rattle.store.specs.Judge.{Judge}
 use Rattle.store.specs.Show.{Show}
 use Rattle.reading.specs.Read.{Read}
 use Rattle.carrying.specs.Puts.{Decision}
-use Rattle.carrying.specs.CarryOut.{carryOutcome, CarryOut}
+use Rattle.carrying.specs.CarryOut.{carryTold, CarryOut}
 use Rattle.reading.specs.Mapped.{ReadMapped}
 use Rattle.carrying.specs.Unseen.{unseen, unseen-mapped}
-use Rattle.carrying.specs.Mapped.{carryMappedOutcome, CarryOutMapped}
+use Rattle.carrying.specs.Mapped.{carryMappedTold, CarryOutMapped}
 use Rattle.cutting.specs.Cut.{Cut}
 use Rattle.cutting.specs.Mapped.{CutMapped}
 use Rattle.cutting.specs.Highest.{Highest}
@@ -71,19 +71,19 @@ module _ (P : ℕ) where
       → Read P patch full n base page a p → Read P patch full n base page b q → (a ≡ b) × (p ≡ q)
   one-read patch full n base page a b p q x y = (reading-one a b (x .numbers ∙ sym (y .numbers)), x .bytes ∙ sym (y .bytes))
 
-  pub one-carry-out : (patch full : List ℕ) (n : ℕ) (d : Decision) (a b : Written) (p q f g : List ℕ)
-      → CarryOut P patch full n d a p f → CarryOut P patch full n d b q g → (a ≡ b) × (p ≡ q) × (f ≡ g)
-  one-carry-out patch full n d a b p q f g x y =
+  pub one-carry-out : (patch full : List ℕ) (n : ℕ) (d : Decision) (k : ℕ) (a b : Written) (p q f g : List ℕ)
+      → CarryOut P patch full n d k a p f → CarryOut P patch full n d k b q g → (a ≡ b) × (p ≡ q) × (f ≡ g)
+  one-carry-out patch full n d k a b p q f g x y =
       (written-one a b (x .numbers ∙ sym (y .numbers)), x .patch-bytes ∙ sym (y .patch-bytes), x .full-bytes ∙ sym (y .full-bytes))
 
   pub one-read-mapped : (patch full map : List ℕ) (n : ℕ) (base page : List ℕ) (a b : Reading) (p q : List ℕ)
       → ReadMapped P patch full map n base page a p → ReadMapped P patch full map n base page b q → (a ≡ b) × (p ≡ q)
   one-read-mapped patch full map n base page a b p q x y = (reading-one a b (x .numbers ∙ sym (y .numbers)), x .bytes ∙ sym (y .bytes))
 
-  pub one-carry-out-mapped : (patch full map : List ℕ) (n : ℕ) (d : Decision) (a b : Written) (p q f g l m : List ℕ)
-      → CarryOutMapped P patch full map n d a p f l → CarryOutMapped P patch full map n d b q g m
+  pub one-carry-out-mapped : (patch full map : List ℕ) (n : ℕ) (d : Decision) (k : ℕ) (a b : Written) (p q f g l m : List ℕ)
+      → CarryOutMapped P patch full map n d k a p f l → CarryOutMapped P patch full map n d k b q g m
       → (a ≡ b) × (p ≡ q) × (f ≡ g) × (l ≡ m)
-  one-carry-out-mapped patch full map n d a b p q f g l m x y = (
+  one-carry-out-mapped patch full map n d k a b p q f g l m x y = (
     written-one a b (x .numbers ∙ sym (y .numbers)),
     x .patch-bytes ∙ sym (y .patch-bytes),
     x .full-bytes ∙ sym (y .full-bytes),
@@ -119,23 +119,24 @@ module _ (P : ℕ) where
 
 -- "It looks at the payload only for PATCH ... and at the page only for FULL_REF": two decisions that differ in what is not looked at have one
 -- outcome, so the same answer and the same bytes, refused or not. Whatever is lent as the payload with kinds 0, 2 and above, and as the page
--- with kinds 0, 1 and above 2, of whatever length, cannot matter.
+-- with kinds 0, 1 and above 2, of whatever length, cannot matter, whatever number of stores is told.
 pub record LooksAlike (d e : Decision) : Type 0 where
   pub kinds : d .kind ≡ e .kind
   pub payloads : d .kind ≡ patchKind → d .payload ≡ e .payload
   pub pages : d .kind ≡ fullKind → d .page ≡ e .page
 
-pub unseen-carry-out : (P : ℕ) (patch full : List ℕ) (b : ℕ) (d e : Decision) → LooksAlike d e
-    → carryOutcome P patch full b d ≡ carryOutcome P patch full b e
-unseen-carry-out P patch full b d e same = unseen P [] patch full b d e (same .kinds) (same .payloads) (same .pages)
+pub unseen-carry-out : (P : ℕ) (patch full : List ℕ) (b k : ℕ) (d e : Decision) → LooksAlike d e
+    → carryTold P patch full b d k ≡ carryTold P patch full b e k
+unseen-carry-out P patch full b k d e same = unseen P [] patch full b k d e (same .kinds) (same .payloads) (same .pages)
 
-pub unseen-carry-out-mapped : (P : ℕ) (patch full map : List ℕ) (b : ℕ) (d e : Decision) → LooksAlike d e
-    → carryMappedOutcome P patch full map b d ≡ carryMappedOutcome P patch full map b e
-unseen-carry-out-mapped P patch full map b d e same = unseen-mapped P patch full map b d e (same .kinds) (same .payloads) (same .pages)
+pub unseen-carry-out-mapped : (P : ℕ) (patch full map : List ℕ) (b k : ℕ) (d e : Decision) → LooksAlike d e
+    → carryMappedTold P patch full map b d k ≡ carryMappedTold P patch full map b e k
+unseen-carry-out-mapped P patch full map b k d e same = unseen-mapped P patch full map b k d e (same .kinds) (same .payloads) (same .pages)
 
 -- so two programs that meet the contract of carrying out, lent such decisions, give the same
-pub one-unseen : (P : ℕ) (patch full : List ℕ) (n : ℕ) (d e : Decision) → LooksAlike d e → (a b : Written) (p q f g : List ℕ)
-    → CarryOut P patch full n d a p f → CarryOut P patch full n e b q g → (a ≡ b) × (p ≡ q) × (f ≡ g)
-one-unseen P patch full n d e same a b p q f g x y =
-    let o = unseen-carry-out P patch full n d e same in
-    one-carry-out P patch full n d a b p q f g x (record { numbers = rw o (y .numbers); patch-bytes = rw o (y .patch-bytes); full-bytes = rw o (y .full-bytes) })
+pub one-unseen : (P : ℕ) (patch full : List ℕ) (n k : ℕ) (d e : Decision) → LooksAlike d e → (a b : Written) (p q f g : List ℕ)
+    → CarryOut P patch full n d k a p f → CarryOut P patch full n e k b q g → (a ≡ b) × (p ≡ q) × (f ≡ g)
+one-unseen P patch full n k d e same a b p q f g x y =
+    let o = unseen-carry-out P patch full n k d e same in
+    one-carry-out P patch full n d k a b p q f g x (
+    record { numbers = rw o (y .numbers); patch-bytes = rw o (y .patch-bytes); full-bytes = rw o (y .full-bytes) })

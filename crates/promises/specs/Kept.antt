@@ -26,8 +26,8 @@ use Rattle.store.specs.Show.{showRows, showPlace}
 use Rattle.reading.specs.Read.{ReadOutcome, readRows, readOutcome}
 use Rattle.reading.specs.Mapped.{readMappedRows, readMappedOutcome}
 use Rattle.carrying.specs.Puts.{Decision}
-use Rattle.carrying.specs.CarryOut.{CarryOutcome, carryOutcome}
-use Rattle.carrying.specs.Mapped.{carryMappedOutcome}
+use Rattle.carrying.specs.CarryOut.{CarryOutcome, carryTold}
+use Rattle.carrying.specs.Mapped.{carryMappedTold}
 use Rattle.carrying.specs.CarryLaws.{carry-not, map-not as carry-map-not}
 use Rattle.cutting.specs.Cut.{CutOutcome}
 use Rattle.cutting.specs.Mapped.{cutMappedOutcome}
@@ -83,21 +83,22 @@ read-kept P patch full b base page h =
     kept (λ (o : ReadOutcome). o .number) (λ (o : ReadOutcome). o .page) _ _ page refl (λ k. refl)
     (firstOf (readRows P patch full b base page)) h
 
-pub carry-kept : (P : ℕ) (patch full : List ℕ) (b : ℕ) (d : Decision) → (carryOutcome P patch full b d .number ≡ 0 → ⊥)
-    → (carryOutcome P patch full b d .patch ≡ patch) × (carryOutcome P patch full b d .full ≡ full)
-carry-kept P patch full b d h =
-    let e = carry-not P [] patch full b d h in
+-- whatever number of stores is told
+pub carry-kept : (P : ℕ) (patch full : List ℕ) (b : ℕ) (d : Decision) (k : ℕ) → (carryTold P patch full b d k .number ≡ 0 → ⊥)
+    → (carryTold P patch full b d k .patch ≡ patch) × (carryTold P patch full b d k .full ≡ full)
+carry-kept P patch full b d k h =
+    let e = carry-not P [] patch full b d k h in
     (ap (λ (o : CarryOutcome). o .patch) e, ap (λ (o : CarryOutcome). o .full) e)
 
 -- with a lent map: the map too
-pub carry-mapped-kept : (P : ℕ) (patch full map : List ℕ) (b : ℕ) (d : Decision)
-    → (carryMappedOutcome P patch full map b d .areas .number ≡ 0 → ⊥)
-    → (carryMappedOutcome P patch full map b d .areas .patch ≡ patch) × (carryMappedOutcome P patch full map b d .areas .full ≡ full)
-    × (carryMappedOutcome P patch full map b d .map ≡ map)
-unfolding carryMappedOutcome
-carry-mapped-kept P patch full map b d h =
-    let e = carry-not P _ patch full b d h in
-    (ap (λ (o : CarryOutcome). o .patch) e, ap (λ (o : CarryOutcome). o .full) e, carry-map-not P patch full map b d h)
+pub carry-mapped-kept : (P : ℕ) (patch full map : List ℕ) (b : ℕ) (d : Decision) (k : ℕ)
+    → (carryMappedTold P patch full map b d k .areas .number ≡ 0 → ⊥)
+    → (carryMappedTold P patch full map b d k .areas .patch ≡ patch) × (carryMappedTold P patch full map b d k .areas .full ≡ full)
+    × (carryMappedTold P patch full map b d k .map ≡ map)
+unfolding carryMappedTold
+carry-mapped-kept P patch full map b d k h =
+    let e = carry-not P _ patch full b d k h in
+    (ap (λ (o : CarryOutcome). o .patch) e, ap (λ (o : CarryOutcome). o .full) e, carry-map-not P patch full map b d k h)
 
 pub read-mapped-kept : (P : ℕ) (patch full map : List ℕ) (b : ℕ) (base page : List ℕ)
     → (readMappedOutcome P patch full map b base page .number ≡ 0 → ⊥) → readMappedOutcome P patch full map b base page .page ≡ page

@@ -51,7 +51,12 @@ pub mod ShowLaws
 pub mod SlotLaws
 pub mod SpellingLaws
 pub mod StandingLaws
+pub mod Stops
 pub mod StoreLaws
+pub mod SweepRuns
+pub mod SweepTables
+pub mod SweepWords
+pub mod SweptLaws
 pub mod Tables
 pub mod TalliesWrong
 pub mod Words

@@ -16,8 +16,8 @@ use Rattle.layout.specs.Groups.{ordered}
 use Rattle.layout.specs.FirstFaultLaws.{none-below}
 use Rattle.slots.specs.Slots.{slotNumbers}
 use Rattle.slots.specs.Meaning.{empty-numbers}
+use Rattle.carrying.specs.Puts.{all}
 use Rattle.store.specs.Block.{slotOf, placeOf, slotRows, fullRows, payloadRows}
-use Rattle.carrying.specs.Puts.{order}
 use Rattle.building.specs.Build.{placeRows, blockFault, BuildOutcome, buildDone}
 use Rattle.building.specs.BuildLaws.{no-strays, block-empty, build-zero, build-done}
 use Rattle.building.specs.BuildWords.{SoundFrame, PairsOf}
@@ -25,7 +25,7 @@ use Rattle.building.specs.BuildMeaningLaws.{frame-iff, pairs-are}
 use Rattle.building.specs.declared.Built.the-variants.{Done}
 use Rattle.promises.specs.Words.{blocks, LengthsFit, HeadersFit}
 use Rattle.promises.specs.FrameLaws.{lengths-moved, headers-moved}
-use Rattle.promises.specs.StoreLaws.{StoredAt, carry-stored}
+use Rattle.promises.specs.StoreLaws.{both, StoredAt, carry-stored}
 use Rattle.promises.specs.Kept.{carry-kept}
 use Rattle.promises.specs.Runs.{run, write, wipe, left-cell}
 use Rattle.promises.specs.RunWords.{Areas, readAt, Lent, Cut, Operation, outcome, taken, next, cutTaken, cutNext, after, accepted}
@@ -58,7 +58,7 @@ same-block P patch full patch′ full′ b e f g = rw (e, f, g)
 
 module _ (P : ℕ) (s : Areas) (w : Lent) (fine : Fine P s) where
   module _ (e : taken P s w ≡ true) where
-    done : StoredAt P (w .block) (w .decision) (order (w .decision .kind)) s (next P s w)
+    done : StoredAt P (w .block) (w .decision) (both (w .decision)) s (next P s w)
     done = carry-stored P (s .patch) (s .full) (w .block) (w .decision) (eqb-true (outcome P s w .number) 0 e)
 
     held : Held P (next P s w .full) (w .block) (cellAt P (next P s w) (w .block))
@@ -93,7 +93,7 @@ module _ (P : ℕ) (s : Areas) (w : Lent) (fine : Fine P s) where
             sound = sound-next e;
           }
       go false e =
-          let kept = carry-kept P (s .patch) (s .full) (w .block) (w .decision) (eqb-false (outcome P s w .number) 0 e) in
+          let kept = carry-kept P (s .patch) (s .full) (w .block) (w .decision) all (eqb-false (outcome P s w .number) 0 e) in
           rw (kept .0, kept .1) fine
 
 -- and neither does a cut: what it drops is EMPTY, and its place is clean

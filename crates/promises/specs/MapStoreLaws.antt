@@ -19,7 +19,7 @@ use Rattle.blockmap.specs.PackLaws.{packed-same}
 use Rattle.blockmap.specs.SetLaws.{putAt, set-laid, set-packed}
 use Rattle.blockmap.specs.ClearLaws.{noneFrom, clear-laid, clear-packed}
 use Rattle.store.specs.Block.{slotOf}
-use Rattle.carrying.specs.Puts.{order}
+use Rattle.carrying.specs.Puts.{all}
 use Rattle.carrying.specs.CarryOut.{CarryOutcome}
 use Rattle.carrying.specs.CarryLaws.{map-done, map-not}
 use Rattle.cutting.specs.Cut.{CutOutcome}
@@ -29,7 +29,7 @@ use Rattle.building.specs.MapLaws.{laid-length, built-length}
 use Rattle.promises.specs.Words.{blocks}
 use Rattle.span.specs.EmptiedLaws.{emptied-length}
 use Rattle.promises.specs.CarryTables.{mapped-as-carry, carry-fitting}
-use Rattle.promises.specs.StoreLaws.{StoredAt, slot-anew, carry-stored}
+use Rattle.promises.specs.StoreLaws.{both, StoredAt, slot-anew, carry-stored}
 use Rattle.promises.specs.Kept.{carry-kept, carry-mapped-kept, cut-mapped-kept}
 use Rattle.promises.specs.MapTables.{reaches, fit-numbers}
 use Rattle.promises.specs.CutTables.{cut-accepted, mapped-as-cut, cut-fitting}
@@ -51,7 +51,7 @@ laid-long s map long =
 -- The built map after a write
 
 module _ (P : ℕ) (s : Areas) (w : Lent) (e : taken P s w ≡ true) where
-  done : StoredAt P (w .block) (w .decision) (order (w .decision .kind)) s (next P s w)
+  done : StoredAt P (w .block) (w .decision) (both (w .decision)) s (next P s w)
   done = carry-stored P (s .patch) (s .full) (w .block) (w .decision) (eqb-true (outcome P s w .number) 0 e)
 
   slot-kind : slotNumbers (slotOf (outcome P s w .patch) (w .block)) .kind ≡ w .decision .kind
@@ -104,14 +104,14 @@ module _ (P : ℕ) (s : Areas) (map : List ℕ) (w : Lent) where
         let b : w .block < blocks (s .patch) = accepted-write P s w e .below in
         let own-byte : w .block / 4 < length (builtMap (s .patch)) =
         reaches (blocks (s .patch)) (w .block) (length (builtMap (s .patch))) (omega arith) b in
-        map-done P (s .patch) (s .full) (laid s map) (w .block) (w .decision) n
+        map-done P (s .patch) (s .full) (laid s map) (w .block) (w .decision) all n
         ∙ set-laid map (builtMap (s .patch)) (w .block) (pairOf (w .decision .kind)) own-byte
         ∙ ap (λ (x : List ℕ). splice map 0 x) (built-next P s w e)
     map-next false e =
         let h : outcome P s w .number ≡ 0 → ⊥ = eqb-false (outcome P s w .number) 0 e in
-        map-not P (s .patch) (s .full) (laid s map) (w .block) (w .decision)
+        map-not P (s .patch) (s .full) (laid s map) (w .block) (w .decision) all
         (λ q. h (sym (ap (λ (o : CarryOutcome). o .number) same) ∙ q))
-        ∙ ap (λ (x : List ℕ). splice map 0 (builtMap x)) (sym (carry-kept P (s .patch) (s .full) (w .block) (w .decision) h .0))
+        ∙ ap (λ (x : List ℕ). splice map 0 (builtMap x)) (sym (carry-kept P (s .patch) (s .full) (w .block) (w .decision) all h .0))
 
     moved : doesWithBy (mapped P) (cutMapped P) (with s (laid s map)) (write w) ≡ with (next P s w) (laid (next P s w) map)
     moved = λ i. with (record { patch = same i .patch; full = same i .full }) (map-next (taken P s w) refl i)
@@ -126,7 +126,7 @@ module _ (P : ℕ) (s : Areas) (map : List ℕ) (w : Lent) where
 
     pub nothing-short : doesWithBy (mapped P) (cutMapped P) (with s map) (write w) ≡ with s map
     nothing-short =
-        let k = carry-mapped-kept P (s .patch) (s .full) map (w .block) (w .decision) refuses in
+        let k = carry-mapped-kept P (s .patch) (s .full) map (w .block) (w .decision) all refuses in
         λ i. with (record { patch = k .0 i; full = k .1 i }) (k .2 i)
 
 -- The built map after a cut: the one before it, with the pairs of the blocks that were dropped cleared

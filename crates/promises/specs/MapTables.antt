@@ -35,7 +35,7 @@ use Rattle.reading.specs.Parts.{kindOutcome}
 use Rattle.reading.specs.ReadLaws.{read-slot}
 use Rattle.reading.specs.MappedLaws.{mapped-looked, mapped-within, kind-empty, kind-not, kind-missing, kind-full, slot-as}
 use Rattle.reading.specs.MappedLaws.{mapped-frame as read-mapped-frame, frame as rowsFrame, looked, byKind, mapped-rows}
-use Rattle.carrying.specs.Puts.{Decision, order}
+use Rattle.carrying.specs.Puts.{Decision, all}
 use Rattle.carrying.specs.CarryOut.{CarryOutcome, carryOutcome}
 use Rattle.carrying.specs.Mapped.{carryMappedOutcome}
 use Rattle.carrying.specs.CarryLaws.{map-done}
@@ -49,7 +49,7 @@ use Rattle.promises.specs.SlotLaws.{patch-of, image-empty, image-patch, 
 use Rattle.promises.specs.Decisions.{Fit, ComparedBy}
 use Rattle.promises.specs.CarryWords.{ReadAs}
 use Rattle.promises.specs.CarryTables.{Accepted, accepted, mapped-as-carry, carry-fitting}
-use Rattle.promises.specs.StoreLaws.{StoredAt, slot-anew, carry-stored}
+use Rattle.promises.specs.StoreLaws.{both, StoredAt, slot-anew, carry-stored}
 use Rattle.promises.specs.ReadLaws.{reads-patch, reads-unsound, base-fits}
 use Rattle.promises.specs.PairLaws.{carried-kind, left-fits, reads-decided, reads-back}
 
@@ -333,7 +333,7 @@ module _ (P : ℕ) (patch full map : List ℕ) (b : ℕ) (d : Decision) (done : 
   a : Accepted P patch full b d
   a = accepted P patch full b d carry-zero
 
-  stored : StoredAt P b d (order (d .kind)) (record { patch = patch; full = full })
+  stored : StoredAt P b d (both d) (record { patch = patch; full = full })
       (record { patch = carryOutcome P patch full b d .patch; full = carryOutcome P patch full b d .full })
   stored = carry-stored P patch full b d carry-zero
 
@@ -341,7 +341,7 @@ module _ (P : ℕ) (patch full map : List ℕ) (b : ℕ) (d : Decision) (done : 
   accepted-sets-pair =
       let r : b / 4 < length map = reaches (blocks patch) b (length map) fitting (a .below) in
       let s : pairOf (d .kind) < reservedPair = pair-of-below (d .kind) in
-      rw (map-done P patch full map b d done) (pair-set map b (pairOf (d .kind)) r (omega arith))
+      rw (map-done P patch full map b d all done) (pair-set map b (pairOf (d .kind)) r (omega arith))
 
   -- the pair in words, by the kind that is answered
   pub kept-pair : (v : ℕ) × PairFor (carryMappedOutcome P patch full map b d .areas .kind) v
@@ -440,5 +440,5 @@ others-by-map P patch full map b d c other base page = go (carryMappedOutcome P 
         ∙ sym (long-frame P patch full map base page l))
         (f .patch-length) (f .full-length) (set .others c other) (s .other-slots c other) (s .other-places c other))
     go (suc k) e =
-        let kept = carry-mapped-kept P patch full map b d (λ z. omega (arith, e, z)) in
+        let kept = carry-mapped-kept P patch full map b d all (λ z. omega (arith, e, z)) in
         λ i. readMappedOutcome P (kept .0 i) (kept .1 i) (kept .2 i) c base page

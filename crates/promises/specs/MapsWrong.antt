@@ -15,6 +15,7 @@ use Rattle.blockmap.specs.Pack.{pairOf, byteOf, withPair, setPair}
 use Rattle.stream.specs.Calls.{pageOf, kindFor}
 use Rattle.store.specs.Block.{slotOf, placeOf}
 use Rattle.reading.specs.Read.{ReadOutcome, readDone, readRefused}
+use Rattle.carrying.specs.Puts.{all}
 use Rattle.carrying.specs.CarryOut.{CarryOutcome}
 use Rattle.carrying.specs.Mapped.{MappedCarry}
 use Rattle.carrying.specs.CarryLaws.{map-done, map-not}
@@ -109,7 +110,7 @@ wrote os v b h =
     let s : Areas = after pageSize sample os in
     let takes-it = takes os (to b one) h one-fit in
     let same = mapped-as-carry pageSize (s .patch) (s .full) (v ∷ []) b (decides [] one) (one-byte os (v ∷ []) refl) in
-    let set = map-done pageSize (s .patch) (s .full) (v ∷ []) b (decides [] one) (ap (λ (o : CarryOutcome). o .number) same ∙ takes-it)
+    let set = map-done pageSize (s .patch) (s .full) (v ∷ []) b (decides [] one) all (ap (λ (o : CarryOutcome). o .number) same ∙ takes-it)
     ∙ ap (λ (k : ℕ). setPair (v ∷ []) b (pairOf k)) (sym (carried-kind pageSize (s .patch) (s .full) b (decides [] one) takes-it)) in
     λ i. record { areas = same i; map = set i }
 
@@ -145,7 +146,7 @@ unfolding thoughRefused run setPair withPair byteOf unfit
 not-though-refused claim =
     let e = after-one refusedMap claim unfit in
     let same = mapped-as-carry pageSize (sample .patch) (sample .full) (0 ∷ []) 0 (unfit .decision) (one-byte [] (0 ∷ []) refl) in
-    let left = map-not pageSize (sample .patch) (sample .full) (0 ∷ []) 0 (unfit .decision)
+    let left = map-not pageSize (sample .patch) (sample .full) (0 ∷ []) 0 (unfit .decision) all
     (λ q. omega (arith, refused, sym (ap (λ (o : CarryOutcome). o .number) same) ∙ q)) in
     let kept : mapped pageSize start unfit ≡ record { areas = outcome pageSize sample unfit; map = 0 ∷ [] } =
     λ i. record { areas = same i; map = left i } in

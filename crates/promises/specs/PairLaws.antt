@@ -17,7 +17,7 @@ use Rattle.stream.specs.Landing.{spelled-lands}
 use Rattle.stream.specs.Kinds.{same-iff, kind-0, kind-1, kind-2, accepted-fits}
 use Rattle.store.specs.Block.{slotOf}
 use Rattle.reading.specs.Read.{readOutcome, readDone}
-use Rattle.carrying.specs.Puts.{Decision}
+use Rattle.carrying.specs.Puts.{Decision, all}
 use Rattle.carrying.specs.CarryOut.{CarryOutcome, carryOutcome}
 use Rattle.carrying.specs.CarryLaws.{carry-done, carry-not, slot-payload}
 use Rattle.promises.specs.Words.{blocks, places, PagesFit, AreasFit, FrameFits, Large, streamOf, StoredAs, Stored}
@@ -37,7 +37,7 @@ use Rattle.promises.specs.ReadLaws.{reads-empty, reads-patch, reads-full
 module _ (P : ℕ) (patch full : List ℕ) (b : ℕ) (d : Decision) where
   module _ (e : carryOutcome P patch full b d .number ≡ 0) where
     pub carried-kind : carryOutcome P patch full b d .kind ≡ d .kind
-    carried-kind = ap (λ (o : CarryOutcome). o .kind) (carry-done P [] patch full b d e)
+    carried-kind = ap (λ (o : CarryOutcome). o .kind) (carry-done P [] patch full b d all e)
 
     -- what is left is a store of the same frame
     pub left-fits : (base page : List ℕ) → PagesFit P base page
@@ -108,10 +108,10 @@ module _ (P : ℕ) (patch full : List ℕ) (b : ℕ) (d : Decision) where
           let s = carry-stored P patch full b d e in
           let f = s .frame in
           read-same P patch full _ _ c base page (frame-same P patch full _ _ f base page) (f .patch-length) (f .full-length)
-          (s .other-slots c q) (s .other-places c q)
+          (s .other-slots c q) (λ z. s .other-places c q)
       go (suc k) e =
           ap (λ (o : CarryOutcome). readOutcome P (o .patch) (o .full) c base page)
-          (carry-not P [] patch full b d (λ z. omega arith))
+          (carry-not P [] patch full b d all (λ z. omega arith))
 
 -- A decision of Compare
 

@@ -1,20 +1,19 @@
 -- Demand 3 over any page size to 65,536, from what is proved of runs in general.
-use Prim.Native.Nat.{ℕ, _*_, _≤_, _<_}
+use Prim.Native.Nat.{ℕ, _≤_, _<_}
 use native.Mathlib.Omega.{arith}
-use native.Mathlib.Nat.{mul-le-mul-left}
 use native.Mathlib.Decide.{decLt}
 use mathlib.Core.Path.{_≡_, refl, sym, ap, _∙_, subst}
 use mathlib.Core.Bool.{cond}
-use mathlib.Core.Logic.{_⊎_, inl, inr, _↔_}
+use mathlib.Core.Logic.{inl, _↔_}
 use mathlib.Core.Option.{some}
 use mathlib.Core.List.{List, [], _∷_, map}
 use lib.Dec.{ltb}
 use lib.ListN.{length}
 use borrow.Author.Tests.{lt-ltb, leb-false}
-use Rattle.span.specs.Bytes.{zeros, part, splice}
-use Rattle.span.specs.Laws.{zeros-length, part-past}
+use Rattle.span.specs.Bytes.{zeros, splice}
+use Rattle.span.specs.Laws.{zeros-length}
 use Rattle.span.specs.EmptiedLaws.{emptied-length, emptied-same}
-use Rattle.layout.specs.Sizes.{patchHead, fullHead, pageAt}
+use Rattle.layout.specs.Sizes.{patchHead, fullHead}
 use Rattle.layout.specs.Lengths.{blocksIn, pagesIn}
 use Rattle.slots.specs.Slots.{SlotNumbers}
 use Rattle.slots.specs.Meaning.{empty-numbers}
@@ -25,7 +24,7 @@ use Rattle.reading.specs.Read.{ReadOutcome, readDone}
 use Rattle.building.specs.Build.{buildOutcome, builtMap, buildDone}
 use Rattle.promises.specs.Words.{blocks, places, PagesFit, LengthsFit, FrameFits, SameFrame}
 use Rattle.promises.specs.Tables.{read-by-page}
-use Rattle.promises.specs.StoreLaws.{base-page-length}
+use Rattle.promises.specs.StoreLaws.{base-page-length, place-past}
 use Rattle.promises.specs.RunBuild.{builds}
 use Rattle.promises.specs.Decisions.{Cell, cellFor, blankCell, Fit, pageIn}
 use Rattle.promises.specs.DecisionLaws.{blank-page, compared-by, compared-fit, fit-kind, fit-page-in}
@@ -86,18 +85,6 @@ follows-over P s os start end h b n w e =
 pub over-same : (P : ℕ) (s : Areas) (os : List Operation) (b : ℕ) (base base′ : List ℕ) → pageOf P base ≡ pageOf P base′
     → OverBaseAt P base s os b → OverBaseAt P base′ s os b
 over-same P s os b base base′ e o w q = rw e at (o w q)
-
--- a block not below m has no place
-place-past : (P : ℕ) (patch full : List ℕ) → LengthsFit P patch full → (b : ℕ) → places P full ≤ b → placeOf P full b ≡ []
-unfolding placeOf
-place-past P patch full fits b h = go (fits .full-length)
-  where
-    go : (length full ≡ 0) ⊎ ((length full ≡ pageAt P (places P full)) × (places P full ≤ blocks patch)) → part (pageAt P b) P full ≡ []
-    go (inl z) = part-past (pageAt P b) P full (omega arith)
-    go (inr l) =
-        let m : P * places P full ≤ P * b = mul-le-mul-left P h in
-        let e : length full ≡ pageAt P (places P full) = l .0 in
-        part-past (pageAt P b) P full (omega arith)
 
 module _ (P : ℕ) (s : Areas) (h : FreshAreas P s) where
   pub fresh : Fresh (store P) s

@@ -14,7 +14,7 @@ use Rattle.span.specs.EmptiedLaws.{emptied-length, emptied-part, emptied-same}
 use Rattle.layout.specs.Sizes.{patchHead, fullHead, slotSize, pageAt}
 use Rattle.layout.specs.Refusals.{orElse}
 use Rattle.store.specs.Block.{slotOf, placeOf}
-use Rattle.carrying.specs.Puts.{order}
+use Rattle.carrying.specs.Puts.{all}
 use Rattle.carrying.specs.CarryOut.{CarryOutcome}
 use Rattle.carrying.specs.CarryLaws.{carry-number, carry-not}
 use Rattle.cutting.specs.CutLaws.{cut-number}
@@ -23,7 +23,7 @@ use Rattle.promises.specs.FrameLaws.{lengths-moved, headers-moved}
 use Rattle.promises.specs.AreaLaws.{areasNumber, areas-emptied}
 use Rattle.promises.specs.CarryTables.{pageWrong, decisionNumber, carry-by-frame, Accepted, accepted}
 use Rattle.promises.specs.Cells.{cells-ext}
-use Rattle.promises.specs.StoreLaws.{contentOf, StoredAt, slot-anew, place-anew, carry-stored}
+use Rattle.promises.specs.StoreLaws.{both, contentOf, StoredAt, slot-anew, place-anew, carry-stored}
 use Rattle.promises.specs.CutWords.{Dropped}
 use Rattle.promises.specs.CutTables.{cut-by-frame}
 use Rattle.promises.specs.CutLaws.{cut-drops, cut-kept}
@@ -48,7 +48,7 @@ taken-frame P s w = ap (λ (k : ℕ). eqb k 0) (number (frameOf s) ∙ same ∙ 
     number : (t : Areas) → outcome P t w .number
         ≡ orElse (cond (pageWrong P (w .decision)) 1 (areasNumber P (t .patch) (t .full)))
         (cond (leb (blocks (t .patch)) (w .block)) 5 (decisionNumber P (t .full) (w .block) (w .decision)))
-    number t = carry-number P [] (t .patch) (t .full) (w .block) (w .decision)
+    number t = carry-number P [] (t .patch) (t .full) (w .block) (w .decision) all
         ∙ carry-by-frame P (t .patch) (t .full) (w .block) (w .decision)
 
     same : orElse (cond (pageWrong P (w .decision)) 1 (areasNumber P (emptied patchHead (s .patch)) (emptied fullHead (s .full))))
@@ -64,10 +64,10 @@ module _ (P : ℕ) (s : Areas) (w : Lent) where
 
   not-taken : taken P s w ≡ false → next P s w ≡ s
   not-taken e = ap (λ (o : CarryOutcome). record { patch = o .patch; full = o .full })
-      (carry-not P [] (s .patch) (s .full) (w .block) (w .decision) (eqb-false (outcome P s w .number) 0 e))
+      (carry-not P [] (s .patch) (s .full) (w .block) (w .decision) all (eqb-false (outcome P s w .number) 0 e))
 
   module _ (e : taken P s w ≡ true) where
-    done : StoredAt P (w .block) (w .decision) (order (w .decision .kind)) s (next P s w)
+    done : StoredAt P (w .block) (w .decision) (both (w .decision)) s (next P s w)
     done = carry-stored P (s .patch) (s .full) (w .block) (w .decision) (eqb-true (outcome P s w .number) 0 e)
 
     pub cell-here : cellAt P (next P s w) (w .block) ≡ cellFor P (w .decision)

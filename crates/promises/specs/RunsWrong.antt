@@ -16,7 +16,7 @@ use Rattle.slots.specs.Slots.{fullSlot, slotImage}
 use Rattle.payload.specs.Entries.{stream, inPage, whole, sound, put, applied}
 use Rattle.stream.specs.Calls.{pageOf, kindFor}
 use Rattle.reading.specs.Read.{ReadOutcome}
-use Rattle.carrying.specs.Puts.{putSlot}
+use Rattle.carrying.specs.Puts.{putSlot, all}
 use Rattle.carrying.specs.CarryOut.{CarryOutcome}
 use Rattle.carrying.specs.CarryLaws.{carry-done, carried-is}
 use Rattle.promises.specs.Words.{blocks, PagesFit, streamOf}
@@ -102,6 +102,6 @@ not-slots-alone claim =
         → next pageSize sample (to 0 x) .patch ≡ splice (sample .patch) (slotAt 0) fullSlot
     full-patch x f l =
         ap (λ (o : CarryOutcome). o .patch)
-        (carry-done pageSize [] (sample .patch) (sample .full) 0 (decides [] x) (takes [] (to 0 x) (lit< tt) (decides-fit [] x f)))
+        (carry-done pageSize [] (sample .patch) (sample .full) 0 (decides [] x) all (takes [] (to 0 x) (lit< tt) (decides-fit [] x f)))
         ∙ ap (λ (s : Areas). s .patch) (carried-is pageSize 0 (decides [] x) sample)
         ∙ ap (λ (k : ℕ). splice (sample .patch) (slotAt 0) (slotImage k (streamOf pageSize [] x))) l

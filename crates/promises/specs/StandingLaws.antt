@@ -5,7 +5,7 @@ use mathlib.Core.Path.{_≡_, refl, sym, ap, _∙_}
 use mathlib.Core.Logic.{_↔_, _⊎_, inl, inr}
 use mathlib.Core.Bool.{Bool, true, false, _&&_, cond}
 use mathlib.Core.Option.{Option, none, some, Option·map, Option·none-ne-some}
-use mathlib.Core.List.{List, [], _∷_, map, List·Memᴰ, List·Memᴰ·head, List·Memᴰ·tail, List·Memᴰ·not-nil, List·Memᴰ·cases-cons}
+use mathlib.Core.List.{List, [], _∷_, _++_, map, List·Memᴰ, List·Memᴰ·head, List·Memᴰ·tail, List·Memᴰ·not-nil, List·Memᴰ·cases-cons}
 use lib.Dec.{eqb}
 use borrow.Author.Tests.{eqb-true, eqb-false, eq-eqb}
 use Rattle.span.specs.Laws.{and-left, and-right}
@@ -20,7 +20,7 @@ module _ (S : Store) where
   open Store S using (State, Frame, Write, Wipe, Cell, frame, blocks, at, block, cell, blank, covers, takes, step, accepts, Good)
 
   -- a write that touches a block is accepted and goes there
-  hit : {f : Frame} {b : ℕ} {w : Write} → (accepts f (write w) && eqb (block w) b) ≡ true → (accepts f (write w) ≡ true) × (block w ≡ b)
+  pub hit : {f : Frame} {b : ℕ} {w : Write} → (accepts f (write w) && eqb (block w) b) ≡ true → (accepts f (write w) ≡ true) × (block w ≡ b)
   hit {f} {b} {w} e = (and-left (accepts f (write w)) _ e, eqb-true (block w) b (and-right (accepts f (write w)) _ e))
 
   -- and so does one that stands there
@@ -83,6 +83,12 @@ module _ (S : Store) where
       go false none e r = r
 
   module _ (L : Laws S) where
+    -- a run of two parts
+    pub run-append : (s : State) (os os′ : Ops S) → run step s (os ++ os′) ≡ run step (run step s os) os′
+    unfolding run
+    run-append s [] os′ = refl
+    run-append s (o ∷ os) os′ = run-append (step s o) os os′
+
     -- no run changes the frame
     pub run-frame : (s : State) (os : Ops S) → frame (run step s os) ≡ frame s
     unfolding run
@@ -124,7 +130,8 @@ module _ (S : Store) where
         go true e j later = elim (List·Memᴰ·cases-cons j) [ inl q ↦ rw q (sym (L .by-frame s v) ∙ e) | inr k ↦ later k ]
         go false e j later = later j
 
-    step-at : (s : State) (o : Op Write Wipe) (b : ℕ) → b < blocks (frame s)
+    -- one operation
+    pub step-at : (s : State) (o : Op Write Wipe) (b : ℕ) → b < blocks (frame s)
         → at (step s o) b ≡ leaves S (at s b) (later (touches S (frame s) b o) o none)
     unfolding touches concerns leaves later
     step-at s o b h = go (accepts (frame s) o) o refl

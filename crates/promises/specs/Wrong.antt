@@ -22,6 +22,7 @@ use Rattle.payload.specs.Entries.{stream, payloadStream, inPage, put, applied}
 use Rattle.stream.specs.Calls.{pageOf, kindFor}
 use Rattle.store.specs.Block.{slotOf}
 use Rattle.reading.specs.Read.{ReadOutcome, readingNumbers, readNumbers, Read, readDone}
+use Rattle.carrying.specs.Puts.{all}
 use Rattle.carrying.specs.CarryOut.{CarryOutcome, writtenNumbers, carryNumbers, CarryOut}
 use Rattle.carrying.specs.CarryLaws.{carry-not}
 use Rattle.reading.specs.declared.Reading.{Reading}
@@ -50,7 +51,7 @@ use Rattle.promises.specs.Sample.{reads, reads-zeros, changes, same-page
 abbrev pub Breaks : Program → Areas → Lent → Type 0
 Breaks wrong s w =
     (a : Written) → writtenNumbers a ≡ carryNumbers (wrong s w)
-    → CarryOut pageSize (s .patch) (s .full) (w .block) (w .decision) a (wrong s w .patch) (wrong s w .full) → ⊥
+    → CarryOut pageSize (s .patch) (s .full) (w .block) (w .decision) all a (wrong s w .patch) (wrong s w .full) → ⊥
 
 other : (wrong : Program) (s : Areas) (w : Lent) → (outcome pageSize s w ≡ wrong s w → ⊥) → Breaks wrong s w
 other wrong s w h a e x =
@@ -223,7 +224,7 @@ not-refused-stores =
     (λ e.
     let five : outcome pageSize sample (to 2 one) .number ≡ 5 = refuses [] (to 2 one) (lit≤ tt) (fit-page pageSize (decides [] one) one-fit) in
     changes 0 (lit< tt) (sym (ap areas e ∙ refused-leaves)
-    ∙ ap areas (carry-not pageSize [] (sample .patch) (sample .full) 2 (decides [] one) (λ z. omega arith))))
+    ∙ ap areas (carry-not pageSize [] (sample .patch) (sample .full) 2 (decides [] one) all (λ z. omega arith))))
 
 -- and it breaks (a): no write of its run was accepted, yet the areas are not fresh
 pub not-refused-stores-run : LastsLeave refusedStores (cutting pageSize) → ⊥

@@ -19,6 +19,7 @@ use Rattle.stream.specs.Calls.{ComparedNumbers, compareNumbers, comparedNumbers
 use Rattle.stream.specs.Kinds.{compare-length, compare-patch}
 use Rattle.stream.specs.declared.Compared.{Compared}
 use Rattle.stream.specs.declared.Compared.the-variants as compared
+use Rattle.carrying.specs.Puts.{all}
 use Rattle.carrying.specs.CarryOut.{CarryNumbers, writtenNumbers, CarryOut}
 use Rattle.carrying.specs.Mapped.{CarryOutMapped}
 use Rattle.carrying.specs.declared.Written.{Written}
@@ -84,22 +85,22 @@ module _ {P : ℕ} {base page buffer : List ℕ} {a : Compared} (q : Compare P b
 
 -- carried out, without a map and with one
 module _ {P b m : ℕ} {patch full patch′ full′ : List ℕ} {d d′ : Decision} {a : Written} where
-  pub carried-out : CarryOut P patch full b d a patch′ full′ → d ≡ d′ → m ≡ cond (eqb (writtenNumbers a .number) 0) 1 0
+  pub carried-out : CarryOut P patch full b d all a patch′ full′ → d ≡ d′ → m ≡ cond (eqb (writtenNumbers a .number) 0) 1 0
       → Turned P patch full (some (write (record { block = b; decision = d′ }))) m patch′ full′
   unfolding markOf leftBy
   carried-out c e k =
-      let w = subst (λ (x : Decision). CarryOut P patch full b x a patch′ full′) e c in
+      let w = subst (λ (x : Decision). CarryOut P patch full b x all a patch′ full′) e c in
       record {
         state = λ i. record { patch = w .patch-bytes i; full = w .full-bytes i };
         marked = k ∙ ap (λ (x : CarryNumbers). cond (eqb (x .number) 0) 1 0) (w .numbers);
       }
 
-  pub carried-out-mapped : {map map′ : List ℕ} → CarryOutMapped P patch full map b d a patch′ full′ map′ → d ≡ d′
+  pub carried-out-mapped : {map map′ : List ℕ} → CarryOutMapped P patch full map b d all a patch′ full′ map′ → d ≡ d′
       → m ≡ cond (eqb (writtenNumbers a .number) 0) 1 0
       → TurnedWith P patch full map (some (write (record { block = b; decision = d′ }))) m patch′ full′ map′
   unfolding markOf leftBy
   carried-out-mapped {map} {map′} c e k =
-      let w = subst (λ (x : Decision). CarryOutMapped P patch full map b x a patch′ full′ map′) e c in
+      let w = subst (λ (x : Decision). CarryOutMapped P patch full map b x all a patch′ full′ map′) e c in
       record {
         state = λ i. with (record { patch = w .patch-bytes i; full = w .full-bytes i }) (w .map-bytes i);
         marked = k ∙ ap (λ (x : CarryNumbers). cond (eqb (x .number) 0) 1 0) (w .numbers);

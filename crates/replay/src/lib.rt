@@ -19,6 +19,9 @@ ghost use Rattle.carrying.specs.CarryOut.{writtenNumbers};
 ghost use Rattle.promises.specs.Runs.{wipe};
 ghost use Rattle.replay.specs.Operations.{writeOf, operation, Turned, Replayed, TurnedWith, ReplayedWith};
 
+// Every write of a run is told all.
+const ALL: usize = 2;
+
 // The i-th of pages that stand one after the other, or as much of it as there is.
 fn nth_page(pages: &[u8], i: usize) -> &[u8]
     ensures { λ r. ⌜ now r ≡ part (pageSize * i) pageSize (now (pages .entry)) ⌝ }
@@ -84,6 +87,7 @@ fn write_turn(patch: &mut [u8], full: &mut [u8], block: u64, base: &[u8], page: 
                 number,
                 &room[0..used],
                 page,
+                ALL,
             );
             mark_of(written)
         }
@@ -143,6 +147,7 @@ fn write_turn_mapped(
                 number,
                 payload,
                 page,
+                ALL,
             );
             mark_of(written)
         }

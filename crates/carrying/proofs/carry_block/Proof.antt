@@ -29,21 +29,21 @@ kind-of-requires c κs = search needs
 room-used-requires : tie.Need-room-used-requires
 room-used-requires c κs = search needs
 
-sub-store-both : tie.Need-sub-store-both
-sub-store-both c = search needs
+sub-store-first : tie.Need-sub-store-first
+sub-store-first c = search needs
 
-part-store-both-start : tie.Need-part-store-both-start
-part-store-both-start c = search needs
+part-store-first-start : tie.Need-part-store-first-start
+part-store-first-start c = search needs
 
-part-store-both-end : tie.Need-part-store-both-end
-part-store-both-end c =
+part-store-first-end : tie.Need-part-store-first-end
+part-store-first-end c =
     let t = c .before .before .before .before in
     let a = t .before .before .before .before .before .before .before .before .args in
     let r = c .before .before .room-used in
     omega (arith, used-within (a .size) (a .full .now) (a .block) (a .kind) (a .payload .now) (none t) (r .result) (r .ensures))
 
-store-both-requires : tie.Need-store-both-requires
-store-both-requires c κs =
+store-first-requires : tie.Need-store-first-requires
+store-first-requires c κs =
     let t = c .before .before .before .before .before in
     let at = t .before .before .before .before .before .before .before .before in
     let a = at .args in
@@ -60,7 +60,7 @@ returns : tie.Need-returns
 returns c =
     let f = c .before in
     let a = f .before .before .before .before .before .before .before .before .args in
-    decision-refused (a .size) (a .full .now) (a .block) (a .kind) (a .payload .now) (a .patch .now) (a .page .now) (f .refusal .given .0 .0)
+    decision-refused (a .size) (a .full .now) (a .block) (a .kind) (a .payload .now) (a .patch .now) (a .page .now) (a .stores) (f .refusal .given .0 .0)
     (sym (f .before .before .decision-fault .ensures) ∙ ap faultNumber (f .refusal .given .1))
 
 same-length-2 : tie.Need-same-length-2
@@ -77,7 +77,7 @@ returns-2 c =
     let r = s .before .before .before .before .room-used in
     let k = s .before .before .before .before .before .kind-of in
     decision-stored (a .size) (a .full .now) (a .block) (a .kind) (a .payload .now) (none t) (r .result) (r .ensures) (a .patch .now) (a .page .now)
-    (k .result) (k .ensures) (s .store-both .last .1 .1 .0) (s .store-both .last .1 .1 .1 .0) (s .store-both .ensures .0) (s .store-both .ensures .1)
+    (a .stores) (k .result) (k .ensures) _ _ (s .store-first .ensures)
 
 pub carry-block-spec : {M : Type 1} → statement M
 carry-block-spec =
@@ -88,10 +88,10 @@ carry-block-spec =
     enum-told
     kind-of-requires
     room-used-requires
-    sub-store-both
-    part-store-both-start
-    part-store-both-end
-    store-both-requires
+    sub-store-first
+    part-store-first-start
+    part-store-first-end
+    store-first-requires
     same-length
     returns
     same-length-2

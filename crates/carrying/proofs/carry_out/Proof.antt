@@ -17,7 +17,8 @@ returns : tie.Need-returns
 returns c =
     let d = c .before .before .before .before in
     let a = d .before .before .before .before .before .before .before .args in
-    told-alone pageSize (a .patch .now) (a .full .now) (a .block) (record { kind = a .kind; payload = a .payload .now; page = a .page .now }) _ _ _
+    told-alone pageSize (a .patch .now) (a .full .now) (a .block) (record { kind = a .kind; payload = a .payload .now; page = a .page .now })
+    (a .stores) _ _ _
     (d .carry-with .ensures)
 
 pub carry-out-spec : {M : Type 1} → statement M

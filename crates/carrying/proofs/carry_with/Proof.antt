@@ -36,7 +36,7 @@ returns c =
     let p = f .before .before .before .before .before .page-fits in
     let o = f .before .before .open in
     told-block pageSize (p .result) (a .buffer-fits) (a .patch .now) (a .full .now) (a .block)
-    (record { kind = a .kind; payload = a .payload .now; page = a .page .now }) (p .ensures) (o .result) (o .ensures)
+    (record { kind = a .kind; payload = a .payload .now; page = a .page .now }) (a .stores) (p .ensures) (o .result) (o .ensures)
     (f .size .given .0 .0) (f .size .given .0 .1 .0) (f .size .given .0 .1 .1 .0) (f .size .given .1) (omega (arith, c .if1 .taken))
 
 cast-carry-block : tie.Need-cast-carry-block
@@ -50,7 +50,7 @@ carry-block-requires c κs =
     let o = f .before .before .open in
     let l =
     told-lent pageSize (p .result) (a .buffer-fits) (a .patch .now) (a .full .now) (a .block)
-    (record { kind = a .kind; payload = a .payload .now; page = a .page .now }) (p .ensures) (o .result) (o .ensures)
+    (record { kind = a .kind; payload = a .payload .now; page = a .page .now }) (a .stores) (p .ensures) (o .result) (o .ensures)
     (f .size .given .0 .0) (f .size .given .0 .1 .0) (f .size .given .0 .1 .1 .0) (f .size .given .1) (omega (arith, c .before .before .if1 .left))
     (omega arith, omega arith) in
     ((l .sized, l .page-size), (l .slot, (l .counted, l .places-in)))
@@ -68,7 +68,7 @@ returns-2 c =
     let p = f .before .before .before .before .before .page-fits in
     let o = f .before .before .open in
     told-refused pageSize (p .result) (a .buffer-fits) (a .patch .now) (a .full .now) (a .block)
-    (record { kind = a .kind; payload = a .payload .now; page = a .page .now }) (p .ensures) (o .result) (o .ensures)
+    (record { kind = a .kind; payload = a .payload .now; page = a .page .now }) (a .stores) (p .ensures) (o .result) (o .ensures)
     (f .refusal .given .0 .0) (f .refusal .given .1)
 
 same-length-5 : tie.Need-same-length-5
@@ -85,7 +85,7 @@ returns-3 c =
     let p = f .before .before .before .before .before .page-fits in
     let o = f .before .before .open in
     told-within pageSize (p .result) (a .buffer-fits) (a .patch .now) (a .full .now) (a .block)
-    (record { kind = a .kind; payload = a .payload .now; page = a .page .now }) (p .ensures) (o .result) (o .ensures)
+    (record { kind = a .kind; payload = a .payload .now; page = a .page .now }) (a .stores) (p .ensures) (o .result) (o .ensures)
     (f .size .given .0 .0) (f .size .given .0 .1 .0) (f .size .given .0 .1 .1 .0) (f .size .given .1)
     (omega (arith, b .before .before .before .if1 .left)) (b .carry-block .result) (b .carry-block .last .1 .1 .0) (b .carry-block .last .1 .1 .1 .0) (b .carry-block .ensures)
 

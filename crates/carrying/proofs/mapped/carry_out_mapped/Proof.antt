@@ -33,11 +33,8 @@ enum-known-refusal c = search needs
 enum-known-stored : tie.Need-enum-known-stored
 enum-known-stored c = search needs
 
-pair-of-requires : tie.Need-pair-of-requires
-pair-of-requires c κs = search needs
-
-set-pair-requires : tie.Need-set-pair-requires
-set-pair-requires c κs = search needs
+keep-pair-requires : tie.Need-keep-pair-requires
+keep-pair-requires c κs = search needs
 
 same-length : tie.Need-same-length
 same-length c = search needs
@@ -50,7 +47,7 @@ returns c =
     let d = c .before .before .before .before .before .before .before in
     let a = d .before .before .before .before .before .before .before .before .before .before .args in
     mapped-refused pageSize _ (a .patch .now) (a .full .now) (a .map .now) (a .block)
-    (record { kind = a .kind; payload = a .payload .now; page = a .page .now }) _ _ _ (long d) (d .carry-with .ensures) _ (c .before .refusal .given .1)
+    (record { kind = a .kind; payload = a .payload .now; page = a .page .now }) (a .stores) _ _ _ (long d) (d .carry-with .ensures) _ (c .before .refusal .given .1)
 
 same-length-3 : tie.Need-same-length-3
 same-length-3 c = search needs
@@ -63,11 +60,12 @@ same-length-5 c = search needs
 
 returns-2 : tie.Need-returns-2
 returns-2 c =
-    let d = c .before .before .before .before .before .before .before .before .before .before .before .before in
+    let k = c .before .before in
+    let d = k .before .before .before .before .before .before .before .before .before in
     let a = d .before .before .before .before .before .before .before .before .before .before .args in
     mapped-done pageSize _ (a .patch .now) (a .full .now) (a .map .now) (a .block)
-    (record { kind = a .kind; payload = a .payload .now; page = a .page .now }) _ _ _ (long d) (d .carry-with .ensures) _ _ _ _
-    (c .before .before .before .before .before .before .stored .given .1) (c .before .before .before .pair-of .ensures) (c .before .before .set-pair .ensures)
+    (record { kind = a .kind; payload = a .payload .now; page = a .page .now }) (a .stores) _ _ _ (long d) (d .carry-with .ensures) _ _ _
+    (k .before .before .before .stored .given .1) (k .keep-pair .ensures)
 
 pub carry-out-mapped-spec : {M : Type 1} → statement M
 carry-out-mapped-spec =
@@ -78,8 +76,7 @@ carry-out-mapped-spec =
     carry-with-requires
     enum-known-refusal
     enum-known-stored
-    pair-of-requires
-    set-pair-requires
+    keep-pair-requires
     same-length
     same-length-2
     returns
