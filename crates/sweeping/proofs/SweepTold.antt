@@ -52,11 +52,11 @@ module _ (P : ℕ) (patch full : List ℕ) (x : Opened) (told : openedNumbers x 
     frame : Opening P true true patch full size n m
     frame = opened-frame P true true patch full size n m (sym (ap openedNumbers is) ∙ told)
 
-    pub told-few : n ≤ segment
-    told-few = omega (arith, frame .blocks, frame .framed .few-blocks)
-
     fewer : m ≤ n
     fewer = omega (arith, frame .blocks, frame .places, fewer-places P (blocksIn (length patch)) (length full) (frame .framed .full-fit))
+
+    pub told-few : (m ≤ n) × (n ≤ segment)
+    told-few = (fewer, omega (arith, frame .blocks, frame .framed .few-blocks))
 
     -- every slot that a place is swept by is there, and so is every place
     pub told-places : 0 < P → (slotAt m ≤ length patch) × (m ≡ pagesIn size (length full)) × Places size full
@@ -67,21 +67,20 @@ module _ (P : ℕ) (patch full : List ℕ) (x : Opened) (told : openedNumbers x 
           places P (blocksIn (length patch)) full h (frame .framed .full-fit),
         )
 
-    -- and the first fault of the slots decides
-    module _ (f : Fault) (fault : faultNumber f ≡ firstFault (slotFault m patch) 0 n .number) where
+    -- and the first fault of all the slots decides
+    module _ (k : ℕ) (f : Fault) (fault : faultNumber f ≡ firstFault (slotFault m patch) 0 k .number) (all : k ≡ n) where
       slots : firstFault (slotFault (pagesIn P (length full)) patch) 0 (blocksIn (length patch)) .number ≡ faultNumber f
       slots =
-          ap (λ (k : ℕ). firstFault (slotFault k patch) 0 (blocksIn (length patch)) .number) (sym (frame .places))
-          ∙ ap (λ (k : ℕ). firstFault (slotFault m patch) 0 k .number) (sym (frame .blocks)) ∙ sym fault
+          ap (λ (j : ℕ). firstFault (slotFault j patch) 0 (blocksIn (length patch)) .number) (sym (frame .places))
+          ∙ ap (λ (j : ℕ). firstFault (slotFault m patch) 0 j .number) (sym (all ∙ frame .blocks)) ∙ sym fault
 
       pub told-faulty : (r : Refusal) → f ≡ Found r → sweepOutcome P patch full ≡ sweepRefused (refusalNumber r) full
       told-faulty r q = sweep-faulty P patch full (frame .framed .none) (refusalNumber r) (slots ∙ ap faultNumber q) (refusal-some r)
 
-      pub told-swept : f ≡ Nothing
-          → sweepOutcome P patch full ≡ record { number = 0; full = zeroedBut (marked patch) size m full }
+      pub told-swept : f ≡ Nothing → sweepOutcome P patch full ≡ record { number = 0; full = zeroedBut (marked patch) size m full }
       told-swept q =
           sweep-sound P patch full (frame .framed .none) (slots ∙ ap faultNumber q)
           ∙ ap (λ (l : List ℕ). record { number = 0; full = l })
           (sym
-          (kept-marked m patch n size m full (sym fault ∙ ap faultNumber q) fewer
+          (kept-marked m patch k size m full (sym fault ∙ ap faultNumber q) (omega (arith, fewer))
           ∙ (λ i. zeroedBut (refers patch) (frame .own i) (frame .places i) full)))

@@ -35,8 +35,9 @@ pub read-held : {P b : ℕ} {patch full base page page′ : List ℕ} {a : Readi
     → Read P patch full b base page a page′ → readMembers r ≡ readingNumbers a → ThxRead P patch full b base page r page′
 read-held f e = record { numbers = e ∙ f .numbers; bytes = f .bytes }
 
-pub carry-held : {P b : ℕ} {patch full patch′ full′ : List ℕ} {d : Decision} {a : Written} {r : «thx_written»}
-    → CarryOut P patch full b d a patch′ full′ → writtenMembers r ≡ writtenNumbers a → ThxCarryOut P patch full b d r patch′ full′
+pub carry-held : {P b stores : ℕ} {patch full patch′ full′ : List ℕ} {d : Decision} {a : Written} {r : «thx_written»}
+    → CarryOut P patch full b d stores a patch′ full′ → writtenMembers r ≡ writtenNumbers a
+    → ThxCarryOut P patch full b d stores r patch′ full′
 carry-held f e = record { numbers = e ∙ f .numbers; patch-bytes = f .patch-bytes; full-bytes = f .full-bytes }
 
 pub build-held : {P : ℕ} {patch full map map′ : List ℕ} {a : Built} {r : «thx_built»}
@@ -70,9 +71,9 @@ read-only {P} {b} {patch} {full} {base} {page} {p} {q} {r} {s} x y =
     let e : readMembers r ≡ readMembers s = x .numbers ∙ sym (y .numbers) in
     (λ i. record { number = e i .number; kind = e i .kind; offset = e i .offset }, x .bytes ∙ sym (y .bytes))
 
-pub carry-only : {P b : ℕ} {patch full p q f g : List ℕ} {d : Decision} {r s : «thx_written»}
-    → ThxCarryOut P patch full b d r p f → ThxCarryOut P patch full b d s q g → (r ≡ s) × (p ≡ q) × (f ≡ g)
-carry-only {P} {b} {patch} {full} {p} {q} {f} {g} {d} {r} {s} x y =
+pub carry-only : {P b stores : ℕ} {patch full p q f g : List ℕ} {d : Decision} {r s : «thx_written»}
+    → ThxCarryOut P patch full b d stores r p f → ThxCarryOut P patch full b d stores s q g → (r ≡ s) × (p ≡ q) × (f ≡ g)
+carry-only {P} {b} {stores} {patch} {full} {p} {q} {f} {g} {d} {r} {s} x y =
     let e : writtenMembers r ≡ writtenMembers s = x .numbers ∙ sym (y .numbers) in (
       λ i. record { number = e i .number; kind = e i .kind; length = e i .length },
       x .patch-bytes ∙ sym (y .patch-bytes),

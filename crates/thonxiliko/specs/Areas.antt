@@ -8,7 +8,7 @@ use Rattle.store.specs.Format.{formatOutcome}
 use Rattle.store.specs.Judge.{JudgedNumbers, judgeNumbers}
 use Rattle.reading.specs.Read.{ReadNumbers, readNumbers, readOutcome}
 use Rattle.carrying.specs.Puts.{Decision}
-use Rattle.carrying.specs.CarryOut.{CarryNumbers, carryNumbers, carryOutcome}
+use Rattle.carrying.specs.CarryOut.{CarryNumbers, carryNumbers, carryTold}
 use Rattle.building.specs.Build.{BuildNumbers, buildNumbers, buildOutcome}
 use Rattle.thonxiliko.specs.declared.«thx_done».{«thx_done»}
 use Rattle.thonxiliko.specs.declared.«thx_judged».{«thx_judged»}
@@ -54,10 +54,11 @@ pub record ThxRead (P : ℕ) (patch full : List ℕ) (b : ℕ) (base page : List
 abbrev pub writtenMembers : «thx_written» → CarryNumbers
 writtenMembers r = record { number = r .number; kind = r .kind; length = r .length }
 
-pub record ThxCarryOut (P : ℕ) (patch full : List ℕ) (b : ℕ) (d : Decision) (r : «thx_written») (patch′ full′ : List ℕ) : Type 0 where
-  pub numbers : writtenMembers r ≡ carryNumbers (carryOutcome P patch full b d)
-  pub patch-bytes : patch′ ≡ carryOutcome P patch full b d .patch
-  pub full-bytes : full′ ≡ carryOutcome P patch full b d .full
+pub record ThxCarryOut (P : ℕ) (patch full : List ℕ) (b : ℕ) (d : Decision) (stores : ℕ) (r : «thx_written») (patch′ full′ : List ℕ)
+    : Type 0 where
+  pub numbers : writtenMembers r ≡ carryNumbers (carryTold P patch full b d stores)
+  pub patch-bytes : patch′ ≡ carryTold P patch full b d stores .patch
+  pub full-bytes : full′ ≡ carryTold P patch full b d stores .full
 
 -- Build
 

@@ -8,4 +8,6 @@ pub mod MappedLaws
 pub mod Maps
 pub mod PageLaws
 pub mod Pages
+pub mod SweepLaws
+pub mod Sweeps
 pub mod Widths

@@ -16,9 +16,9 @@ use Rattle.thonxiliko.specs.Mapped.{ThxCarryOutMapped, ThxReadMapped}
 
 -- a struct that holds the numbers of the answer beneath is as good as that answer
 
-pub carry-mapped-held : {P b : ℕ} {patch full map patch′ full′ map′ : List ℕ} {d : Decision} {a : Written} {r : «thx_written»}
-    → CarryOutMapped P patch full map b d a patch′ full′ map′ → writtenMembers r ≡ writtenNumbers a
-    → ThxCarryOutMapped P patch full map b d r patch′ full′ map′
+pub carry-mapped-held : {P b stores : ℕ} {patch full map patch′ full′ map′ : List ℕ} {d : Decision} {a : Written} {r : «thx_written»}
+    → CarryOutMapped P patch full map b d stores a patch′ full′ map′ → writtenMembers r ≡ writtenNumbers a
+    → ThxCarryOutMapped P patch full map b d stores r patch′ full′ map′
 carry-mapped-held f e =
     record { numbers = e ∙ f .numbers; patch-bytes = f .patch-bytes; full-bytes = f .full-bytes; map-bytes = f .map-bytes }
 
@@ -29,10 +29,10 @@ read-mapped-held f e = record { numbers = e ∙ f .numbers; bytes = f .bytes }
 
 -- no second outcome meets a call's promise
 
-pub carry-mapped-only : {P b : ℕ} {patch full map p q f g m n : List ℕ} {d : Decision} {r s : «thx_written»}
-    → ThxCarryOutMapped P patch full map b d r p f m → ThxCarryOutMapped P patch full map b d s q g n
+pub carry-mapped-only : {P b stores : ℕ} {patch full map p q f g m n : List ℕ} {d : Decision} {r s : «thx_written»}
+    → ThxCarryOutMapped P patch full map b d stores r p f m → ThxCarryOutMapped P patch full map b d stores s q g n
     → (r ≡ s) × (p ≡ q) × (f ≡ g) × (m ≡ n)
-carry-mapped-only {P} {b} {patch} {full} {map} {p} {q} {f} {g} {m} {n} {d} {r} {s} x y =
+carry-mapped-only {P} {b} {stores} {patch} {full} {map} {p} {q} {f} {g} {m} {n} {d} {r} {s} x y =
     let e : writtenMembers r ≡ writtenMembers s = x .numbers ∙ sym (y .numbers) in (
       λ i. record { number = e i .number; kind = e i .kind; length = e i .length },
       x .patch-bytes ∙ sym (y .patch-bytes),

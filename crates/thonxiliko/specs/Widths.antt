@@ -25,9 +25,9 @@ use Rattle.stream.specs.Given.{apply-told}
 use Rattle.blockmap.specs.Calls.{shortMap}
 use Rattle.store.specs.Judge.{Judge, JudgedNumbers, judgedNumbers, judgeRows, judgeNumbers}
 use Rattle.carrying.specs.Puts.{Decision}
-use Rattle.carrying.specs.CarryOut.{CarryOut, CarryNumbers, writtenNumbers, carryNumbers, carryBy}
+use Rattle.carrying.specs.CarryOut.{CarryOut, CarryOutcome, CarryNumbers, writtenNumbers, carryNumbers, carryBy}
 use Rattle.carrying.specs.CarryLaws.{carry-few}
-use Rattle.carrying.specs.Mapped.{CarryOutMapped, carryMappedOutcome}
+use Rattle.carrying.specs.Mapped.{CarryOutMapped, carryMappedTold}
 use Rattle.store.specs.Block.{slotOf}
 use Rattle.reading.specs.Read.{ReadNumbers, readingNumbers, readOutcome, Read}
 use Rattle.reading.specs.Mapped.{readMappedOutcome, ReadMapped}
@@ -173,23 +173,24 @@ module _ (slot : List ℕ) where
 
 -- Carry out
 
-carried-fits : (buffers : List Row) (patch full : List ℕ) (b : ℕ) (d : Decision) {a : Written} {k : Kind} {n : ℕ}
-    → writtenNumbers a ≡ carryNumbers (carryBy pageSize buffers patch full b d) → a ≡ WrittenDone k n → n < 2 ^ 32
-carried-fits buffers patch full b d {a} {k} {n} e q =
-    let g : n ≡ carryBy pageSize buffers patch full b d .length = ap (λ (x : CarryNumbers). x .length) (ap writtenNumbers (sym q) ∙ e) in
-    let m : carryBy pageSize buffers patch full b d .length ≤ room = carry-few pageSize buffers patch full b d in
+carried-fits : (buffers : List Row) (patch full : List ℕ) (b : ℕ) (d : Decision) (stores : ℕ) {a : Written} {k : Kind} {n : ℕ}
+    → writtenNumbers a ≡ carryNumbers (carryBy pageSize buffers patch full b d stores) → a ≡ WrittenDone k n → n < 2 ^ 32
+carried-fits buffers patch full b d stores {a} {k} {n} e q =
+    let o : CarryOutcome = carryBy pageSize buffers patch full b d stores in
+    let g : n ≡ o .length = ap (λ (x : CarryNumbers). x .length) (ap writtenNumbers (sym q) ∙ e) in
+    let m : o .length ≤ room = carry-few pageSize buffers patch full b d stores in
     omega arith
 
-module _ (patch full : List ℕ) (b : ℕ) (d : Decision) where
+module _ (patch full : List ℕ) (b : ℕ) (d : Decision) (stores : ℕ) where
   pub carry-fits : {patch′ full′ : List ℕ} {a : Written} {k : Kind} {n : ℕ}
-      → CarryOut pageSize patch full b d a patch′ full′ → a ≡ WrittenDone k n → n < 2 ^ 32
-  carry-fits c q = carried-fits [] patch full b d (c .numbers) q
+      → CarryOut pageSize patch full b d stores a patch′ full′ → a ≡ WrittenDone k n → n < 2 ^ 32
+  carry-fits c q = carried-fits [] patch full b d stores (c .numbers) q
 
   -- and with a lent map
   pub carry-mapped-fits : {map patch′ full′ map′ : List ℕ} {a : Written} {k : Kind} {n : ℕ}
-      → CarryOutMapped pageSize patch full map b d a patch′ full′ map′ → a ≡ WrittenDone k n → n < 2 ^ 32
-  unfolding carryMappedOutcome
-  carry-mapped-fits {map} c q = carried-fits (shortMap map (blocksIn (length patch))) patch full b d (c .numbers) q
+      → CarryOutMapped pageSize patch full map b d stores a patch′ full′ map′ → a ≡ WrittenDone k n → n < 2 ^ 32
+  unfolding carryMappedTold
+  carry-mapped-fits {map} c q = carried-fits (shortMap map (blocksIn (length patch))) patch full b d stores (c .numbers) q
 
 -- The offset
 

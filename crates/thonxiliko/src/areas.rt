@@ -88,11 +88,20 @@ pub extern "C" fn thx_carry_out(
     kind: u32,
     payload: &[u8],
     page: &[u8],
+    stores: u64,
 ) -> thx_written
     ensures { λ r. ⌜ ThxCarryOut pageSize (now (patch .entry)) (now (full .entry)) block
-        (record { kind = kind; payload = now (payload .entry); page = now (page .entry) }) r (now (patch .exit)) (now (full .exit)) ⌝ }
+        (record { kind = kind; payload = now (payload .entry); page = now (page .entry) }) stores r (now (patch .exit)) (now (full .exit)) ⌝ }
 {
-    match carrying::carry_out(patch, full, block as usize, kind, payload, page) {
+    match carrying::carry_out(
+        patch,
+        full,
+        block as usize,
+        kind,
+        payload,
+        page,
+        stores as usize,
+    ) {
         Written::Done {
             kind: stored,
             length,

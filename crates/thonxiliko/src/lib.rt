@@ -4,8 +4,9 @@ pub mod cuts;
 pub mod map;
 pub mod mapped;
 pub mod pages;
+pub mod sweeps;
 
-// What Format and Cut answer.
+// What Format, Cut and Sweep answer.
 #[repr(C)]
 pub struct thx_done {
     pub number: u32,

@@ -15,9 +15,10 @@ pub extern "C" fn thx_carry_out_mapped(
     kind: u32,
     payload: &[u8],
     page: &[u8],
+    stores: u64,
 ) -> thx_written
     ensures { λ r. ⌜ ThxCarryOutMapped pageSize (now (patch .entry)) (now (full .entry)) (now (map .entry)) block
-        (record { kind = kind; payload = now (payload .entry); page = now (page .entry) }) r (now (patch .exit)) (now (full .exit))
+        (record { kind = kind; payload = now (payload .entry); page = now (page .entry) }) stores r (now (patch .exit)) (now (full .exit))
         (now (map .exit)) ⌝ }
 {
     match carrying::mapped::carry_out_mapped(
@@ -28,6 +29,7 @@ pub extern "C" fn thx_carry_out_mapped(
         kind,
         payload,
         page,
+        stores as usize,
     ) {
         Written::Done {
             kind: stored,

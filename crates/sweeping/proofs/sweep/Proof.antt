@@ -25,7 +25,8 @@ first-fault-requires c κs =
     let w = c .before in
     let o = w .before .before in
     let a = o .before .before .before .before .args in
-    told-few pageSize (a .patch .now) (a .full .now) (o .open .result) (o .open .ensures) _ _ _ (w .size .given .1)
+    let few = told-few pageSize (a .patch .now) (a .full .now) (o .open .result) (o .open .ensures) _ _ _ (w .size .given .1) in
+    omega (arith, few .0, few .1)
 
 enum-known-refusal-2 : tie.Need-enum-known-refusal-2
 enum-known-refusal-2 c = search needs
@@ -62,7 +63,7 @@ returns-2 c =
     let a = o .before .before .before .before .args in
     let e =
     told-faulty pageSize (a .patch .now) (a .full .now) (o .open .result) (o .open .ensures) _ _ _ (w .size .given .1)
-    (f .first-fault .result) (f .first-fault .ensures) _ (c .before .refusal2 .given .1) in
+    _ (f .first-fault .result) (f .first-fault .ensures) (omega arith) _ (c .before .refusal2 .given .1) in
     record { numbers = rw e; full-bytes = rw e }
 
 same-length-3 : tie.Need-same-length-3
@@ -76,7 +77,7 @@ returns-3 c =
     let a = o .before .before .before .before .args in
     let e =
     told-swept pageSize (a .patch .now) (a .full .now) (o .open .result) (o .open .ensures) _ _ _ (w .size .given .1)
-    (f .first-fault .result) (f .first-fault .ensures) (c .before .before .before .before .enum-told .given .1) in
+    _ (f .first-fault .result) (f .first-fault .ensures) (omega arith) (c .before .before .before .before .enum-told .given .1) in
     record { numbers = rw e; full-bytes = rw e (c .before .before .sweep-places .ensures) }
 
 pub sweep-spec : {M : Type 1} → statement M

@@ -15,13 +15,13 @@ enum-known-stored c = search needs
 kind-number-requires : tie.Need-kind-number-requires
 kind-number-requires c κs = search needs
 
-cast-t18 : tie.Need-cast-t18
-cast-t18 c =
+cast-t20 : tie.Need-cast-t20
+cast-t20 c =
     let a = c .before .before .before .before .before .before .before .before .before .before .before .before .before .before .before .args in
     let ensures = c .before .before .before .before .before .before .before .before .carry-out .ensures in
     record {
       fits = carry-fits (a .patch .now) (a .full .now) (a .block)
-          (record { kind = a .kind; payload = a .payload .now; page = a .page .now }) ensures (c .before .before .stored .given .1);
+          (record { kind = a .kind; payload = a .payload .now; page = a .page .now }) (a .stores) ensures (c .before .before .stored .given .1);
     }
 
 enum-known-refusal : tie.Need-enum-known-refusal
@@ -61,7 +61,7 @@ thx-carry-out-spec =
     carry-out-requires
     enum-known-stored
     kind-number-requires
-    cast-t18
+    cast-t20
     enum-known-refusal
     refusal-number-requires
     same-length

@@ -15,14 +15,14 @@ enum-known-stored c = search needs
 kind-number-requires : tie.Need-kind-number-requires
 kind-number-requires c κs = search needs
 
-cast-t21 : tie.Need-cast-t21
-cast-t21 c =
+cast-t23 : tie.Need-cast-t23
+cast-t23 c =
     let at = c .before .before .before .before .before .before .before .before .before .before in
     let a = at .before .before .before .before .before .before .before .before .before .args in
     let ensures = at .carry-out-mapped .ensures in
     record {
       fits = carry-mapped-fits (a .patch .now) (a .full .now) (a .block)
-          (record { kind = a .kind; payload = a .payload .now; page = a .page .now }) ensures (c .before .before .stored .given .1);
+          (record { kind = a .kind; payload = a .payload .now; page = a .page .now }) (a .stores) ensures (c .before .before .stored .given .1);
     }
 
 enum-known-refusal : tie.Need-enum-known-refusal
@@ -68,7 +68,7 @@ thx-carry-out-mapped-spec =
     carry-out-mapped-requires
     enum-known-stored
     kind-number-requires
-    cast-t21
+    cast-t23
     enum-known-refusal
     refusal-number-requires
     same-length
