@@ -52,6 +52,7 @@ pub mod SlotLaws
 pub mod SpellingLaws
 pub mod StandingLaws
 pub mod StopReads
+pub mod StopRunLaws
 pub mod StopStore
 pub mod StopStoreLaws
 pub mod StopWords

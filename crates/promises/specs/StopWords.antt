@@ -2,14 +2,14 @@
 -- 8,192 in the calls.
 use Prim.Native.Nat.{ℕ, _<_}
 use mathlib.Core.Path.{_≡_}
-use mathlib.Core.List.{List}
+use mathlib.Core.List.{List, [], _∷_}
 use Rattle.slots.specs.Slots.{fullSlot}
 use Rattle.store.specs.Block.{slotOf}
 use Rattle.carrying.specs.CarryOut.{CarryOutcome, carryTold}
 use Rattle.sweeping.specs.Sweep.{SweepOutcome, sweepOutcome}
-use Rattle.promises.specs.Runs.{run}
+use Rattle.promises.specs.Runs.{run, write}
 use Rattle.promises.specs.Stops.{Event, whole, stop, sweep}
-use Rattle.promises.specs.RunWords.{Decision, Areas, Lent, Cut, Program, CutProgram, outcome, cutting, doesBy}
+use Rattle.promises.specs.RunWords.{Decision, Areas, Lent, Cut, Operation, outcome, cutting, doesBy}
 
 -- Programs: a write that is "told how many of them to make", and a sweep. The right ones are `told P` and `sweeping P`; `StopsWrong` and
 -- `SweepsWrong` have others.
@@ -59,3 +59,14 @@ pub data TakesHold (d : Decision) (slot : List ℕ) : ℕ → Type 0 where
 -- the same of a write on both areas
 abbrev pub Holds : Areas → ℕ → Lent → Type 0
 Holds s k w = TakesHold (w .decision) (slotOf (s .patch) (w .block)) k
+
+-- what the events of a list come to: each operation made whole, each stopped write that took hold, and nothing else
+pub data ComesTo (P : ℕ) : Areas → List AreaEvent → List Operation → Type 0 where
+  nothing : {s : Areas} → ComesTo P s [] []
+  made : {s : Areas} {o : Operation} {es : List AreaEvent} {os : List Operation} → ComesTo P (happens P s (whole o)) es os
+      → ComesTo P s (whole o ∷ es) (o ∷ os)
+  held : {s : Areas} {k : ℕ} {w : Lent} {es : List AreaEvent} {os : List Operation} → Holds s k w → ComesTo P (stopped P s k w) es os
+      → ComesTo P s (stop k w ∷ es) (write w ∷ os)
+  lost : {s : Areas} {k : ℕ} {w : Lent} {es : List AreaEvent} {os : List Operation} → (Holds s k w → ⊥) → ComesTo P (stopped P s k w) es os
+      → ComesTo P s (stop k w ∷ es) os
+  tidied : {s : Areas} {es : List AreaEvent} {os : List Operation} → ComesTo P (swept P s) es os → ComesTo P s (sweep ∷ es) os
