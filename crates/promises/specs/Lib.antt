@@ -13,6 +13,7 @@ pub mod CutsWrong
 pub mod DecisionLaws
 pub mod Decisions
 pub mod DemandOne
+pub mod DemandStops
 pub mod DemandThree
 pub mod DemandTwo
 pub mod Determined
@@ -64,5 +65,6 @@ pub mod SweepWords
 pub mod SweptLaws
 pub mod Tables
 pub mod TalliesWrong
+pub mod ToldLaws
 pub mod Words
 pub mod Wrong

@@ -25,7 +25,7 @@ use Rattle.promises.specs.StoreLaws.{imageOf, contentOf, slotAfter, plac
 use Rattle.promises.specs.CarryTables.{Accepted}
 use Rattle.promises.specs.RunWords.{Decision, Areas, readAt, Lent, outcome, taken, next}
 use Rattle.promises.specs.RunStoreLaws.{accepted-write}
-use Rattle.promises.specs.StopWords.{stopped, TakesHold, slot-stored, page-stored, all-stored}
+use Rattle.promises.specs.StopWords.{stopped, Holds, TakesHold, slot-stored, page-stored, all-stored}
 use Rattle.promises.specs.StopStore.{isFull, takesHold}
 use Rattle.promises.specs.StopStoreLaws.{image-is-full, hold-all, stop-refused, stop-stored}
 
@@ -48,6 +48,15 @@ holds-iff k d old = (there k, back)
     back (page-stored e q) = rw (eq-eqb (d .kind) 2 e) (same-true old fullSlot q)
     back (all-stored h) = hold-all _ d old h
 
+-- a write that did not take hold, as a test
+pub not-held : (s : Areas) (k : ℕ) (w : Lent) → (Holds s k w → ⊥) → takesHold k (w .decision) (slotOf (s .patch) (w .block)) ≡ false
+not-held s k w n = go (takesHold k (w .decision) (slotOf (s .patch) (w .block))) refl
+  where
+    go : (t : Bool) → takesHold k (w .decision) (slotOf (s .patch) (w .block)) ≡ t
+        → takesHold k (w .decision) (slotOf (s .patch) (w .block)) ≡ false
+    go true e = absurd (n (holds-iff k (w .decision) (slotOf (s .patch) (w .block)) .0 e))
+    go false e = e
+
 -- The areas, told 0 and told all
 
 module _ (P : ℕ) (s : Areas) (w : Lent) where
@@ -56,7 +65,7 @@ module _ (P : ℕ) (s : Areas) (w : Lent) where
   told-nothing = go (outcome P s w .number) refl
     where
       go : (k : ℕ) → outcome P s w .number ≡ k → stopped P s 0 w ≡ s
-      go zero e = ap (λ (o : CarryOutcome). record { patch = o .patch; full = o .full }) 
+      go zero e = ap (λ (o : CarryOutcome). record { patch = o .patch; full = o .full })
           (carry-done P [] (s .patch) (s .full) (w .block) (w .decision) 0 (told-number P (s .patch) (s .full) (w .block) (w .decision) 0 ∙ e))
       go (suc k) e = stop-refused P s 0 w (ne-eqb (outcome P s w .number) 0 (λ z. omega (arith, e, z)))
 

@@ -9,7 +9,7 @@ use Rattle.store.specs.Block.{slotOf}
 use Rattle.promises.specs.SweptLaws.{sweep-reads}
 use Rattle.promises.specs.Runs.{run, write}
 use Rattle.promises.specs.Stops.{whole, stop, sweep, happen, kept, comes, comesTo, Tidies}
-use Rattle.promises.specs.SweepRuns.{sweepable, sweep-same, finished, events-tidied, stop-tidied, whole-or-without}
+use Rattle.promises.specs.SweepRuns.{sweepable, sweep-same, finished, events-tidied, stop-tidied}
 use Rattle.promises.specs.RunWords.{Areas, readAt, Lent, Operation, outcome, taken, next, after, FreshAreas}
 use Rattle.promises.specs.RunStore.{frameOf, store}
 use Rattle.promises.specs.RunStoreLaws.{accepted-write, good-frame, store-laws}
@@ -17,16 +17,7 @@ use Rattle.promises.specs.RunLaws.{fresh}
 use Rattle.promises.specs.StopWords.{stopped, sweeping, swept, AreaEvent, afterAll, Holds, ComesTo, nothing, made, held, lost, tidied}
 use Rattle.promises.specs.StopStore.{takesHold, stopping}
 use Rattle.promises.specs.StopStoreLaws.{stop-refused, sweep-taken, stop-laws}
-use Rattle.promises.specs.StopReads.{holds-iff}
-
--- a write that did not take hold, as a test
-not-held : (s : Areas) (k : ℕ) (w : Lent) → (Holds s k w → ⊥) → takesHold k (w .decision) (slotOf (s .patch) (w .block)) ≡ false
-not-held s k w n = go (takesHold k (w .decision) (slotOf (s .patch) (w .block))) refl
-  where
-    go : (t : Bool) → takesHold k (w .decision) (slotOf (s .patch) (w .block)) ≡ t
-        → takesHold k (w .decision) (slotOf (s .patch) (w .block)) ≡ false
-    go true e = absurd (n (holds-iff k (w .decision) (slotOf (s .patch) (w .block)) .0 e))
-    go false e = e
+use Rattle.promises.specs.StopReads.{holds-iff, not-held}
 
 -- The words are those of `Stops`
 

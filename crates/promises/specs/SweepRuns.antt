@@ -1,7 +1,6 @@
 -- After a sweep a run with stopped writes has left what some run without them leaves: with each stopped write whole or without it.
 use Prim.Native.Nat.{ℕ, _<_}
 use mathlib.Core.Path.{_≡_, refl, sym, ap, _∙_}
-use mathlib.Core.Logic.{_⊎_, inl, inr}
 use mathlib.Core.Bool.{Bool, true, false, cond}
 use mathlib.Core.Option.{none, some}
 use mathlib.Core.List.{List, [], _∷_, _++_}
@@ -197,13 +196,3 @@ module _ (S : Store) (T : Stopping S) (L : Laws S) (K : StopLaws S T) where
         on : (x y : State) → Tidies S T x y → (vs : Ops S) → Tidies S T (run step x vs) (run step y vs)
         on x y h [] = h
         on x y h (v ∷ vs) = on (step x v) (step y v) (whole-tidies x y h v) vs
-
-    -- "both areas equal those of the run with that write whole or without it", by whether it took hold
-    pub whole-or-without : (ws : Ops S) (k : ℕ) (w : Write) (vs : Ops S) (u : Bool) → holds k w (at (run step s ws) (block w)) ≡ u
-        → swept (run step (stopped (run step s ws) k w) vs) ≡ run step s (ws ++ cond u (write w ∷ vs) vs)
-    unfolding kept
-    whole-or-without ws k w vs u e = sweep-same _ _ (stop-tidied ws k w vs) ∙ ap (λ (x : Ops S). run step s (ws ++ x)) (rw e (go u))
-      where
-        go : (u : Bool) → cond u (write w ∷ []) [] ++ vs ≡ cond u (write w ∷ vs) vs
-        go true = refl
-        go false = refl
