@@ -17,6 +17,9 @@ use Rattle.cutting.specs.declared.Shortened.{Shortened}
 use Rattle.cutting.specs.declared.Shortened.the-variants.{Done as ShortenedDone, Refused as ShortenedRefused}
 use Rattle.cutting.specs.declared.Extent.{Extent}
 use Rattle.cutting.specs.declared.Extent.the-variants.{Done as ExtentDone, Refused as ExtentRefused}
+use Rattle.sweeping.specs.Sweep.{sweptNumber}
+use Rattle.sweeping.specs.declared.Swept.{Swept}
+use Rattle.sweeping.specs.declared.Swept.the-variants.{Done as SweptDone, Refused as SweptRefused}
 use Rattle.carrying.specs.declared.Written.{Written}
 use Rattle.carrying.specs.declared.Written.the-variants.{Done as WrittenDone, Refused as WrittenRefused}
 
@@ -50,6 +53,12 @@ shortened-one ShortenedDone ShortenedDone e = refl
 shortened-one ShortenedDone (ShortenedRefused r) e = absurd (refusal-some r (sym e))
 shortened-one (ShortenedRefused r) ShortenedDone e = absurd (refusal-some r e)
 shortened-one (ShortenedRefused r) (ShortenedRefused q) e = ap ShortenedRefused (refusal-one r q e)
+
+pub swept-one : (a b : Swept) → sweptNumber a ≡ sweptNumber b → a ≡ b
+swept-one SweptDone SweptDone e = refl
+swept-one SweptDone (SweptRefused r) e = absurd (refusal-some r (sym e))
+swept-one (SweptRefused r) SweptDone e = absurd (refusal-some r e)
+swept-one (SweptRefused r) (SweptRefused q) e = ap SweptRefused (refusal-one r q e)
 
 pub extent-one : (a b : Extent) → extentNumbers a ≡ extentNumbers b → a ≡ b
 extent-one (ExtentDone m) (ExtentDone n) e = ap ExtentDone (ap (λ (x : HighestNumbers). x .blocks) e)

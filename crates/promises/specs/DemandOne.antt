@@ -4,8 +4,8 @@
 -- That every call takes anything and ends is what the prover checks: no call has a `requires`. The rest stands here, over the predicates
 -- that the contracts cite: each number is given exactly when its condition holds and no earlier one does; and where the answer's number
 -- is not 0, every lent byte is as it was, and the other numbers of the answer are 0, "except that Build gives the block with 6, 7, 8 and
--- 10", and Apply, both reads and Build the payload offset with 7. Judge, Highest, Look up and Tally are lent nothing to write; Cut answers
--- its number alone.
+-- 10", and Apply, both reads and Build the payload offset with 7. Judge, Highest, Look up and Tally are lent nothing to write; Cut and
+-- Sweep answer their number alone.
 use Prim.Native.Nat.{ℕ, _≤_}
 use native.Mathlib.Omega.{arith}
 use mathlib.Core.Path.{_≡_, refl, sym, ap, _∙_, subst}
@@ -51,6 +51,9 @@ use Rattle.cutting.specs.Given.{cut-exactly, cut-mapped-exactly, highest-exactl
 use Rattle.cutting.specs.declared.Shortened.{Shortened}
 use Rattle.cutting.specs.declared.Extent.{Extent}
 use Rattle.cutting.specs.declared.Extent.the-variants.{Done as ExtentDone, Refused as ExtentRefused}
+use Rattle.sweeping.specs.Sweep.{sweepRows, sweptNumber, Sweep}
+use Rattle.sweeping.specs.Given.{sweep-exactly}
+use Rattle.sweeping.specs.declared.Swept.{Swept}
 use Rattle.store.specs.Given.{format-exactly, judge-exactly, show-exactly, show-some}
 use Rattle.reading.specs.Given.{read-exactly, read-told, read-mapped-exactly, read-mapped-told}
 use Rattle.carrying.specs.Given.{carry-exactly, carry-mapped-exactly}
@@ -67,6 +70,7 @@ use Rattle.promises.specs.Words.{OfBlock}
 use Rattle.promises.specs.Kept.{format-kept, compare-kept, apply-kept, show-kept, read-kept, carry-kept, build-kept}
 use Rattle.promises.specs.Kept.{carry-mapped-kept, read-mapped-kept, cut-mapped-kept}
 use Rattle.promises.specs.CutLaws.{cut-kept}
+use Rattle.promises.specs.SweptLaws.{sweep-kept}
 
 -- a refusal is a number from the table
 pub from-the-table : (r : Refusal) → (1 ≤ refusalNumber r) × (refusalNumber r ≤ 11)
@@ -144,6 +148,10 @@ module _ (P : ℕ) where
       → Exactly (cutMappedRows P patch full map K) (shortenedNumber a)
   cut-mapped-refuses patch full map K a p f m x = rw (x .numbers) (cut-mapped-exactly P patch full map K)
 
+  -- "sweep gives 2, headers, then 6 or 8 at the lowest block"
+  pub sweep-refuses : (patch full : List ℕ) (a : Swept) (f : List ℕ) → Sweep P patch full a f → Exactly (sweepRows P patch full) (sweptNumber a)
+  sweep-refuses patch full a f x = rw (x .numbers) (sweep-exactly P patch full)
+
   -- "2, its header's, then 6 if any slot is unsound"
   pub highest-refuses : (patch : List ℕ) (a : Extent) → Highest P patch a → Exactly (highestRows P patch) (extentNumbers a .number)
   highest-refuses patch a x = rw (x .numbers) (highest-exactly P patch)
@@ -218,6 +226,9 @@ module _ (P : ℕ) where
   cut-mapped-keeps patch full map K a p f m x h =
       let k = cut-mapped-kept P patch full map K (λ e. h (x .numbers ∙ e)) in
       (x .patch-bytes ∙ k .0, x .full-bytes ∙ k .1, x .map-bytes ∙ k .2)
+
+  pub sweep-keeps : (patch full : List ℕ) (a : Swept) (f : List ℕ) → Sweep P patch full a f → (sweptNumber a ≡ 0 → ⊥) → f ≡ full
+  sweep-keeps patch full a f x h = x .full-bytes ∙ sweep-kept P patch full (λ e. h (x .numbers ∙ e))
 
   pub build-keeps : (patch full map : List ℕ) (a : Built) (after : List ℕ) → Build P patch full map a after
       → (builtNumbers a .number ≡ 0 → ⊥) → (after ≡ map) × ((builtNumbers a .block ≡ 0) ⊎ OfBlock (builtNumbers a .number))

@@ -10,6 +10,9 @@
 -- page it compared." So a write of a run carries out a decision, any one, on a block; that the decisions come from Compare is used where
 -- bases come in, in (b) and (c), and for Highest: a sound payload from elsewhere, `00 00` over zeros, stands and changes nothing.
 --
+-- Request 07: "Demands 2 and 3 speak of writes told all", so every write of a run here is; `DemandStops` has runs with stopped writes and
+-- sweeps among their operations.
+--
 -- The words are in `RunWords`: `after P s os` are both areas after the run os from s, and `accepted P s os` those of its operations that
 -- were accepted when their turn came. An operation is a write, `write w`, or a cut at K, `wipe K`. Nothing is assumed of a run: its blocks,
 -- kinds, payloads and pages are any, of any lengths, and its cuts are at any number, K = 0, K = n and K above n among them. A write stands at a block

@@ -6,6 +6,7 @@
 -- bytes." Cut drops "blocks K and up ... in one go", and Highest "gives one more than the highest non-EMPTY block, or 0".
 --
 -- Request 06 splits the write: "Compare then decides, and a second call ... carries out a decision ... Demand 2 holds for the pair".
+-- Request 07: "Demands 2 and 3 speak of writes told all", so every write here is; `DemandStops` has those that are told fewer.
 --
 -- `carryOutcome`, `compareNumbers`, `readOutcome`, `Show`, `cutOutcome` and `highestNumbers` are what the contracts of Carry out, Compare, Read,
 -- Show, Cut and Highest cite; the other words are in `Words`, `CarryWords`, `Decisions` and `CutWords`. Any lists are areas, bases, payloads and

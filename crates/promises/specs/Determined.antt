@@ -32,6 +32,8 @@ use Rattle.cutting.specs.Mapped.{CutMapped}
 use Rattle.cutting.specs.Highest.{Highest}
 use Rattle.cutting.specs.declared.Shortened.{Shortened}
 use Rattle.cutting.specs.declared.Extent.{Extent}
+use Rattle.sweeping.specs.Sweep.{Sweep}
+use Rattle.sweeping.specs.declared.Swept.{Swept}
 use Rattle.building.specs.Build.{Build}
 use Rattle.building.specs.BuildMeaning.{build-one}
 use Rattle.building.specs.declared.Built.{Built}
@@ -39,7 +41,7 @@ use Rattle.store.specs.declared.Formatted.{Formatted}
 use Rattle.store.specs.declared.Judged.{Judged}
 use Rattle.reading.specs.declared.Reading.{Reading}
 use Rattle.carrying.specs.declared.Written.{Written}
-use Rattle.promises.specs.Answers.{formatted-one, judged-one, reading-one, written-one, shortened-one, extent-one}
+use Rattle.promises.specs.Answers.{formatted-one, judged-one, reading-one, written-one, shortened-one, swept-one, extent-one}
 
 module _ (P : ℕ) where
   pub one-format : (patch full : List ℕ) (a b : Formatted) (p q f g : List ℕ) → Format P patch full a p f → Format P patch full b q g
@@ -103,6 +105,9 @@ module _ (P : ℕ) where
     x .full-bytes ∙ sym (y .full-bytes),
     x .map-bytes ∙ sym (y .map-bytes),
   )
+
+  pub one-sweep : (patch full : List ℕ) (a b : Swept) (f g : List ℕ) → Sweep P patch full a f → Sweep P patch full b g → (a ≡ b) × (f ≡ g)
+  one-sweep patch full a b f g x y = (swept-one a b (x .numbers ∙ sym (y .numbers)), x .full-bytes ∙ sym (y .full-bytes))
 
   pub one-highest : (patch : List ℕ) (a b : Extent) → Highest P patch a → Highest P patch b → a ≡ b
   one-highest patch a b x y = extent-one a b (x .numbers ∙ sym (y .numbers))

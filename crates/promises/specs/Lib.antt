@@ -58,6 +58,7 @@ pub mod StopStore
 pub mod StopStoreLaws
 pub mod StopWords
 pub mod Stops
+pub mod StopsWrong
 pub mod StoreLaws
 pub mod SweepRuns
 pub mod SweepTables
