@@ -10,31 +10,24 @@
 -- `StopWords` and `SweepWords`: `stopped P s k w` are both areas after the write w that is told k on the areas s, `swept P s` after a sweep.
 -- `next P s w` are those after the whole write, and `after P s os` after the run os. Any lists are areas, payloads and pages here, any number
 -- is a block, a kind or a number of stores.
-use Prim.Native.Nat.{ℕ, zero, suc, _≤_, _<_}
-use native.Mathlib.Omega.{arith}
-use mathlib.Core.Path.{_≡_, refl, sym, ap, _∙_}
-use mathlib.Core.Bool.{cond}
+use Prim.Native.Nat.{ℕ, _≤_, _<_}
+use mathlib.Core.Path.{_≡_, sym, ap, _∙_}
 use mathlib.Core.Logic.{_⊎_, inl, inr, ⊎-elim, _↔_}
 use mathlib.Core.List.{List, [], _∷_, _++_}
-use lib.Dec.{lit≤}
-use lib.ListN.{length}
-use borrow.Author.Tests.{eq-eqb, ne-eqb, le-ltb}
 use Rattle.layout.specs.Sizes.{pageSize}
-use Rattle.slots.specs.Slots.{fullSlot}
-use Rattle.store.specs.Block.{slotOf}
 use Rattle.reading.specs.Read.{readOutcome}
-use Rattle.carrying.specs.Puts.{Decision, all}
-use Rattle.carrying.specs.CarryOut.{CarryNumbers, carryNumbers, CarryOutcome, carryTold, carryOutcome}
-use Rattle.carrying.specs.Mapped.{MappedCarry, carryMappedTold, carryMappedOutcome}
+use Rattle.carrying.specs.Puts.{Decision}
+use Rattle.carrying.specs.CarryOut.{carryNumbers, carryTold}
+use Rattle.carrying.specs.Mapped.{carryMappedTold, carryMappedOutcome}
 use Rattle.carrying.specs.Told.{told-all, told-all-mapped}
 use Rattle.sweeping.specs.Sweep.{SweepOutcome, sweepOutcome}
 use Rattle.building.specs.Build.{buildOutcome, buildDone}
-use Rattle.promises.specs.Words.{blocks, places, LengthsFit, MapFits}
+use Rattle.promises.specs.Words.{places, MapFits}
 use Rattle.promises.specs.CarryTables.{mapped-as-told}
 use Rattle.promises.specs.SweepWords.{SweepGives, SweptFrom}
 use Rattle.promises.specs.SweepTables.{sweep-table}
 use Rattle.promises.specs.SweptLaws as swept-laws
-use Rattle.promises.specs.Runs.{run, write}
+use Rattle.promises.specs.Runs.{write}
 use Rattle.promises.specs.RunWords.{Areas, readAt, Lent, Operation, outcome, next, after, FreshAreas}
 use Rattle.promises.specs.MapWords.{Mapped, afterWith, buildInto, FreshWith, Long}
 use Rattle.promises.specs.DemandThree.{same-with-map, kept-is-built}

@@ -63,6 +63,7 @@ pub mod StoreLaws
 pub mod SweepRuns
 pub mod SweepTables
 pub mod SweepWords
+pub mod SweepsWrong
 pub mod SweptLaws
 pub mod Tables
 pub mod TalliesWrong

@@ -4,20 +4,19 @@ use native.Mathlib.Omega.{arith}
 use mathlib.Core.Path.{_≡_, refl, sym, ap, _∙_}
 use mathlib.Core.Bool.{Bool, true, false, cond, true≢false}
 use mathlib.Core.Logic.{_↔_}
-use mathlib.Core.List.{List, [], _∷_}
-use lib.Dec.{eqb, ltb}
-use lib.ListN.{length, take}
+use mathlib.Core.List.{List, []}
+use lib.Dec.{eqb}
+use lib.ListN.{take}
 use borrow.Author.Tests.{eq-eqb, ne-eqb, eqb-true, eqb-false}
-use Rattle.span.specs.Laws.{same-true, same-false, same-is}
+use Rattle.span.specs.Laws.{same-true, same-is}
 use Rattle.slots.specs.Slots.{fullSlot}
 use Rattle.store.specs.Block.{slotOf, placeOf}
-use Rattle.reading.specs.Read.{ReadOutcome}
 use Rattle.carrying.specs.Puts.{putSlot, putPlace, put, puts, order, carried, all}
 use Rattle.carrying.specs.CarryOut.{CarryOutcome}
 use Rattle.carrying.specs.CarryLaws.{carried-is, carry-done}
 use Rattle.carrying.specs.PutLaws.{nothing-stored}
 use Rattle.carrying.specs.Told.{first-page, first-slot, told-all}
-use Rattle.promises.specs.Words.{blocks, places, SameFrame}
+use Rattle.promises.specs.Words.{places, SameFrame}
 use Rattle.promises.specs.FrameLaws.{frame-same}
 use Rattle.promises.specs.Tables.{read-same}
 use Rattle.promises.specs.SlotLaws.{image-full}

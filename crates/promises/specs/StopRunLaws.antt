@@ -1,6 +1,6 @@
 -- Runs from fresh areas with stopped writes and sweeps among their operations, over any page size to 65,536, from what is proved of stops in
 -- general.
-use Prim.Native.Nat.{ℕ, _<_}
+use Prim.Native.Nat.{ℕ}
 use mathlib.Core.Path.{_≡_, refl, sym, ap, _∙_, subst}
 use mathlib.Core.Bool.{Bool, true, false, cond, true≢false}
 use mathlib.Core.Logic.{_⊎_, inl, inr}
@@ -10,8 +10,8 @@ use Rattle.promises.specs.SweptLaws.{sweep-reads}
 use Rattle.promises.specs.Runs.{run, write}
 use Rattle.promises.specs.Stops.{whole, stop, sweep, happen, kept, comes, comesTo, Tidies}
 use Rattle.promises.specs.SweepRuns.{sweepable, sweep-same, finished, events-tidied, stop-tidied}
-use Rattle.promises.specs.RunWords.{Areas, readAt, Lent, Operation, outcome, taken, next, after, FreshAreas}
-use Rattle.promises.specs.RunStore.{frameOf, store}
+use Rattle.promises.specs.RunWords.{Areas, readAt, Lent, Operation, taken, next, after, FreshAreas}
+use Rattle.promises.specs.RunStore.{store}
 use Rattle.promises.specs.RunStoreLaws.{accepted-write, good-frame, store-laws}
 use Rattle.promises.specs.RunLaws.{fresh}
 use Rattle.promises.specs.StopWords.{stopped, sweeping, swept, AreaEvent, afterAll, Holds, ComesTo, nothing, made, held, lost, tidied}

@@ -10,7 +10,7 @@ use Rattle.carrying.specs.Puts.{order}
 use Rattle.promises.specs.StoreLaws.{slotAfter, placeAfter}
 use Rattle.promises.specs.Decisions.{Cell}
 use Rattle.promises.specs.Stops.{Stopping}
-use Rattle.promises.specs.RunWords.{Decision, Lent}
+use Rattle.promises.specs.RunWords.{Decision}
 use Rattle.promises.specs.RunStore.{store}
 use Rattle.promises.specs.StopWords.{stopped, swept}
 

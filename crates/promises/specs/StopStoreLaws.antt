@@ -1,41 +1,37 @@
 -- Both areas, with stopped writes and sweeps, keep the laws of `Stops`.
-use Prim.Native.Nat.{ℕ, zero, suc, _≤_, _<_}
+use Prim.Native.Nat.{ℕ, zero, suc, _<_}
 use native.Mathlib.Omega.{arith}
-use native.Mathlib.Decide.{decLt}
 use mathlib.Core.Path.{_≡_, refl, sym, ap, _∙_, subst}
 use mathlib.Core.Bool.{Bool, true, false, cond, true≢false}
-use mathlib.Core.Logic.{_↔_}
 use mathlib.Core.List.{List, [], _∷_}
 use lib.Dec.{eqb, ltb}
-use lib.ListN.{length, take}
-use lib.Seq.{take-all}
-use borrow.Author.Tests.{eq-eqb, ne-eqb, lt-ltb, le-ltb, ltb-true, ltb-false, eqb-true, eqb-false}
-use Rattle.span.specs.Bytes.{zeros, same}
-use Rattle.span.specs.Laws.{same-true, same-false, same-is, is-same}
-use Rattle.layout.specs.Sizes.{patchHead, fullHead}
+use lib.ListN.{take}
+use borrow.Author.Tests.{eq-eqb, ne-eqb, ltb-true, ltb-false, eqb-true, eqb-false}
+use Rattle.span.specs.Bytes.{zeros}
+use Rattle.span.specs.Laws.{same-true, same-false, same-is}
+use Rattle.layout.specs.Sizes.{patchHead}
 use Rattle.span.specs.EmptiedLaws.{emptied-length}
 use Rattle.slots.specs.Slots.{emptySlot, fullSlot}
 use Rattle.store.specs.Block.{slotOf, placeOf}
-use Rattle.carrying.specs.Puts.{Put, slot, place, order, all}
+use Rattle.carrying.specs.Puts.{Put, slot, place, order}
 use Rattle.carrying.specs.CarryOut.{CarryOutcome}
 use Rattle.carrying.specs.CarryLaws.{carry-not}
 use Rattle.carrying.specs.Told.{first-page, first-slot, both-told}
-use Rattle.promises.specs.Words.{blocks, places, LengthsFit, HeadersFit, SameFrame, SoundSlot}
+use Rattle.promises.specs.Words.{blocks, places, SoundSlot}
 use Rattle.promises.specs.SlotLaws.{image-empty, image-patch, image-full, empty-not-full, patch-not-full}
-use Rattle.promises.specs.StoreLaws.{imageOf, contentOf, slotAfter, placeAfter, StoredAt, both, slot-anew, place-anew, told-number, told-stored}
-use Rattle.promises.specs.Decisions.{Cell, cellFor, blankCell, Fit}
-use Rattle.promises.specs.CarryTables.{Accepted}
+use Rattle.promises.specs.StoreLaws.{imageOf, slotAfter, placeAfter, StoredAt, slot-anew, place-anew, told-number, told-stored}
+use Rattle.promises.specs.Decisions.{Cell, cellFor, Fit}
 use Rattle.promises.specs.SweepWords.{SlotRight, SweepGives}
 use Rattle.promises.specs.SweepTables.{sweep-table}
 use Rattle.promises.specs.SweptLaws.{sweeps, sweep-kept}
-use Rattle.promises.specs.Runs.{write, Left}
+use Rattle.promises.specs.Runs.{Left}
 use Rattle.promises.specs.Stops.{StopLaws}
 use Rattle.promises.specs.RunWords.{Decision, Areas, Lent, outcome, taken}
 use Rattle.promises.specs.RunStore.{cellAt, frameOf, store}
 use Rattle.promises.specs.RunStoreLaws.{frame-is, taken-frame, accepted-write, good-frame}
 use Rattle.promises.specs.RunReads.{Held}
 use Rattle.promises.specs.RunReadLaws.{left-held}
-use Rattle.promises.specs.StopWords.{told, stopped, sweeping, swept}
+use Rattle.promises.specs.StopWords.{stopped, sweeping, swept}
 use Rattle.promises.specs.StopStore.{isFull, halfCell, tidyCell, takesHold, stopping}
 
 -- Slots

@@ -4,7 +4,7 @@ use Prim.Native.Nat.{ℕ, _<_}
 use mathlib.Core.Path.{_≡_}
 use mathlib.Core.Bool.{Bool, true, false, cond}
 use mathlib.Core.List.{List, [], _∷_, _++_}
-use Rattle.promises.specs.Runs.{Op, write, Store, Ops, Left, Reading}
+use Rattle.promises.specs.Runs.{Op, write, Store, Ops, Left}
 
 -- an operation made whole, a write that is told how many stores to make, a sweep
 pub data Event (W C : Type 0) : Type 0 where

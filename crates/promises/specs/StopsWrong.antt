@@ -7,14 +7,14 @@ use mathlib.Core.Path.{_≡_, refl, sym, ap, _∙_}
 use mathlib.Core.Bool.{Bool, true, false, cond, true≢false}
 use mathlib.Core.Logic.{_⊎_, inr, ⊎-elim}
 use mathlib.Core.List.{List, [], _∷_}
-use lib.Dec.{eqb, leb, lit≤, lit<}
+use lib.Dec.{eqb, lit≤, lit<}
 use lib.ListN.{length, getD, replicate}
 use borrow.Author.Tests.{eq-eqb}
 use Rattle.span.specs.Bytes.{zeros}
 use Rattle.span.specs.Laws.{zeros-at, zeros-after}
 use Rattle.layout.specs.Sizes.{pageSize}
 use Rattle.slots.specs.Slots.{fullSlot}
-use Rattle.stream.specs.Calls.{pageOf, kindFor}
+use Rattle.stream.specs.Calls.{kindFor}
 use Rattle.stream.specs.Laws.{base-some}
 use Rattle.store.specs.Block.{slotOf, placeOf}
 use Rattle.reading.specs.Read.{ReadOutcome, readDone}
@@ -22,13 +22,13 @@ use Rattle.carrying.specs.Puts.{all}
 use Rattle.carrying.specs.CarryOut.{CarryOutcome, carryNumbers}
 use Rattle.carrying.specs.Mapped.{MappedCarry, carryMappedTold}
 use Rattle.carrying.specs.CarryLaws.{map-done}
-use Rattle.blockmap.specs.Pairs.{pairAt, fullPair}
+use Rattle.blockmap.specs.Pairs.{pairAt}
 use Rattle.blockmap.specs.Pack.{pairOf, byteOf, withPair, setPair}
-use Rattle.promises.specs.Words.{places, PagesFit, AreasFit, FrameFits, SameFrame}
+use Rattle.promises.specs.Words.{PagesFit, FrameFits, SameFrame}
 use Rattle.promises.specs.FrameLaws.{lengths-moved, headers-moved}
 use Rattle.promises.specs.SlotLaws.{image-full}
 use Rattle.promises.specs.ReadLaws.{reads-full}
-use Rattle.promises.specs.StoreLaws.{StoredAt, both, contentOf, slot-anew, place-anew, carry-stored}
+use Rattle.promises.specs.StoreLaws.{StoredAt, both, slot-anew, place-anew, carry-stored}
 use Rattle.promises.specs.CarryWords.{ReadAs}
 use Rattle.promises.specs.CarryTables.{mapped-as-carry}
 use Rattle.promises.specs.Decisions.{Cell}
@@ -45,7 +45,7 @@ use Rattle.promises.specs.RunLaws.{run-fits}
 use Rattle.promises.specs.StopWords.{ToldProgram, told, leftBy, stopped, swept, slot-stored}
 use Rattle.promises.specs.DemandStops.{same-answer, none-made, all-made, old-or-new, other-blocks, map-kept, whole-or-without}
 use Rattle.promises.specs.Sample.{sample, sample-fresh, two-blocks, two-places, areas-fit, takes, page, one, two, many, two-fits}
-use Rattle.promises.specs.Sample.{stream-one, one-fits, many-fits, one-fit, many-fit, large-ones, to, puts, decides, reads, nothing-stands, same-bytes}
+use Rattle.promises.specs.Sample.{stream-one, one-fits, many-fits, one-fit, many-fit, large-ones, to, puts, decides, reads, nothing-stands}
 
 -- "It is told how many of them to make, 0, 1 or, for any other number, all, with the same refusals and answer ... After a stop before, between
 -- or after these, Read gives the block as before or its new page, and other blocks as before": of the write told all no more is said than that
@@ -99,7 +99,7 @@ one-first : getD one 0 0 ≡ 7
 unfolding page
 one-first = refl
 
-many-first : getD (many 1) 0 0 ≡ 1
+pub many-first : getD (many 1) 0 0 ≡ 1
 unfolding many page
 many-first = zeros-after (replicate 253 1) (pageSize - length (replicate {A = ℕ} 253 1)) 0
 
@@ -132,10 +132,10 @@ large-done : outcome pageSize sample (to 0 (many 1)) .number ≡ 0
 unfolding run
 large-done = takes [] (to 0 (many 1)) (lit< tt) (many-fit 1)
 
-large-stored : StoredAt pageSize 0 (decides [] (many 1)) (both (decides [] (many 1))) sample (next pageSize sample (to 0 (many 1)))
+pub large-stored : StoredAt pageSize 0 (decides [] (many 1)) (both (decides [] (many 1))) sample (next pageSize sample (to 0 (many 1)))
 large-stored = carry-stored pageSize (sample .patch) (sample .full) 0 (decides [] (many 1)) large-done
 
-large-slot : slotOf (next pageSize sample (to 0 (many 1)) .patch) 0 ≡ fullSlot
+pub large-slot : slotOf (next pageSize sample (to 0 (many 1)) .patch) 0 ≡ fullSlot
 large-slot = large-stored .slot-is ∙ slot-anew (decides [] (many 1)) (slotOf (sample .patch) 0) ∙ rw large-ones (image-full _)
 
 fresh-place : placeOf pageSize (sample .full) 0 ≡ zeros pageSize

@@ -1,5 +1,5 @@
 -- The number that Sweep gives, from the rows of the definition to the words of the request and back.
-use Prim.Native.Nat.{ℕ, zero, suc, _≤_, _<_}
+use Prim.Native.Nat.{ℕ, zero, suc, _<_}
 use native.Mathlib.Omega.{arith}
 use mathlib.Core.Path.{_≡_, refl, sym, ap, _∙_, subst}
 use mathlib.Core.Bool.{Bool, true, false, not, _&&_}
@@ -19,7 +19,7 @@ use Rattle.store.specs.Open.{openRows}
 use Rattle.sweeping.specs.Sweep.{sweepRows, sweepOutcome}
 use Rattle.sweeping.specs.Parts.{slotFault}
 use Rattle.sweeping.specs.SweepLaws.{sweep-rows, sweep-slots, sweep-number}
-use Rattle.promises.specs.Words.{blocks, places, AreasRefuse, AreasFit, SoundSlot}
+use Rattle.promises.specs.Words.{blocks, places, AreasFit, SoundSlot}
 use Rattle.promises.specs.SlotLaws.{Sort, of-empty, of-patch, of-full, of-none, sort-of, empty-not-full, patch-not-full}
 use Rattle.promises.specs.AreaLaws.{areasNumber, areas-number, AreasAre, areas-refused, areas-right, areas-are, areas-gives, areas-zero, areas-some}
 use Rattle.promises.specs.SweepWords.{SlotWrong, SlotRight, SweepGives}
@@ -93,7 +93,7 @@ module _ (P : ℕ) (patch full : List ℕ) where
   -- The call
 
   -- a call that is lent neither page nor buffer has none that does not fit
-  frame-number : firstOf (openRows P true true patch full) ≡ areasNumber P patch full
+  pub frame-number : firstOf (openRows P true true patch full) ≡ areasNumber P patch full
   unfolding frameRows firstOf orElse lengthRows
   frame-number = areas-number P patch full
 

@@ -1,8 +1,8 @@
 -- What Sweep leaves, in the words of the request; and that it does no harm: blocks read as before, and Build finds no stray bytes afterwards.
-use Prim.Native.Nat.{ℕ, zero, suc, _+_, _≤_, _<_}
+use Prim.Native.Nat.{ℕ, zero, suc, _≤_, _<_}
 use native.Mathlib.Omega.{arith}
 use native.Mathlib.Decide.{decLt}
-use mathlib.Core.Path.{_≡_, refl, sym, ap, _∙_, subst}
+use mathlib.Core.Path.{_≡_, refl, sym, ap, _∙_}
 use mathlib.Core.Bool.{Bool, true, false, not, _&&_, cond, true≢false}
 use mathlib.Core.Logic.{_⊎_, inl, inr}
 use mathlib.Core.List.{List}
@@ -26,7 +26,7 @@ use Rattle.building.specs.Steps.{straysIn}
 use Rattle.building.specs.BuildLaws.{no-strays, block-empty, block-patch, block-payload, block-full, block-full-none, block-unsound}
 use Rattle.building.specs.BuildLaws.{frame-none, build-frame, build-either, build-zero}
 use Rattle.building.specs.Given.{frame-other}
-use Rattle.sweeping.specs.Sweep.{refers, zeroedBut, SweepOutcome, sweepOutcome}
+use Rattle.sweeping.specs.Sweep.{refers, SweepOutcome, sweepOutcome}
 use Rattle.sweeping.specs.SweepLaws.{sweep-done, sweep-not}
 use Rattle.sweeping.specs.ZeroedLaws.{Within, zeroed-length, zeroed-head, zeroed-kept, zeroed-cleared}
 use Rattle.promises.specs.Words.{blocks, places, LengthsFit, AreasFit, SameFrame, SoundSlot}
@@ -43,11 +43,11 @@ use Rattle.promises.specs.SweepTables.{wrong-some, sweep-table}
 refers-full : (patch : List ℕ) (b : ℕ) → slotOf patch b ≡ fullSlot → refers patch b ≡ true
 refers-full patch b e = eq-eqb (slotNumbers (slotOf patch b) .kind) 2 (full-kind (slotOf patch b) .1 e)
 
-refers-other : (patch : List ℕ) (b : ℕ) → (slotOf patch b ≡ fullSlot → ⊥) → refers patch b ≡ false
+pub refers-other : (patch : List ℕ) (b : ℕ) → (slotOf patch b ≡ fullSlot → ⊥) → refers patch b ≡ false
 refers-other patch b h = ne-eqb (slotNumbers (slotOf patch b) .kind) 2 (λ k. h (full-kind (slotOf patch b) .0 k))
 
 -- every place lies in an area whose lengths fit
-places-within : (P : ℕ) (patch full : List ℕ) → LengthsFit P patch full → Within P (places P full) full
+pub places-within : (P : ℕ) (patch full : List ℕ) → LengthsFit P patch full → Within P (places P full) full
 places-within P patch full h b l = cell-within full fullHead P (places P full) (place-cells P patch full h b l) b l
 
 -- there is one such area

@@ -62,7 +62,7 @@ module _ (P : ℕ) (patch full : List ℕ) where
   blocks : ℕ
   blocks = firstOf (rowsFrom (slotFaults P patch full) 0 (blocksIn (length patch)))
 
-  frame-rows : firstOf (ordered (sweepGroups P patch full)) ≡ firstOf (openRows P true true patch full)
+  pub frame-rows : firstOf (ordered (sweepGroups P patch full)) ≡ firstOf (openRows P true true patch full)
   unfolding ordered frameRows lengthRows firstOf orElse
   frame-rows = ap firstOf (append-nil (inOrder opening (sweepGroups P patch full)))
 
