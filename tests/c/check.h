@@ -85,7 +85,10 @@ thx_written carry_out(const store *to, uint64_t block, uint32_t kind, const uint
 thx_written write_by_pair(const store *to, uint64_t block, const uint8_t *base, size_t base_len,
                           const uint8_t *page, size_t page_len);
 
-/* refusals.c, lengths.c, payloads.c, maps.c, tally.c, cuts.c, decisions.c and stops.c: tests. */
+/*
+ * refusals.c, lengths.c, payloads.c, maps.c, tally.c, cuts.c, decisions.c, stops.c and sweeps.c:
+ * tests.
+ */
 void every_refusal(void);
 void every_fault_left(void);
 void every_length(void);
