@@ -224,10 +224,11 @@
  *   - SWEEP ONLY WHERE A WRITE MAY HAVE BEEN STOPPED. After a known stop 10 means: sweep. Without
  *     one it means that a FULL_REF slot was lost, and the place has the only copy of its page. A
  *     sweep erases it.
- *   - MEMORY IS NOT DISK. The two stores are made in this order in memory. In a file that is mapped
- *     the second may reach the disk first: the zeros before the slot, say, and after a power cut
- *     the block is FULL_REF and reads as zeros. Nothing here can see to that. To make a stop safe
- *     on files, carry the write out twice, with a sync after each:
+ *   - MEMORY IS NOT DISK. What is proved is what a call leaves in memory when it returns. In a file
+ *     that is mapped the second store may reach the disk first: the zeros before the slot, say, and
+ *     after a power cut the block is FULL_REF and reads as zeros. Nor is anything proved of which
+ *     store has been made when a call told all is killed. To make a stop safe on files, carry each
+ *     write out in two calls, with a sync after each:
  *
  *       1. told 1, then sync the area that it wrote: for FULL_REF the full area, else the patch
  *          area;
