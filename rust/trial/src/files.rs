@@ -181,7 +181,7 @@ pub fn sweep_all(kept: &Path) -> Outcome<()> {
         }
         Ok(())
     })?;
-    println!("swept {segments} segments, removed {removed} pages; Build accepts each of them");
+    println!("segments swept: {segments}, pages removed: {removed}; Build accepts each segment");
     Ok(())
 }
 
