@@ -82,6 +82,7 @@ extern "C" {
         payload_len: usize,
         page: *const u8,
         page_len: usize,
+        stores: u64,
     ) -> thx_written;
 
     pub fn thx_carry_out_mapped(
@@ -97,6 +98,7 @@ extern "C" {
         payload_len: usize,
         page: *const u8,
         page_len: usize,
+        stores: u64,
     ) -> thx_written;
 
     pub fn thx_read_mapped(
@@ -132,6 +134,13 @@ extern "C" {
     ) -> thx_done;
 
     pub fn thx_highest(patch: *const u8, patch_len: usize) -> thx_extent;
+
+    pub fn thx_sweep(
+        patch: *const u8,
+        patch_len: usize,
+        full: *mut u8,
+        full_len: usize,
+    ) -> thx_done;
 
     pub fn thx_build(
         patch: *const u8,
