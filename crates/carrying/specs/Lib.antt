@@ -5,4 +5,5 @@ pub mod Mapped
 pub mod Parts
 pub mod PutLaws
 pub mod Puts
+pub mod Told
 pub mod Unseen

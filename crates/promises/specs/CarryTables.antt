@@ -21,7 +21,7 @@ use Rattle.store.specs.Frame.{frameRows}
 use Rattle.store.specs.FrameLaws.{lengthsFit}
 use Rattle.carrying.specs.Puts.{Decision, all}
 use Rattle.carrying.specs.Parts.{decisionRows}
-use Rattle.carrying.specs.CarryOut.{carryRows, carryDone, carryRefused, carryBy, carryOutcome}
+use Rattle.carrying.specs.CarryOut.{carryRows, carryDone, carryRefused, carryBy, carryTold, carryOutcome}
 use Rattle.carrying.specs.Mapped.{carryMappedRows, carryMappedTold, carryMappedOutcome}
 use Rattle.carrying.specs.CarryLaws.{carry-rows, carry-number, carry-mapped-number}
 use Rattle.promises.specs.Words.{blocks, places, LengthsFit, AreasRefuse, AreasFit, MapFits}
@@ -199,9 +199,12 @@ module _ (P : ℕ) (patch full map : List ℕ) (b : ℕ) (d : Decision) where
   unfolding carryMappedRows carryRows ordered lengthRows firstOf orElse
   long-rows h = rw (le-ltb (length map) (mapBytes (blocks patch)) h)
 
-  pub mapped-as-carry : MapFits patch map → carryMappedOutcome P patch full map b d .areas ≡ carryOutcome P patch full b d
+  pub mapped-as-told : MapFits patch map → (k : ℕ) → carryMappedTold P patch full map b d k .areas ≡ carryTold P patch full b d k
   unfolding carryMappedTold carryBy carryMappedRows
-  mapped-as-carry h = ap (λ (k : ℕ). decided k (carryDone P patch full b d all) (λ (n : ℕ). carryRefused n patch full)) (long-rows h)
+  mapped-as-told h k = ap (λ (n : ℕ). decided n (carryDone P patch full b d k) (λ (n : ℕ). carryRefused n patch full)) (long-rows h)
+
+  pub mapped-as-carry : MapFits patch map → carryMappedOutcome P patch full map b d .areas ≡ carryOutcome P patch full b d
+  mapped-as-carry h = mapped-as-told h all
 
   -- and with one that does not, 1, 2 or 9
   short-rows : length map < mapBytes (blocks patch)

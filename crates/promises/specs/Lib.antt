@@ -13,6 +13,7 @@ pub mod CutsWrong
 pub mod DecisionLaws
 pub mod Decisions
 pub mod DemandOne
+pub mod DemandStops
 pub mod DemandThree
 pub mod DemandTwo
 pub mod Determined
@@ -51,6 +52,11 @@ pub mod ShowLaws
 pub mod SlotLaws
 pub mod SpellingLaws
 pub mod StandingLaws
+pub mod StopReads
+pub mod StopRunLaws
+pub mod StopStore
+pub mod StopStoreLaws
+pub mod StopWords
 pub mod Stops
 pub mod StoreLaws
 pub mod SweepRuns
@@ -59,5 +65,6 @@ pub mod SweepWords
 pub mod SweptLaws
 pub mod Tables
 pub mod TalliesWrong
+pub mod ToldLaws
 pub mod Words
 pub mod Wrong

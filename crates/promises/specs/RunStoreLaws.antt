@@ -42,7 +42,7 @@ frame-is s t f = λ i. record {
 -- A write
 
 -- a refusal is a matter of the frame and the call
-taken-frame : (P : ℕ) (s : Areas) (w : Lent) → taken P (frameOf s) w ≡ taken P s w
+pub taken-frame : (P : ℕ) (s : Areas) (w : Lent) → taken P (frameOf s) w ≡ taken P s w
 taken-frame P s w = ap (λ (k : ℕ). eqb k 0) (number (frameOf s) ∙ same ∙ sym (number s))
   where
     number : (t : Areas) → outcome P t w .number

@@ -1,7 +1,6 @@
 -- After a sweep a run with stopped writes has left what some run without them leaves: with each stopped write whole or without it.
 use Prim.Native.Nat.{ℕ, _<_}
 use mathlib.Core.Path.{_≡_, refl, sym, ap, _∙_}
-use mathlib.Core.Logic.{_⊎_, inl, inr}
 use mathlib.Core.Bool.{Bool, true, false, cond}
 use mathlib.Core.Option.{none, some}
 use mathlib.Core.List.{List, [], _∷_, _++_}
@@ -13,7 +12,7 @@ use Rattle.promises.specs.StandingLaws.{hit, run-append, run-frame, step
 use Rattle.promises.specs.Stops.{Event, whole, stop, sweep, Events, Stopping, StopLaws, happen, kept, comes, comesTo, Tidies}
 
 module _ (S : Store) (T : Stopping S) (L : Laws S) (K : StopLaws S T) where
-  open Store S using (State, Frame, Write, Wipe, Cell, frame, blocks, at, block, cell, blank, accepts, step)
+  open Store S using (State, Frame, Write, Wipe, Cell, frame, blocks, at, block, cell, blank, accepts, step, Good)
   open Stopping T using (stopped, swept, half, tidy, holds)
 
   -- a cell that a run leaves has nothing to be swept away
@@ -141,20 +140,59 @@ module _ (S : Store) (T : Stopping S) (L : Laws S) (K : StopLaws S T) where
       rw (run-append S L t (comes S T s e) (comesTo S T (happen S T s e) es))
       (events-tidy (happen S T s e) (run step t (comes S T s e)) (event-tidies s t h e) es)
 
-  -- From a fresh state: any events, as many stops and sweeps among them as there may be, anywhere
+  -- The same write told all after it was stopped is the whole write
+
+  pub finished : (s : State) → Good (frame s) → (k : ℕ) (w : Write) → step (stopped s k w) (write w) ≡ step s (write w)
+  finished s good k w = go (accepts (frame s) (write w)) refl
+    where
+      here : accepts (frame s) (write w) ≡ true → (b : ℕ) → b < blocks (frame s) → (v : Bool) → eqb (block w) b ≡ v
+          → at (step (stopped s k w) (write w)) b ≡ at (step s (write w)) b
+      here a b n true q =
+          let p : block w ≡ b = eqb-true (block w) b q in
+          L .write-here (stopped s k w) w b (rw (K .stopped-frame s k w) a) (rw (K .stopped-frame s k w) n) p ∙ sym (L .write-here s w b a n p)
+      here a b n false q =
+          let p : block w ≡ b → ⊥ = eqb-false (block w) b q in
+          L .write-elsewhere (stopped s k w) w b (rw (K .stopped-frame s k w) a) (rw (K .stopped-frame s k w) n) p
+          ∙ K .stopped-elsewhere s k w b a n p ∙ sym (L .write-elsewhere s w b a n p)
+
+      go : (a : Bool) → accepts (frame s) (write w) ≡ a → step (stopped s k w) (write w) ≡ step s (write w)
+      go false a = ap (λ (t : State). step t (write w)) (K .stopped-refused s k w a)
+      go true a =
+          let e : frame (step (stopped s k w) (write w)) ≡ frame s = L .frame-kept (stopped s k w) (write w) ∙ K .stopped-frame s k w in
+          L .ext (step (stopped s k w) (write w)) (step s (write w)) (rw e good) (e ∙ sym (L .frame-kept s (write w)))
+          (λ b n. here a b (rw e at n) (eqb (block w) b) refl)
+
+  -- From a fresh state
   module _ (s : State) (fresh : Fresh S s) where
-    fresh-tidies : Tidies S T s s
-    unfolding run
-    fresh-tidies =
+    -- a run leaves nothing to be swept
+    run-tidies : (os : Ops S) → Tidies S T (run step s os) (run step s os)
+    run-tidies os =
         record {
           frames = refl;
-          good = fresh .good;
-          cells = λ b n. tidy-left (at s b) (run-left S L s fresh [] b n);
-          lefts = λ b n. run-left S L s fresh [] b n;
+          good = rw (run-frame S L s os) (fresh .good);
+          cells = λ b n. tidy-left (at (run step s os) b) (lefts b n);
+          lefts = lefts;
         }
+      where
+        lefts : (b : ℕ) → b < blocks (frame (run step s os)) → Left S (frame (run step s os)) b (at (run step s os) b)
+        lefts b n = rw (run-frame S L s os) (run-left S L s fresh os b (rw (run-frame S L s os) at n))
 
+    -- any events, as many stops and sweeps among them as there may be, anywhere
     pub events-tidied : (es : Events S) → Tidies S T (run (happen S T) s es) (run step s (comesTo S T s es))
-    events-tidied es = events-tidy s s fresh-tidies es
+    unfolding run
+    events-tidied es = events-tidy s s (run-tidies []) es
 
     pub swept-events : (es : Events S) → swept (run (happen S T) s es) ≡ run step s (comesTo S T s es)
     swept-events es = sweep-same _ _ (events-tidied es)
+
+    -- one stop in a run
+    pub stop-tidied : (ws : Ops S) (k : ℕ) (w : Write) (vs : Ops S)
+        → Tidies S T (run step (stopped (run step s ws) k w) vs) (run step s (ws ++ (kept S T (run step s ws) k w ++ vs)))
+    unfolding run
+    stop-tidied ws k w vs =
+        rw (run-append S L s ws (kept S T (run step s ws) k w ++ vs), run-append S L (run step s ws) (kept S T (run step s ws) k w) vs)
+        (on _ _ (stop-tidies (run step s ws) (run step s ws) (run-tidies ws) k w) vs)
+      where
+        on : (x y : State) → Tidies S T x y → (vs : Ops S) → Tidies S T (run step x vs) (run step y vs)
+        on x y h [] = h
+        on x y h (v ∷ vs) = on (step x v) (step y v) (whole-tidies x y h v) vs
