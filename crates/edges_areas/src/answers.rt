@@ -7,6 +7,7 @@ use cutting::Shortened;
 use reading::Reading;
 use store::Formatted;
 use stream::Compared;
+use sweeping::Swept;
 
 pub(crate) fn formatted(answer: Formatted) {
     match answer {
@@ -86,6 +87,17 @@ pub(crate) fn shortened(answer: Shortened) {
             say::number(0);
         }
         Shortened::Refused(r) => {
+            say::refused(r);
+        }
+    }
+}
+
+pub(crate) fn swept(answer: Swept) {
+    match answer {
+        Swept::Done => {
+            say::number(0);
+        }
+        Swept::Refused(r) => {
             say::refused(r);
         }
     }

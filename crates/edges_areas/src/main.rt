@@ -43,6 +43,12 @@ const TRIM: u8 = b't';
 
 const HIGHEST: u8 = b'h';
 
+// Sweep, by the name `zero`, since Show has its letter.
+const SWEEP: u8 = b'z';
+
+// How many stores a line tells that does not say it: all.
+const ALL: usize = 2;
+
 // Room for a byte more than nine blocks or two full pages have.
 const PATCH_ROOM: usize = Layout::PATCH_HEAD + 9 * Layout::SLOT + 1;
 
@@ -50,6 +56,9 @@ const FULL_ROOM: usize = Layout::FULL_HEAD + 2 * Layout::PAGE + 1;
 
 // Room for two bytes more than the map of nine blocks has.
 const MAP_ROOM: usize = 5;
+
+// Room for the cases.
+const TEXT_ROOM: usize = 131072;
 
 // show | name | patch | full | block. The full area is not lent.
 fn show(line: &[u8], patch: &[u8]) {
@@ -115,21 +124,41 @@ fn build(line: &[u8], patch: &[u8], full: &[u8]) {
     delta(b"map", &was, lent);
 }
 
-// The carrying out that this call names.
+// How many stores a line tells: its last field, after the map and the kind.
+fn told(line: &[u8]) -> usize {
+    let stores = field(line, 9);
+    if stores.len() == 0 {
+        return ALL;
+    }
+    fields::number(stores)
+}
+
+// The carrying out that this call names, on the line's block.
 fn carry_by(
     call: u8,
+    line: &[u8],
     patch: &mut [u8],
     full: &mut [u8],
     map: &mut [u8],
-    block: usize,
     kind: u32,
     payload: &[u8],
     page: &[u8],
 ) -> Written {
+    let block = fields::number(field(line, 4));
+    let stores = told(line);
     if call == KEEP || call == NOTE {
-        return carrying::mapped::carry_out_mapped(patch, full, map, block, kind, payload, page);
+        return carrying::mapped::carry_out_mapped(
+            patch,
+            full,
+            map,
+            block,
+            kind,
+            payload,
+            page,
+            stores,
+        );
     }
-    carrying::carry_out(patch, full, block, kind, payload, page)
+    carrying::carry_out(patch, full, block, kind, payload, page, stores)
 }
 
 // How much of Compare's buffer is its payload.
@@ -143,7 +172,6 @@ fn payload_length(kind: Kind, length: usize) -> usize {
 
 // write | name | patch | full | block | base | page, and keep with one more, | map. What Compare decides is carried out.
 fn write(call: u8, line: &[u8], patch: &mut [u8], full: &mut [u8], map: &mut [u8]) {
-    let block = fields::number(field(line, 4));
     let base = buffer(field(line, 5));
     let base_bytes = base.bytes;
     let page = buffer(field(line, 6));
@@ -164,10 +192,10 @@ fn write(call: u8, line: &[u8], patch: &mut [u8], full: &mut [u8], map: &mut [u8
             say::word(b"out");
             answers::written(carry_by(
                 call,
+                line,
                 patch,
                 full,
                 map,
-                block,
                 layout::number::kind_number(kind),
                 span::part(room, 0, payload_length(kind, length)),
                 modified,
@@ -178,7 +206,6 @@ fn write(call: u8, line: &[u8], patch: &mut [u8], full: &mut [u8], map: &mut [u8
 
 // out | name | patch | full | block | payload | page | | kind, and note with the map before the kind
 fn out(call: u8, line: &[u8], patch: &mut [u8], full: &mut [u8], map: &mut [u8]) {
-    let block = fields::number(field(line, 4));
     let payload = buffer(field(line, 5));
     let payload_bytes = payload.bytes;
     let page = buffer(field(line, 6));
@@ -186,10 +213,10 @@ fn out(call: u8, line: &[u8], patch: &mut [u8], full: &mut [u8], map: &mut [u8])
     let kind = fields::number(field(line, 8));
     answers::written(carry_by(
         call,
+        line,
         patch,
         full,
         map,
-        block,
         (kind % 4294967296) as u32,
         span::part(&payload_bytes, 0, payload.length),
         span::part(&page_bytes, 0, page.length),
@@ -206,7 +233,7 @@ fn cut(call: u8, line: &[u8], patch: &mut [u8], full: &mut [u8], map: &mut [u8])
     answers::shortened(cutting::cut(patch, full, k));
 }
 
-// The calls that change the areas, of which format | name | patch | full takes nothing else. It answers whether this was one.
+// The calls that change the areas, of which format and zero | name | patch | full take nothing else. It answers whether this was one.
 fn store(call: u8, line: &[u8], patch: &mut [u8], full: &mut [u8], map: &mut [u8]) -> bool {
     if call == FORMAT {
         answers::formatted(store::format::format(patch, full));
@@ -222,6 +249,10 @@ fn store(call: u8, line: &[u8], patch: &mut [u8], full: &mut [u8], map: &mut [u8
     }
     if call == CUT || call == TRIM {
         cut(call, line, patch, full, map);
+        return true;
+    }
+    if call == SWEEP {
+        answers::swept(sweeping::sweep(patch, full));
         return true;
     }
     false
@@ -295,7 +326,7 @@ fn run_all(text: &[u8]) {
 }
 
 fn main() {
-    let mut text = io::large_buffer();
+    let mut text = [0u8; TEXT_ROOM];
     let n = io::read_full(0, &mut text);
     run_all(&text[..n]);
 }
