@@ -111,8 +111,9 @@ impl AreaFiles {
         Ok(())
     }
 
-    /// A whole write that a power cut can stop anywhere: the first store is on disk before the second one
-    /// is made.
+    /// A whole write of which the first store is on disk before the second one is made. A power cut between
+    /// the two leaves what a sweep clears up; one in the middle of a page can still tear it, where a full
+    /// page replaces a full page.
     fn write_safely(&mut self, block: u64, decision: &Decision<'_>) -> Outcome<()> {
         self.carry_out(block, decision, Stores::One)?;
         match decision.kind() {

@@ -45,7 +45,7 @@ usage: trial decide BASE CHANGED [--names FILE] [--live]
   compare  says whether both folders hold the same files with the same bytes
   blocks   checks KEPT and lists its blocks: file, number, kind, and whether it has a place for a page
   write    makes the page PAGE of the file FROM that of BLOCK of FILE in KEPT: the area files are mapped,
-           and the write is safe against a power cut
+           and the first store is on disk before the second one is made
   read     reads BLOCK of FILE from KEPT over BASE, into the file TO
   sweep    clears up in KEPT after a write that was stopped: pages to which no slot refers are removed,
            and KEPT is checked. Do not sweep where no write was stopped: a page whose slot was lost
