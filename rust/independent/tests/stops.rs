@@ -118,7 +118,9 @@ type Block = (&'static [u8], u8);
 
 /// Block and decision, the answer, what stands after one store, and what stands after all of them, with
 /// the map.
-const WRITES: [(u64, Decision, [u32; 3], Block, (Block, u8)); 11] = [
+type Write = (u64, Decision, [u32; 3], Block, (Block, u8));
+
+const WRITES: [Write; 11] = [
     (0, EMPTY, [0, 0, 0], (&[], 0), ((&[], 0), 0b10_01_10_00)),
     (0, PATCH, [0, 1, 2], (PATCH_SLOT, 0), ((PATCH_SLOT, 0), 0b10_01_10_10)),
     (0, NINES, [0, 2, 0], (&[], 9), ((&[2], 9), 0b10_01_10_01)),
