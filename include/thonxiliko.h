@@ -14,12 +14,13 @@
  * its page in the base and decides what it takes, nothing, a patch or a full page; thx_carry_out
  * stores what was decided. In between, the caller may show it or leave it. thx_read reads the page
  * back, over the same page in the base. Where the data file has become shorter, thx_cut drops the
- * blocks past its end; thx_highest tells up to which block anything is kept. thx_build checks a
- * whole store and makes a map that tells for each block where its page is. A program that keeps
- * this map lends it to every write and every cut, by thx_carry_out_mapped and thx_cut_mapped, and
- * may then read by it, with thx_read_mapped. thx_show and thx_next look into a slot: where its
- * bytes lie, and what they say. Both areas, the map and all pages are the caller's memory. The
- * library opens no file, allocates nothing and keeps nothing between two calls.
+ * blocks past its end; thx_highest tells up to which block anything is kept. thx_sweep clears up
+ * after a write that was stopped halfway. thx_build checks a whole store and makes a map that tells
+ * for each block where its page is. A program that keeps this map lends it to every write and every
+ * cut, by thx_carry_out_mapped and thx_cut_mapped, and may then read by it, with thx_read_mapped.
+ * thx_show and thx_next look into a slot: where its bytes lie, and what they say. Both areas, the
+ * map and all pages are the caller's memory. The library opens no file, allocates nothing and keeps
+ * nothing between two calls.
  *
  *
  * LINKING
@@ -68,7 +69,8 @@
  *   kind 1  PATCH      flags 1, payload length 1 to 504, zero after the payload.
  *   kind 2  FULL_REF   the page stands in the full area. Every other byte is zero.
  *
- * In the full area the place of a block that is not FULL_REF is all zeros.
+ * In the full area the place of a block that is not FULL_REF is all zeros. Only a write that was
+ * stopped can leave a page there, until thx_sweep removes it.
  *
  * A payload is a row of entries, each a jump and a value byte. A jump of 0 to 254 is one byte. A
  * jump of 255 to 65,535 is the byte 255 and then the jump in 16 bits, low byte first: the long
@@ -99,7 +101,8 @@
  *   thx_written w = {c.number, 0, 0};
  *   if (c.number == THX_DONE)
  *       w = thx_carry_out(patch, patch_len, full, full_len, block, c.kind, buffer,
- *                         c.kind == THX_DIFFERENCE_PATCH ? c.length : 0, page, page_len);
+ *                         c.kind == THX_DIFFERENCE_PATCH ? c.length : 0, page, page_len,
+ *                         THX_STORES_ALL);
  *
  * Between the two, c.kind is what would be stored: with THX_DIFFERENCE_LARGE it would take a full
  * page. To leave it, do not carry it out. So:
@@ -133,14 +136,15 @@
  *
  *   - begin with n / 4 bytes, rounded up, of zeros beside areas that were just formatted, or with
  *     the map that thx_build makes of areas that come from elsewhere, from disk for instance;
- *   - lend it to EVERY write from then on, by thx_carry_out_mapped, and to EVERY cut, by
- *     thx_cut_mapped;
+ *   - lend it to EVERY write from then on, by thx_carry_out_mapped told all stores, and to EVERY
+ *     cut, by thx_cut_mapped;
  *   - then it is, after each of these writes and cuts, the map that thx_build would make, and
  *     thx_read_mapped answers as thx_read does. A refused one leaves it as it is, and right.
  *
  * Nothing in a map says which store it belongs to or how old it is, and thx_read_mapped trusts it.
- * A single write by thx_carry_out, a thx_cut, a thx_format, a map of another store, or areas put
- * back to an earlier state make it wrong, and a read by it is then mostly not refused:
+ * A single write by thx_carry_out, a write that was stopped, a thx_cut, a thx_format, a map of
+ * another store, or areas put back to an earlier state make it wrong, and a read by it is then
+ * mostly not refused:
  *
  *   pair 0   gives the base, though the block was written: yesterday's page, in silence. The slot
  *            is not looked at.
@@ -148,8 +152,8 @@
  *   pair 2   is refused with 6 unless the slot is a sound PATCH slot; with another sound PATCH slot
  *            it is as right as that slot.
  *
- * Where a map may have missed a write or a cut, build it anew. Do not keep it in a file that can be
- * older than the areas: opening a store is the time to build it.
+ * Where a map may have missed a write or a cut, and after a sweep, build it anew. Do not keep it in
+ * a file that can be older than the areas: opening a store is the time to build it.
  *
  *
  * CUTTING A TABLE SHORT
@@ -183,6 +187,60 @@
  * thx_highest for what it is: from that block on there is nothing but the base.
  *
  *
+ * A WRITE THAT IS STOPPED
+ *
+ * A process is killed or the power goes, and a write has been made in part. Carrying out is at most
+ * two whole stores, one after the other:
+ *
+ *   kind               first store                        second store
+ *   FULL_REF           the page into the block's place    the slot
+ *   EMPTY and PATCH    the slot                           zeros into the block's place; a block
+ *                                                         that is not below m has none
+ *
+ * It is told by `stores` how many of them to make: 0, 1 or, by any other number, all. A write that
+ * is told fewer is a stop, so each state that a stop leaves can be made and looked at. Refusals and
+ * answer are the same whatever is told. Where this page speaks of a write and says nothing of a
+ * stop, the write is told all.
+ *
+ *   - Told 0, nothing changes. Told 1, the first store is made.
+ *   - A map that is lent is changed only when told all. 1 is never all, even where one store is all
+ *     there is: EMPTY or PATCH on a block that is not below m, told 1, is the whole write but for
+ *     the map.
+ *   - After a stop thx_read gives the block as before the write, or as after the whole of it, and
+ *     every other block as before.
+ *   - What a stop can leave is a page in the place of a block that is not FULL_REF: a new page that
+ *     has no slot yet, or an old one that has none any more. thx_build gives 10 then.
+ *
+ * thx_sweep zeroes every such place. Say that one write was stopped in a run of writes and cuts
+ * from fresh areas, and that others came after it or none. After the sweep both areas are, byte for
+ * byte, those of the run with that write whole, or those of the run without it. Without it, if it
+ * was told 0, or told 1 with FULL_REF on a block whose slot was not FULL_REF; else with it. So
+ * after a trip: sweep, build the map, and write again what may be missing.
+ *
+ *   - BUILD THE MAP ANEW AFTER A SWEEP. The write that was stopped has not set its pair. Where a
+ *     FULL_REF block was to become PATCH, was told 1 and was swept, its pair is still 1, its place
+ *     is zeros, and thx_read_mapped gives this page of zeros in silence: neither the old page nor
+ *     the new one. Where an EMPTY block became PATCH its pair is 0 and gives the base.
+ *   - SWEEP ONLY WHERE A WRITE MAY HAVE BEEN STOPPED. After a known stop 10 means: sweep. Without
+ *     one it means that a FULL_REF slot was lost, and the place has the only copy of its page. A
+ *     sweep erases it.
+ *   - MEMORY IS NOT DISK. The two stores are made in this order in memory. In a file that is mapped
+ *     the second may reach the disk first: the zeros before the slot, say, and after a power cut
+ *     the block is FULL_REF and reads as zeros. Nothing here can see to that. To make a stop safe
+ *     on files, carry the write out twice, with a sync after each:
+ *
+ *       1. told 1, then sync the area that it wrote: for FULL_REF the full area, else the patch
+ *          area;
+ *       2. the same told all, then sync both areas. Only then comes the next write.
+ *
+ *     A write told 1 and then the same told all are together the whole write. This trusts that what
+ *     was synced is on disk, and that a disk writes 512 bytes, a slot, whole or not at all. A page
+ *     may still be torn where FULL_REF replaces FULL_REF: the new page overwrites the old one.
+ *   - No store is itself cut here. Nothing is promised of a kill in the middle of one, nor of a cut
+ *     that is stopped. A cut can be made again with the same k: it does not look at what it drops.
+ *     A sweep can be made again, too.
+ *
+ *
  * ANSWERS
  *
  * Every function but thx_show, which has no number, answers with a struct whose first member
@@ -196,13 +254,15 @@
  *    3  THX_BAD_HEADER        magic, flags, sizes or zero bytes of a header are wrong
  *    4  THX_BAD_VERSION       the version in a header is wrong
  *    5  THX_BAD_BLOCK         the block is not below n (a cut: k is above n)
- *    6  THX_BAD_SLOT          the slot is not sound (thx_highest: some slot is not; carrying out:
- *                             the kind is above 2, so that it would make no sound slot)
+ *    6  THX_BAD_SLOT          the slot is not sound (thx_highest and thx_sweep: some slot is not;
+ *                             carrying out: the kind is above 2, so that it would make no sound
+ *                             slot)
  *    7  THX_BAD_PAYLOAD       the payload is not sound (thx_next: no entry can be read here)
- *    8  THX_NO_FULL_PAGE      a full page is needed for a block that is not below m
+ *    8  THX_NO_FULL_PAGE      a full page is needed for a block that is not below m (thx_sweep: for
+ *                             some block)
  *    9  THX_SHORT_BUFFER      the payload buffer or the map buffer is too short
  *   10  THX_STRAY_PAGE        thx_build: the block's place in the full area is not zero although
- *                             its slot is not FULL_REF
+ *                             its slot is not FULL_REF: see A WRITE THAT IS STOPPED
  *   11  THX_BAD_PAIR          a pair of the map is 3, or a pair past n is not 0
  *
  * Order. Where several refusals apply, the first one in this order is given:
@@ -210,7 +270,7 @@
  * thx_read_mapped alone has 11 elsewhere, right after 5: it looks at the pair before the slot.
  * "Headers" is six steps: patch magic (3), patch version (4), the rest of the patch header (3),
  * then the same three for the full header. A full area of length 0 has no header to check.
- * thx_build takes blocks in rising order and stops at the first that is at fault.
+ * thx_build and thx_sweep take blocks in rising order and stop at the first that is at fault.
  *
  * On every refusal all buffers keep every byte they had, and every other member of the answer is 0
  * (`last` too), with two exceptions:
@@ -246,10 +306,11 @@
  * thx_read on one store, into two pages. thx_compare is lent no store, so pages may be compared
  * while others are carried out, into a buffer of their own. Two of thx_carry_out on one store may
  * not, even for different blocks, nor two of thx_carry_out_mapped with one map: four blocks share a
- * byte of it. Nor may a cut beside any other call on its store. The library takes no lock.
+ * byte of it. Nor may a cut beside any other call on its store, nor a sweep beside one that is lent
+ * its full area or writes its patch area. The library takes no lock.
  *
  * Numbers may be anything that their type holds: a block, a k, an n or a kind that is too large is
- * refused, and thx_next takes any place and any position.
+ * refused, thx_next takes any place and any position, and carrying out any number of stores.
  */
 #ifndef THONXILIKO_H
 #define THONXILIKO_H
@@ -289,6 +350,11 @@ extern "C" {
 #define THX_KIND_EMPTY 0
 #define THX_KIND_PATCH 1
 #define THX_KIND_FULL 2
+
+/* How many stores carrying out makes. Any number but 0 and 1 means all. */
+#define THX_STORES_NONE 0
+#define THX_STORES_ONE 1
+#define THX_STORES_ALL 2
 
 /* Kinds of a difference, in the answer of thx_compare; carried out, each makes that slot. */
 #define THX_DIFFERENCE_SAME 0
@@ -433,7 +499,8 @@ thx_reading thx_read(const uint8_t *patch, size_t patch_len, const uint8_t *full
  * Nothing of the old block is looked at, so an old slot that is not sound is replaced as any other.
  * `kind` is THX_KIND_EMPTY, THX_KIND_PATCH or THX_KIND_FULL. The payload is looked at for PATCH
  * alone, and is all payload_len bytes; the page is looked at for FULL_REF alone. What is not looked
- * at refuses nothing, whatever its length and its bytes: NULL and 0 will do.
+ * at refuses nothing, whatever its length and its bytes: NULL and 0 will do. `stores` is 0, 1 or,
+ * by any other number, all. Fewer than all is a stop: see A WRITE THAT IS STOPPED.
  * Refuses, in this order: 1 if the kind is FULL_REF and page_len is not 8,192; 2 if the length of
  * an area is wrong; 3 or 4 for the headers; 5 if the block is not below n; 6 if the kind is above
  * 2; 8 if the kind is FULL_REF and the block is not below m; 7 if the kind is PATCH and the payload
@@ -441,32 +508,52 @@ thx_reading thx_read(const uint8_t *patch, size_t patch_len, const uint8_t *full
  * with 7.
  * Writes: the block's slot, which becomes the sound one: zeros for EMPTY, a PATCH slot with this
  * payload, or FULL_REF; and, if the block is below m, its place in the full area: the page for
- * FULL_REF, zeros otherwise. Nothing else.
+ * FULL_REF, zeros otherwise. Nothing else. For FULL_REF the place comes first, else the slot. Told
+ * 1, the first of them alone is written; told 0, nothing.
  * Answers: kind    stored, which is the one given;
  *          length  of the payload for PATCH; 0 for EMPTY and FULL_REF, whatever was lent.
+ *          Both are the same whatever `stores` is.
  */
 thx_written thx_carry_out(uint8_t *patch, size_t patch_len, uint8_t *full, size_t full_len,
                           uint64_t block, uint32_t kind, const uint8_t *payload,
-                          size_t payload_len, const uint8_t *page, size_t page_len);
+                          size_t payload_len, const uint8_t *page, size_t page_len,
+                          uint64_t stores);
 
 /*
  * Carry out with a map: store a decision on a block, and the block's pair in `map`.
  *
- * The areas and the answer are those of thx_carry_out, and so is what is looked at. `map` is the
- * store's own, lent to every write and every cut: see A MAP THAT IS KEPT.
+ * The areas and the answer are those of thx_carry_out with as many stores, and so is what is looked
+ * at. `map` is the store's own, lent to every write and every cut: see A MAP THAT IS KEPT.
  * Refuses, in this order: 1 if the kind is FULL_REF and page_len is not 8,192; 2 if the length of
  * an area is wrong; 9 if map_len is below n / 4, rounded up; 3 or 4 for the headers; 5 if the block
  * is not below n; 6 if the kind is above 2; 8 if the kind is FULL_REF and the block is not below m;
  * 7 if the kind is PATCH and the payload is not sound. No offset is given with 7.
- * Writes: what thx_carry_out writes; then the block's own pair, whatever it was: THX_PAIR_EMPTY,
- * THX_PAIR_PATCH or THX_PAIR_FULL for the kind stored. Nothing else of the map is looked at or
- * changed: other pairs, unused pairs of the last byte and later bytes stay, a 3 among them too.
+ * Writes: what thx_carry_out writes; then, told all, the block's own pair, whatever it was:
+ * THX_PAIR_EMPTY, THX_PAIR_PATCH or THX_PAIR_FULL for the kind stored. Nothing else of the map is
+ * looked at or changed: other pairs, unused pairs of the last byte and later bytes stay, a 3 among
+ * them too. Told 0 or 1 the whole map stays.
  * Answers: kind and length, as in thx_carry_out.
  */
 thx_written thx_carry_out_mapped(uint8_t *patch, size_t patch_len, uint8_t *full, size_t full_len,
                                  uint8_t *map, size_t map_len, uint64_t block, uint32_t kind,
                                  const uint8_t *payload, size_t payload_len, const uint8_t *page,
-                                 size_t page_len);
+                                 size_t page_len, uint64_t stores);
+
+/*
+ * Sweep: clear up after a write that was stopped.
+ *
+ * Only where a write may have been stopped, and the map is built anew afterwards: see A WRITE THAT
+ * IS STOPPED. The patch area is only read. Every block reads as before.
+ * Refuses, in this order: 2 if the length of an area is wrong; 3 or 4 for the headers; then block
+ * by block in rising order, stopping at the first fault, and for one block 6 if its slot is not
+ * sound, 8 if it is FULL_REF and not below m. All n slots are checked, also where the full area is
+ * absent. No payload is looked at, and a page where none should be is no fault.
+ * Writes: zeros into the place of each block below m that is not FULL_REF. Nothing else: the header
+ * and the places of FULL_REF blocks keep every byte. In a store that thx_build accepts nothing
+ * changes, nor does it when swept again.
+ * Answers: the number alone; no block is named.
+ */
+thx_done thx_sweep(const uint8_t *patch, size_t patch_len, uint8_t *full, size_t full_len);
 
 /*
  * Read by the map: fill `page` with a block as its pair in the map says.

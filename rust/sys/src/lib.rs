@@ -82,6 +82,7 @@ extern "C" {
         payload_len: usize,
         page: *const u8,
         page_len: usize,
+        stores: u64,
     ) -> thx_written;
 
     pub fn thx_carry_out_mapped(
@@ -97,6 +98,7 @@ extern "C" {
         payload_len: usize,
         page: *const u8,
         page_len: usize,
+        stores: u64,
     ) -> thx_written;
 
     pub fn thx_read_mapped(
@@ -112,6 +114,13 @@ extern "C" {
         page: *mut u8,
         page_len: usize,
     ) -> thx_reading;
+
+    pub fn thx_sweep(
+        patch: *const u8,
+        patch_len: usize,
+        full: *mut u8,
+        full_len: usize,
+    ) -> thx_done;
 
     pub fn thx_cut(
         patch: *mut u8,

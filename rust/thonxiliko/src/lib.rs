@@ -25,6 +25,10 @@
 //! it to every write ([`carry_out_mapped`]) and every cut ([`cut_mapped`]) and may then read by it
 //! ([`read_mapped`]).
 //!
+//! A write is at most two whole stores, and can be told to make fewer of them ([`Stores`]), as a
+//! process does that ends in between. The block then reads as before or as its new page. [`sweep`] clears
+//! up behind such a stop.
+//!
 //! Where the data file has become shorter, [`cut`] drops the blocks past its end. [`highest`] tells up
 //! to which block anything is kept, which is not always the file's length.
 //!
@@ -33,7 +37,7 @@
 //!
 //! ```
 //! use thonxiliko::{build, carry_out, compare, format, patch_area_len, read, tally};
-//! use thonxiliko::{Kind, PAGE_SIZE, PAYLOAD_SIZE};
+//! use thonxiliko::{Kind, Stores, PAGE_SIZE, PAYLOAD_SIZE};
 //!
 //! // A store for four blocks without a full area.
 //! let mut patch = vec![0; patch_area_len(4)];
@@ -47,7 +51,7 @@
 //! let mut payload = [0; PAYLOAD_SIZE];
 //! let decision = compare(&base, &page, &mut payload)?;
 //! assert_eq!(decision.kind(), Kind::Patch);
-//! let written = carry_out(&mut patch, &mut full, 2, &decision)?;
+//! let written = carry_out(&mut patch, &mut full, 2, &decision, Stores::All)?;
 //! assert_eq!((written.kind, written.length), (Kind::Patch, 2));
 //!
 //! // It reads back over the same base.
@@ -186,6 +190,38 @@ impl Pair {
     }
 }
 
+/// How many of its stores a write makes. [`Stores::All`] is the whole write, the others are stops.
+///
+/// A write is at most two whole stores, in this order: for [`Kind::Full`] the page into the block's place
+/// in the full area and then the slot; for the other kinds the slot and then zeros into the place. A
+/// block that is not below the full area's number of pages has no place, so there the slot is all.
+///
+/// Whatever is told, refusals and answer are the same. After a stop [`read`] gives the block as before
+/// the write or as after the whole of it, and every other block as before. [`build`] may find a page to
+/// which no slot refers ([`Refusal::StrayPage`]), and a map that was kept may be wrong. So [`sweep`], then
+/// [`build`] the map anew.
+///
+/// Told [`Stores::One`] and then, the same, [`Stores::All`], a write is whole. That is the way to make a
+/// stop safe where the areas are mapped files: what is stored first need not be on disk first. Between
+/// the two calls sync the area that was written, the full area for [`Kind::Full`], else the patch area,
+/// and afterwards the other one.
+#[derive(Clone, Copy, Debug, PartialEq, Eq, Hash)]
+pub enum Stores {
+    /// None: nothing changes.
+    None = 0,
+    /// The first one. A map that is lent stays as it is, also where one store is all there is.
+    One = 1,
+    /// All of them, and the block's pair in a map that is lent.
+    All = 2,
+}
+
+impl Stores {
+    /// The number by which the C interface is told: 0, 1 or 2. There any other number means all, too.
+    pub fn number(self) -> u64 {
+        self as u64
+    }
+}
+
 /// Why a call was refused. Later versions of the library have more numbers.
 #[derive(Clone, Copy, Debug, PartialEq, Eq, Hash)]
 #[non_exhaustive]
@@ -200,15 +236,16 @@ pub enum Refusal {
     Version = 4,
     /// The store has no such block; for a cut, it has fewer blocks than are to be left.
     Block = 5,
-    /// The slot is not sound; for [`highest`], some slot is not.
+    /// The slot is not sound; for [`highest`] and [`sweep`], some slot is not.
     Slot = 6,
     /// The payload is not sound; see [`apply`].
     Payload = 7,
-    /// The full area has no place for this block's page.
+    /// The full area has no place for this block's page; for [`sweep`], for that of some block.
     NoFullPage = 8,
     /// The payload buffer or the map buffer is too short.
     ShortBuffer = 9,
-    /// The block's place in the full area holds bytes although its slot does not refer to it.
+    /// The block's place in the full area holds bytes although its slot does not refer to it. After a
+    /// write that is known to have been stopped, [`sweep`] removes them.
     StrayPage = 10,
     /// A pair of the map is 3, or a pair past the last block is not 0.
     Pair = 11,
@@ -363,7 +400,7 @@ pub struct Compared {
 /// The right caller. Each of the others below differs from it in a line or two:
 ///
 /// ```
-/// use thonxiliko::{carry_out, compare, format, patch_area_len, read, Kind, PAGE_SIZE};
+/// use thonxiliko::{carry_out, compare, format, patch_area_len, read, Kind, Stores, PAGE_SIZE};
 ///
 /// let mut patch = vec![0; patch_area_len(1)];
 /// format(&mut patch, &mut [])?;
@@ -372,7 +409,7 @@ pub struct Compared {
 /// let mut buffer = [0; 504];
 ///
 /// let decision = compare(&[5; PAGE_SIZE], &page, &mut buffer)?;
-/// carry_out(&mut patch, &mut [], 0, &decision)?;
+/// carry_out(&mut patch, &mut [], 0, &decision, Stores::All)?;
 ///
 /// assert_eq!(decision.payload(), [0x00, 0x07]);
 /// let mut again = [0; PAGE_SIZE];
@@ -385,14 +422,14 @@ pub struct Compared {
 /// EMPTY: its page would be lost. Here the `?` cannot be left out:
 ///
 /// ```compile_fail,E0308
-/// # use thonxiliko::{carry_out, compare, format, patch_area_len, read, Kind, PAGE_SIZE};
+/// # use thonxiliko::{carry_out, compare, format, patch_area_len, read, Kind, Stores, PAGE_SIZE};
 /// # let mut patch = vec![0; patch_area_len(1)];
 /// # format(&mut patch, &mut [])?;
 /// # let mut page = [5; PAGE_SIZE];
 /// # page[0] = 7;
 /// # let mut buffer = [0; 504];
 /// let decision = compare(&[5; PAGE_SIZE], &page, &mut buffer);
-/// carry_out(&mut patch, &mut [], 0, &decision)?;
+/// carry_out(&mut patch, &mut [], 0, &decision, Stores::All)?;
 /// # Ok::<(), thonxiliko::Refusal>(())
 /// ```
 ///
@@ -400,7 +437,7 @@ pub struct Compared {
 /// entries, which would make bytes 1 to 251 zero. Here no decision is made by hand:
 ///
 /// ```compile_fail,E0451
-/// # use thonxiliko::{carry_out, compare, format, patch_area_len, read, Kind, PAGE_SIZE};
+/// # use thonxiliko::{carry_out, compare, format, patch_area_len, read, Kind, Stores, PAGE_SIZE};
 /// # let mut patch = vec![0; patch_area_len(1)];
 /// # format(&mut patch, &mut [])?;
 /// # let mut page = [5; PAGE_SIZE];
@@ -408,14 +445,14 @@ pub struct Compared {
 /// # let mut buffer = [0; 504];
 /// let compared = compare(&[5; PAGE_SIZE], &page, &mut buffer)?.compared();
 /// let decision = thonxiliko::Decision { compared, payload: &buffer, page: &page };
-/// carry_out(&mut patch, &mut [], 0, &decision)?;
+/// carry_out(&mut patch, &mut [], 0, &decision, Stores::All)?;
 /// # Ok::<(), thonxiliko::Refusal>(())
 /// ```
 ///
 /// Nor does one that was made become another:
 ///
 /// ```compile_fail,E0616
-/// # use thonxiliko::{carry_out, compare, format, patch_area_len, read, Kind, PAGE_SIZE};
+/// # use thonxiliko::{carry_out, compare, format, patch_area_len, read, Kind, Stores, PAGE_SIZE};
 /// # let mut patch = vec![0; patch_area_len(1)];
 /// # format(&mut patch, &mut [])?;
 /// # let mut page = [5; PAGE_SIZE];
@@ -424,14 +461,14 @@ pub struct Compared {
 /// # let whole = [0; 504];
 /// let mut decision = compare(&[5; PAGE_SIZE], &page, &mut buffer)?;
 /// decision.payload = &whole;
-/// carry_out(&mut patch, &mut [], 0, &decision)?;
+/// carry_out(&mut patch, &mut [], 0, &decision, Stores::All)?;
 /// # Ok::<(), thonxiliko::Refusal>(())
 /// ```
 ///
 /// And neither the buffer nor the page changes between the two calls:
 ///
 /// ```compile_fail,E0506
-/// # use thonxiliko::{carry_out, compare, format, patch_area_len, read, Kind, PAGE_SIZE};
+/// # use thonxiliko::{carry_out, compare, format, patch_area_len, read, Kind, Stores, PAGE_SIZE};
 /// # let mut patch = vec![0; patch_area_len(1)];
 /// # format(&mut patch, &mut [])?;
 /// # let mut page = [5; PAGE_SIZE];
@@ -439,12 +476,12 @@ pub struct Compared {
 /// # let mut buffer = [0; 504];
 /// let decision = compare(&[5; PAGE_SIZE], &page, &mut buffer)?;
 /// buffer[1] = 8;
-/// carry_out(&mut patch, &mut [], 0, &decision)?;
+/// carry_out(&mut patch, &mut [], 0, &decision, Stores::All)?;
 /// # Ok::<(), thonxiliko::Refusal>(())
 /// ```
 ///
 /// ```compile_fail,E0506
-/// # use thonxiliko::{carry_out, compare, format, patch_area_len, read, Kind, PAGE_SIZE};
+/// # use thonxiliko::{carry_out, compare, format, patch_area_len, read, Kind, Stores, PAGE_SIZE};
 /// # let mut patch = vec![0; patch_area_len(1)];
 /// # format(&mut patch, &mut [])?;
 /// # let mut page = [5; PAGE_SIZE];
@@ -452,7 +489,7 @@ pub struct Compared {
 /// # let mut buffer = [0; 504];
 /// let decision = compare(&[5; PAGE_SIZE], &page, &mut buffer)?;
 /// page[0] = 8;
-/// carry_out(&mut patch, &mut [], 0, &decision)?;
+/// carry_out(&mut patch, &mut [], 0, &decision, Stores::All)?;
 /// # Ok::<(), thonxiliko::Refusal>(())
 /// ```
 ///
@@ -539,7 +576,8 @@ pub struct Judged {
     pub length: usize,
 }
 
-/// What [`carry_out`] or [`carry_out_mapped`] stored.
+/// What [`carry_out`] or [`carry_out_mapped`] stored; told fewer stores than all, what the whole write
+/// would have.
 #[derive(Clone, Copy, Debug, PartialEq, Eq)]
 pub struct Written {
     /// The kind stored.
@@ -864,7 +902,7 @@ pub fn judge(slot: &[u8]) -> Result<Judged, Refusal> {
 /// page[0] = 7;
 /// let mut payload = [0; thonxiliko::PAYLOAD_SIZE];
 /// let decision = thonxiliko::compare(&[], &page, &mut payload)?;
-/// thonxiliko::carry_out(&mut patch, &mut [], 0, &decision)?;
+/// thonxiliko::carry_out(&mut patch, &mut [], 0, &decision, thonxiliko::Stores::All)?;
 /// assert_eq!(thonxiliko::show(&patch, 0), Some(&[0x00, 0x07][..]));
 /// # Ok::<(), thonxiliko::Refusal>(())
 /// ```
@@ -928,6 +966,9 @@ pub fn read(
 
 /// Carries out a decision: stores on a block what [`compare`] decided.
 ///
+/// Told [`Stores::All`] it is the whole write, of which this page speaks; told fewer it is stopped after
+/// as many stores, with the same refusals and the same answer. See [`Stores`].
+///
 /// The block's slot is set: all zeros for [`Kind::Empty`], the payload for [`Kind::Patch`], a reference
 /// for [`Kind::Full`]. If the block has a place in the full area, that holds the page for [`Kind::Full`]
 /// and zeros otherwise. Nothing else changes. What the block held before is not looked at, so a slot that
@@ -939,7 +980,7 @@ pub fn read(
 ///
 /// ```
 /// use thonxiliko::{carry_out, compare, format, full_area_len, patch_area_len};
-/// use thonxiliko::{Kind, Refusal, Written, PAGE_SIZE, PAYLOAD_SIZE};
+/// use thonxiliko::{Kind, Refusal, Stores, Written, PAGE_SIZE, PAYLOAD_SIZE};
 ///
 /// let mut patch = vec![0; patch_area_len(2)];
 /// let mut full = vec![0; full_area_len(1)];
@@ -950,10 +991,21 @@ pub fn read(
 /// assert_eq!(decision.kind(), Kind::Full);
 /// assert_eq!(full[4_096], 0); // nothing is stored yet
 ///
-/// let written = carry_out(&mut patch, &mut full, 0, &decision)?;
+/// let written = carry_out(&mut patch, &mut full, 0, &decision, Stores::All)?;
 /// assert_eq!(written, Written { kind: Kind::Full, length: 0 });
-/// assert_eq!(full[4_096..], page);
-/// assert_eq!(carry_out(&mut patch, &mut full, 1, &decision), Err(Refusal::NoFullPage));
+/// assert_eq!((patch[512], &full[4_096..]), (2, &page[..]));
+///
+/// // A write that makes the block EMPTY is stopped between its two stores.
+/// let mut other = [0; PAYLOAD_SIZE];
+/// let empty = compare(&[], &[0; PAGE_SIZE], &mut other)?;
+/// carry_out(&mut patch, &mut full, 0, &empty, Stores::One)?;
+/// assert_eq!((patch[512], &full[4_096..]), (0, &page[..]));
+/// // The same again, told all, is the whole write.
+/// carry_out(&mut patch, &mut full, 0, &empty, Stores::All)?;
+/// assert_eq!((patch[512], full[4_096]), (0, 0));
+///
+/// let refused = carry_out(&mut patch, &mut full, 1, &decision, Stores::All);
+/// assert_eq!(refused, Err(Refusal::NoFullPage));
 /// # Ok::<(), Refusal>(())
 /// ```
 pub fn carry_out(
@@ -961,6 +1013,7 @@ pub fn carry_out(
     full: &mut [u8],
     block: u64,
     decision: &Decision<'_>,
+    stores: Stores,
 ) -> Result<Written, Refusal> {
     // SAFETY: as in `format`.
     let written = unsafe {
@@ -975,6 +1028,7 @@ pub fn carry_out(
             decision.payload.len(),
             decision.page.as_ptr(),
             decision.page.len(),
+            stores.number(),
         )
     };
     accepted(written.number)?;
@@ -983,12 +1037,14 @@ pub fn carry_out(
 
 /// Carries out a decision, and keeps the block's pair in `map`.
 ///
-/// It does to both areas what [`carry_out`] does. If it is done, the block's own pair is set to what was
-/// stored, whatever it was before. Other pairs and later bytes of the map are not looked at and stay.
+/// It does to both areas what [`carry_out`] does. If it is done, and was told [`Stores::All`], the block's
+/// own pair is set to what was stored, whatever it was before. Other pairs and later bytes of the map are
+/// not looked at and stay. Told fewer stores it leaves the whole map.
 ///
 /// A map tells the truth only if it is the store's own: all zeros beside fresh areas, else made by
-/// [`build`], and lent to every write and every cut since. After one of them without it, or with another
-/// store's map, [`read_mapped`] can give the page of before, or zeros. Build it anew then.
+/// [`build`], and lent to every write and every cut since. After one of them without it, after a write
+/// that was stopped, or with another store's map, [`read_mapped`] can give the page of before, or zeros.
+/// Build it anew then.
 ///
 /// Refuses, in this order: [`Refusal::AreaLength`], [`Refusal::ShortBuffer`] if the map has less than
 /// [`map_len`] bytes, [`Refusal::Header`] and [`Refusal::Version`], [`Refusal::Block`], and
@@ -996,7 +1052,7 @@ pub fn carry_out(
 ///
 /// ```
 /// use thonxiliko::{build, carry_out_mapped, compare, format, full_area_len, map_len};
-/// use thonxiliko::{patch_area_len, Refusal, PAGE_SIZE, PAYLOAD_SIZE};
+/// use thonxiliko::{patch_area_len, Refusal, Stores, PAGE_SIZE, PAYLOAD_SIZE};
 ///
 /// let mut patch = vec![0; patch_area_len(3)];
 /// let mut full = vec![0; full_area_len(1)];
@@ -1009,10 +1065,10 @@ pub fn carry_out(
 /// let (mut first, mut second) = ([0; PAYLOAD_SIZE], [0; PAYLOAD_SIZE]);
 /// let large = compare(&[], &large, &mut first)?;
 /// let small = compare(&[], &small, &mut second)?;
-/// carry_out_mapped(&mut patch, &mut full, &mut map, 0, &large)?;
-/// carry_out_mapped(&mut patch, &mut full, &mut map, 2, &small)?;
+/// carry_out_mapped(&mut patch, &mut full, &mut map, 0, &large, Stores::All)?;
+/// carry_out_mapped(&mut patch, &mut full, &mut map, 2, &small, Stores::All)?;
 /// assert_eq!(map, [0b00_10_00_01]);
-/// let refused = carry_out_mapped(&mut patch, &mut full, &mut map, 1, &large);
+/// let refused = carry_out_mapped(&mut patch, &mut full, &mut map, 1, &large, Stores::All);
 /// assert_eq!(refused, Err(Refusal::NoFullPage));
 ///
 /// let mut built = vec![0; map_len(3)];
@@ -1026,6 +1082,7 @@ pub fn carry_out_mapped(
     map: &mut [u8],
     block: u64,
     decision: &Decision<'_>,
+    stores: Stores,
 ) -> Result<Written, Refusal> {
     // SAFETY: as in `format`.
     let written = unsafe {
@@ -1042,10 +1099,70 @@ pub fn carry_out_mapped(
             decision.payload.len(),
             decision.page.as_ptr(),
             decision.page.len(),
+            stores.number(),
         )
     };
     accepted(written.number)?;
     Ok(Written { kind: kind(written.kind), length: written.length as usize })
+}
+
+/// Clears up after a write that was stopped: zeroes the place of every block whose slot does not refer to
+/// it, and nothing else. `patch` is only read.
+///
+/// Every block reads as before, and [`build`] gives no [`Refusal::StrayPage`] any more; a store that it
+/// accepts is not changed. Where one write of a run of writes and cuts from fresh areas was stopped, both
+/// areas are, after the sweep, those of the run with that write whole or without it. Without it if it was
+/// told [`Stores::None`], or told [`Stores::One`] with [`Kind::Full`] on a block whose slot did not refer
+/// to a full page; else with it.
+///
+/// No map is lent. Build the map anew: by one from before the stop a block that was full reads as zeros.
+///
+/// Sweep where a stop is known. [`Refusal::StrayPage`] without one means that a slot was lost, and then
+/// the place has the only copy of a page.
+///
+/// Refuses, in this order: [`Refusal::AreaLength`], [`Refusal::Header`] and [`Refusal::Version`]; then, at
+/// the lowest block at fault, [`Refusal::Slot`] or [`Refusal::NoFullPage`], for all blocks, also where
+/// there is no full area. Payloads are not looked at.
+///
+/// ```
+/// use thonxiliko::{build, carry_out_mapped, compare, format, full_area_len, patch_area_len};
+/// use thonxiliko::{read, read_mapped, sweep, Kind, Refusal, Stores, PAGE_SIZE, PAYLOAD_SIZE};
+///
+/// let mut patch = vec![0; patch_area_len(2)];
+/// let mut full = vec![0; full_area_len(2)];
+/// let mut map = [0];
+/// format(&mut patch, &mut full)?;
+/// let (old, mut new) = (vec![9; PAGE_SIZE], vec![0; PAGE_SIZE]);
+/// new[100] = 8;
+/// let (mut first, mut second) = ([0; PAYLOAD_SIZE], [0; PAYLOAD_SIZE]);
+/// let large = compare(&[], &old, &mut first)?;
+/// let small = compare(&[], &new, &mut second)?;
+/// carry_out_mapped(&mut patch, &mut full, &mut map, 0, &large, Stores::All)?;
+///
+/// // Stopped after one store: block 0 has its patch, and the old page still stands in its place.
+/// carry_out_mapped(&mut patch, &mut full, &mut map, 0, &small, Stores::One)?;
+/// let fault = build(&patch, &full, &mut [0]).unwrap_err();
+/// assert_eq!((fault.refusal, fault.block), (Refusal::StrayPage, Some(0)));
+/// sweep(&patch, &mut full)?;
+/// assert_eq!(full[4_096], 0);
+///
+/// // The map did not see it, and gives neither page.
+/// let mut page = vec![1; PAGE_SIZE];
+/// assert_eq!(read_mapped(&patch, &full, &map, 0, &[], &mut page)?, Kind::Full);
+/// assert_eq!(page, [0; PAGE_SIZE]);
+/// build(&patch, &full, &mut map)?;
+/// assert_eq!(read_mapped(&patch, &full, &map, 0, &[], &mut page)?, Kind::Patch);
+/// assert_eq!(page, new);
+///
+/// patch[1_024] = 9; // block 1: no such kind
+/// assert_eq!(sweep(&patch, &mut full), Err(Refusal::Slot));
+/// # Ok::<(), Refusal>(())
+/// ```
+pub fn sweep(patch: &[u8], full: &mut [u8]) -> Result<(), Refusal> {
+    // SAFETY: as in `format`.
+    let done =
+        unsafe { sys::thx_sweep(patch.as_ptr(), patch.len(), full.as_mut_ptr(), full.len()) };
+    accepted(done.number)
 }
 
 /// Fills `page` with a block by what the map says of it.
@@ -1064,7 +1181,7 @@ pub fn carry_out_mapped(
 ///
 /// ```
 /// use thonxiliko::{carry_out_mapped, compare, format, patch_area_len, read_mapped};
-/// use thonxiliko::{Kind, Refusal, PAGE_SIZE, PAYLOAD_SIZE};
+/// use thonxiliko::{Kind, Refusal, Stores, PAGE_SIZE, PAYLOAD_SIZE};
 ///
 /// let mut patch = vec![0; patch_area_len(2)];
 /// format(&mut patch, &mut [])?;
@@ -1074,7 +1191,7 @@ pub fn carry_out_mapped(
 /// changed[0] = 6;
 /// let mut payload = [0; PAYLOAD_SIZE];
 /// let decision = compare(&base, &changed, &mut payload)?;
-/// carry_out_mapped(&mut patch, &mut [], &mut map, 1, &decision)?;
+/// carry_out_mapped(&mut patch, &mut [], &mut map, 1, &decision, Stores::All)?;
 ///
 /// let mut page = vec![0; PAGE_SIZE];
 /// assert_eq!(read_mapped(&patch, &[], &map, 1, &base, &mut page)?, Kind::Patch);
@@ -1131,7 +1248,7 @@ pub fn read_mapped(
 ///
 /// ```
 /// use thonxiliko::{carry_out, compare, cut, format, full_area_len, patch_area_len, read};
-/// use thonxiliko::{Kind, Refusal, PAGE_SIZE, PAYLOAD_SIZE};
+/// use thonxiliko::{Kind, Refusal, Stores, PAGE_SIZE, PAYLOAD_SIZE};
 ///
 /// let mut patch = vec![0; patch_area_len(3)];
 /// let mut full = vec![0; full_area_len(3)];
@@ -1140,7 +1257,7 @@ pub fn read_mapped(
 /// let mut payload = [0; PAYLOAD_SIZE];
 /// let decision = compare(&base, &changed, &mut payload)?;
 /// for block in 0..3 {
-///     carry_out(&mut patch, &mut full, block, &decision)?; // all three have this base
+///     carry_out(&mut patch, &mut full, block, &decision, Stores::All)?; // they have one base
 /// }
 /// cut(&mut patch, &mut full, 1)?;
 ///
@@ -1171,7 +1288,7 @@ pub fn cut(patch: &mut [u8], full: &mut [u8], k: u64) -> Result<(), Refusal> {
 ///
 /// ```
 /// use thonxiliko::{build, carry_out_mapped, compare, cut_mapped, format, map_len};
-/// use thonxiliko::{patch_area_len, Refusal, PAGE_SIZE, PAYLOAD_SIZE};
+/// use thonxiliko::{patch_area_len, Refusal, Stores, PAGE_SIZE, PAYLOAD_SIZE};
 ///
 /// let mut patch = vec![0; patch_area_len(6)];
 /// format(&mut patch, &mut [])?;
@@ -1181,7 +1298,7 @@ pub fn cut(patch: &mut [u8], full: &mut [u8], k: u64) -> Result<(), Refusal> {
 /// let mut payload = [0; PAYLOAD_SIZE];
 /// let decision = compare(&[], &page, &mut payload)?;
 /// for block in 0..6 {
-///     carry_out_mapped(&mut patch, &mut [], &mut map, block, &decision)?;
+///     carry_out_mapped(&mut patch, &mut [], &mut map, block, &decision, Stores::All)?;
 /// }
 /// assert_eq!(map, [0b10_10_10_10, 0b10_10]);
 ///
@@ -1224,7 +1341,7 @@ pub fn cut_mapped(
 ///
 /// ```
 /// use thonxiliko::{carry_out, compare, format, highest, patch_area_len};
-/// use thonxiliko::{Refusal, PAGE_SIZE, PAYLOAD_SIZE};
+/// use thonxiliko::{Refusal, Stores, PAGE_SIZE, PAYLOAD_SIZE};
 ///
 /// let mut patch = vec![0; patch_area_len(5)];
 /// format(&mut patch, &mut [])?;
@@ -1233,10 +1350,10 @@ pub fn cut_mapped(
 /// let mut page = vec![0; PAGE_SIZE];
 /// page[100] = 8;
 /// let mut payload = [0; PAYLOAD_SIZE];
-/// carry_out(&mut patch, &mut [], 2, &compare(&[], &page, &mut payload)?)?;
+/// carry_out(&mut patch, &mut [], 2, &compare(&[], &page, &mut payload)?, Stores::All)?;
 /// assert_eq!(highest(&patch), Ok(3));
 /// // The data file may have a fourth page, which equals its base.
-/// carry_out(&mut patch, &mut [], 3, &compare(&page, &page, &mut payload)?)?;
+/// carry_out(&mut patch, &mut [], 3, &compare(&page, &page, &mut payload)?, Stores::All)?;
 /// assert_eq!(highest(&patch), Ok(3));
 ///
 /// patch[512 + 511] = 1; // block 0: an EMPTY slot is all zeros
