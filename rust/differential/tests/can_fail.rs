@@ -2,14 +2,19 @@
 //! that the library passes, and the demand on runs notices programs that both sides agree about.
 
 use differential::call::{
-    Answer, Call, Input, Outcome, FULL_HEADER, MAX_BLOCKS, PAGE, PATCH_HEADER, PAYLOAD, SLOT,
+    Answer, Call, Input, Outcome, Told, FULL_HEADER, MAX_BLOCKS, PAGE, PATCH_HEADER, PAYLOAD, SLOT,
 };
 use differential::generate;
 use differential::harness::{independent_outcome, Counts, Harness, Mismatch, Side};
 use differential::maps::{self, Elsewhere};
 use differential::rng::Rng;
 use differential::runs::{self, Met};
-use differential::{cases, cuts, orders, payloads, sweep};
+use differential::{cases, cuts, extremes, orders, payloads};
+
+#[path = "can_fail/stops.rs"]
+mod stops;
+#[path = "can_fail/sweeps.rs"]
+mod sweeps;
 
 const SEED: u64 = 1;
 const MOST_CASES: u64 = 60_000;
@@ -218,14 +223,10 @@ const WRONG_TALLIES: [(&str, Side); 7] = [
 
 // The shortcuts that give a wrong page.
 
-fn carries_out(input: &Input) -> bool {
-    matches!(input.call, Call::CarryOut | Call::CarryOutMapped)
-}
-
 /// Alters what comes of a decision, with a map or without.
 fn altered_decision(input: &Input, alter: impl FnOnce(&mut Outcome)) -> Outcome {
     let mut outcome = independent_outcome(input);
-    if carries_out(input) {
+    if input.call.carries_out() {
         alter(&mut outcome);
     }
     outcome
@@ -1019,10 +1020,11 @@ fn takes_any_in<const CALL: usize>(input: &Input) -> Outcome {
 
 // Maps that are kept wrongly, and reads that go by something else.
 
-/// Alters what comes of a decision with a map that is accepted; gives the byte and the bits of its pair.
+/// Alters what comes of a whole write with a map that is accepted; gives the byte and the bits of its pair.
 fn altered_map(input: &Input, alter: impl FnOnce(&mut Outcome, usize, u32)) -> Outcome {
     altered(input, Call::CarryOutMapped, |outcome| {
-        if outcome.answer.number() == 0 {
+        let is_whole = Told::of(input.numbers.stores) == Told::All;
+        if outcome.answer.number() == 0 && is_whole {
             let block = input.numbers.block;
             alter(outcome, (block / 4) as usize, 2 * (block % 4) as u32);
         }
@@ -1542,13 +1544,17 @@ fn a_number_that_is_never_given_is_noticed() {
     let (mut all, mut some) = (Counts::default(), Counts::default());
     for input in (0..MOST_CASES).map(random_input) {
         let answer = independent_outcome(&input).answer;
-        all.add(input.call, &answer);
-        if (input.call, answer.number()) != (Call::LookUp, 11) {
-            some.add(input.call, &answer);
+        all.add(input.call, &input.numbers, &answer);
+        let told_1 = input.call == Call::CarryOut && Told::of(input.numbers.stores) == Told::One;
+        let of_look_up = (input.call, answer.number()) == (Call::LookUp, 11);
+        if !of_look_up && !(told_1 && answer.number() == 8) {
+            some.add(input.call, &input.numbers, &answer);
         }
     }
     assert_eq!(all.unseen(), []);
-    assert_eq!(some.unseen(), [(Call::LookUp, 11)]);
+    // A decision must meet it also where it is told 1.
+    let missed = [(Call::CarryOut, Told::One, 8), (Call::LookUp, Told::All, 11)];
+    assert_eq!(some.unseen(), missed);
 }
 
 /// The right program passes, and so does an Apply like the wrong ones but without their fault.
@@ -1834,7 +1840,7 @@ fn elsewhere_notices(wrong: Side) -> bool {
     let mut harness = Harness::new();
     harness.expected = wrong;
     harness.in_place_of_library = Some(wrong);
-    (0..60).any(|case| {
+    (0..150).any(|case| {
         let mut rng = Rng::for_case(SEED, "maps", case);
         maps::from_elsewhere(&mut harness, &mut rng, &mut Elsewhere::default()).is_err()
     })
@@ -2023,7 +2029,7 @@ fn wrong_kinds_are_noticed_by_numbers() {
         let mut harness = Harness::new();
         harness.expected = wrong;
         harness.in_place_of_library = Some(wrong);
-        sweep::numbers(&mut harness).err().map(|mismatch| mismatch.side)
+        extremes::numbers(&mut harness).err().map(|mismatch| mismatch.side)
     };
     assert_eq!(notices(independent_outcome), None);
     for wrong in [
@@ -2042,20 +2048,20 @@ fn wrong_kinds_are_noticed_by_numbers() {
 }
 
 /// The wrapper has no decision but Compare's. Random inputs have enough of those: it gives every number
-/// that it can give.
+/// that it can give, whatever is told of stores.
 #[test]
 fn the_wrapper_carries_out_decisions() {
     let mut harness = Harness::new();
     for case in 0..MOST_CASES / 4 {
         let input = random_input(case);
-        if carries_out(&input) {
+        if input.call.carries_out() {
             harness.start_case(case);
             harness.check(&input).expect("all sides agree");
         }
     }
     assert_eq!(harness.counts.unseen_by_wrapper(), []);
     // Without them that would be noticed.
-    assert_eq!(Counts::default().unseen_by_wrapper().len(), 13);
+    assert_eq!(Counts::default().unseen_by_wrapper().len(), 3 * 13);
 }
 
 /// A program on both sides that changes a byte and refuses: only the rule of answers can notice.
