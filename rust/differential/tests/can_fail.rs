@@ -133,7 +133,7 @@ fn unused_pairs_ignored(input: &Input) -> Outcome {
 /// The bits of some bytes: those of pairs 2 and 3, those of pairs 1 and 3, and the pairs that are 3.
 fn bits_of(bytes: &[u8]) -> [u64; 3] {
     let all = |bits: fn(u8) -> u8| bytes.iter().map(|b| bits(*b).count_ones() as u64).sum();
-    [all(|b| b / 2 & 0x55), all(|b| b & 0x55), all(|b| b / 2 & b & 0x55)]
+    [all(|b| (b / 2) & 0x55), all(|b| b & 0x55), all(|b| (b / 2) & b & 0x55)]
 }
 
 /// A Tally that does as it should up to the pairs. `count` takes the map's bytes and those after them.
@@ -1547,7 +1547,8 @@ fn a_number_that_is_never_given_is_noticed() {
         all.add(input.call, &input.numbers, &answer);
         let told_1 = input.call == Call::CarryOut && Told::of(input.numbers.stores) == Told::One;
         let of_look_up = (input.call, answer.number()) == (Call::LookUp, 11);
-        if !of_look_up && !(told_1 && answer.number() == 8) {
+        let left_out = of_look_up || (told_1 && answer.number() == 8);
+        if !left_out {
             some.add(input.call, &input.numbers, &answer);
         }
     }

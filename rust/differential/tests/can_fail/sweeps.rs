@@ -207,12 +207,12 @@ fn gives_6_before_a_lower_8(input: &Input) -> Outcome {
 fn the_highest_fault_decides(input: &Input) -> Outcome {
     altered_sweep(input, |outcome, kinds| {
         let m = pages_of(input);
-        let faults = kinds.iter().enumerate().filter_map(|(block, kind)| match kind {
+        let mut faults = kinds.iter().enumerate().rev().filter_map(|(block, kind)| match kind {
             None => Some(6),
             Some(2) if block >= m => Some(8),
             _ => None,
         });
-        if let Some(last) = faults.last() {
+        if let Some(last) = faults.next() {
             says(input, outcome, last);
         }
     })
