@@ -224,10 +224,11 @@
  *   - SWEEP ONLY WHERE A WRITE MAY HAVE BEEN STOPPED. After a known stop 10 means: sweep. Without
  *     one it means that a FULL_REF slot was lost, and the place has the only copy of its page. A
  *     sweep erases it.
- *   - MEMORY IS NOT DISK. The two stores are made in this order in memory. In a file that is mapped
- *     the second may reach the disk first: the zeros before the slot, say, and after a power cut
- *     the block is FULL_REF and reads as zeros. Nothing here can see to that. To make a stop safe
- *     on files, carry the write out twice, with a sync after each:
+ *   - MEMORY IS NOT DISK. What is proved is what a call leaves in memory when it returns. In a file
+ *     that is mapped the second store may reach the disk first: the zeros before the slot, say, and
+ *     after a power cut the block is FULL_REF and reads as zeros. Nor is anything proved of which
+ *     store has been made when a call told all is killed. To make a stop safe on files, carry each
+ *     write out in two calls, with a sync after each:
  *
  *       1. told 1, then sync the area that it wrote: for FULL_REF the full area, else the patch
  *          area;
@@ -540,22 +541,6 @@ thx_written thx_carry_out_mapped(uint8_t *patch, size_t patch_len, uint8_t *full
                                  size_t page_len, uint64_t stores);
 
 /*
- * Sweep: clear up after a write that was stopped.
- *
- * Only where a write may have been stopped, and the map is built anew afterwards: see A WRITE THAT
- * IS STOPPED. The patch area is only read. Every block reads as before.
- * Refuses, in this order: 2 if the length of an area is wrong; 3 or 4 for the headers; then block
- * by block in rising order, stopping at the first fault, and for one block 6 if its slot is not
- * sound, 8 if it is FULL_REF and not below m. All n slots are checked, also where the full area is
- * absent. No payload is looked at, and a page where none should be is no fault.
- * Writes: zeros into the place of each block below m that is not FULL_REF. Nothing else: the header
- * and the places of FULL_REF blocks keep every byte. In a store that thx_build accepts nothing
- * changes, nor does it when swept again.
- * Answers: the number alone; no block is named.
- */
-thx_done thx_sweep(const uint8_t *patch, size_t patch_len, uint8_t *full, size_t full_len);
-
-/*
  * Read by the map: fill `page` with a block as its pair in the map says.
  *
  * It trusts the map: with one that missed a write it can give yesterday's page, with one that
@@ -617,6 +602,22 @@ thx_done thx_cut_mapped(uint8_t *patch, size_t patch_len, uint8_t *full, size_t 
  * Answers: blocks, one more than the highest block whose slot is not EMPTY; 0 if all are EMPTY.
  */
 thx_extent thx_highest(const uint8_t *patch, size_t patch_len);
+
+/*
+ * Sweep: clear up after a write that was stopped.
+ *
+ * Only where a write may have been stopped, and the map is built anew afterwards: see A WRITE THAT
+ * IS STOPPED. The patch area is only read. Every block reads as before.
+ * Refuses, in this order: 2 if the length of an area is wrong; 3 or 4 for the headers; then block
+ * by block in rising order, stopping at the first fault, and for one block 6 if its slot is not
+ * sound, 8 if it is FULL_REF and not below m. All n slots are checked, also where the full area is
+ * absent. No payload is looked at, and a page where none should be is no fault.
+ * Writes: zeros into the place of each block below m that is not FULL_REF. Nothing else: the header
+ * and the places of FULL_REF blocks keep every byte. In a store that thx_build accepts nothing
+ * changes, nor does it when swept again.
+ * Answers: the number alone; no block is named.
+ */
+thx_done thx_sweep(const uint8_t *patch, size_t patch_len, uint8_t *full, size_t full_len);
 
 /*
  * Build: check every block and make the block map.

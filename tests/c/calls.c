@@ -10,8 +10,9 @@
  * The base is zeros but for byte 100. Compare and carrying out get a page by the block: for block 0
  * the base itself, for block 1 the base with byte 0 changed, for block 2 the fives. So a FULL_REF
  * carried out changes the place of every block. A payload has entries 00 07 as far as it goes. A map
- * has the pairs PATCH, full, EMPTY, EMPTY over and over, which is the map of the three blocks. All
- * bytes are set by hand from document 01. A buffer that a call only writes to is full of EE before.
+ * has the pairs PATCH, full, EMPTY, EMPTY over and over, which is the map of the three blocks. Sweep
+ * finds a page of fives in every place. All bytes are set by hand from document 01. A buffer that a
+ * call only writes to is full of EE before.
  */
 #include "check.h"
 
@@ -22,7 +23,7 @@
 /* More than any length tried. */
 #define ROOM 40960
 static uint8_t patch[ROOM], full[ROOM], base[ROOM], pages[3][ROOM], payload[ROOM], map[ROOM];
-static uint8_t old[ROOM];
+static uint8_t old[ROOM], littered[ROOM];
 
 static const struct {
     const char *name;
@@ -45,6 +46,7 @@ static const struct {
     {"thx_cut", BIT(PATCH) | BIT(FULL), BIT(PATCH) | BIT(FULL)},
     {"thx_cut_mapped", BIT(PATCH) | BIT(FULL) | BIT(MAP), BIT(PATCH) | BIT(FULL) | BIT(MAP)},
     {"thx_highest", BIT(PATCH), 0},
+    {"thx_sweep", BIT(PATCH) | BIT(FULL), BIT(FULL)},
 };
 
 int takes(int call, int role) {
@@ -71,6 +73,8 @@ static void set_scene(void) {
     patch[1024] = 2;
     memcpy(full, full_head, sizeof full_head);
     memset(full + 12288, 5, 8192);
+    memcpy(littered, full, 4096);
+    memset(littered + 4096, 5, ROOM - 4096);
     base[100] = 9;
     pages[0][100] = 9;
     pages[1][100] = 9;
@@ -94,6 +98,7 @@ ask sound_ask(int call) {
     memcpy(a.length, sound, sizeof sound);
     a.length[PAYLOAD] = call == COMPARE ? 504 : 2;
     a.kind = THX_KIND_PATCH;
+    a.stores = THX_STORES_ALL;
     a.n = 3;
     a.position = -1;
     return a;
@@ -101,10 +106,13 @@ ask sound_ask(int call) {
 
 /* The bytes that a buffer has before the call, but for those made wrong. */
 static const uint8_t *before(const ask *a, int role) {
-    /* Carrying out and cuts find a store in areas and map; others that are written hold anything. */
-    int keeps = carries(a->call) || cuts(a->call);
+    /* Some calls find a store in what they write; other buffers that are written hold anything. */
+    int keeps = carries(a->call) || cuts(a->call) || a->call == SWEEP;
     if ((calls[a->call].writes & BIT(role)) != 0 && !keeps) {
         return old;
+    }
+    if (a->call == SWEEP && role == FULL) {
+        return littered;
     }
     switch (role) {
     case PATCH: return patch;
@@ -127,11 +135,42 @@ static answer give(uint32_t number, int64_t first, int64_t second, int64_t third
     return given;
 }
 
+static answer carry(const ask *a, uint8_t *const at[ROLES]) {
+    const size_t *len = a->length;
+    thx_written r;
+    if (a->call == CARRY_OUT) {
+        r = thx_carry_out(at[PATCH], len[PATCH], at[FULL], len[FULL], a->block, a->kind,
+                          at[PAYLOAD], len[PAYLOAD], at[PAGE], len[PAGE], a->stores);
+    } else {
+        r = thx_carry_out_mapped(at[PATCH], len[PATCH], at[FULL], len[FULL], at[MAP], len[MAP],
+                                 a->block, a->kind, at[PAYLOAD], len[PAYLOAD], at[PAGE], len[PAGE],
+                                 a->stores);
+    }
+    return give(r.number, r.kind, r.length, 0, 0);
+}
+
+/* The calls that answer with a number alone. */
+static answer call_to_be_done(const ask *a, uint8_t *const at[ROLES]) {
+    const size_t *len = a->length;
+    thx_done r;
+    if (a->call == FORMAT) {
+        r = thx_format(at[PATCH], len[PATCH], at[FULL], len[FULL]);
+    } else if (a->call == CUT) {
+        r = thx_cut(at[PATCH], len[PATCH], at[FULL], len[FULL], a->block);
+    } else if (a->call == CUT_MAPPED) {
+        r = thx_cut_mapped(at[PATCH], len[PATCH], at[FULL], len[FULL], at[MAP], len[MAP], a->block);
+    } else {
+        r = thx_sweep(at[PATCH], len[PATCH], at[FULL], len[FULL]);
+    }
+    return give(r.number, 0, 0, 0, 0);
+}
+
 static answer call_on_areas(const ask *a, uint8_t *const at[ROLES]) {
     const size_t *len = a->length;
-    if (a->call == FORMAT) {
-        thx_done r = thx_format(at[PATCH], len[PATCH], at[FULL], len[FULL]);
-        return give(r.number, 0, 0, 0, 0);
+    if (carries(a->call)) {
+        return carry(a, at);
+    } else if (a->call == FORMAT || cuts(a->call) || a->call == SWEEP) {
+        return call_to_be_done(a, at);
     } else if (a->call == SHOW) {
         thx_part r = thx_show(at[PATCH], len[PATCH], a->block);
         return give(0, (int64_t)r.at, (int64_t)r.len, 0, 0);
@@ -139,27 +178,11 @@ static answer call_on_areas(const ask *a, uint8_t *const at[ROLES]) {
         thx_reading r = thx_read(at[PATCH], len[PATCH], at[FULL], len[FULL], a->block, at[BASE],
                                  len[BASE], at[PAGE], len[PAGE]);
         return give(r.number, r.kind, r.offset, 0, 0);
-    } else if (a->call == CARRY_OUT) {
-        thx_written r = thx_carry_out(at[PATCH], len[PATCH], at[FULL], len[FULL], a->block, a->kind,
-                                      at[PAYLOAD], len[PAYLOAD], at[PAGE], len[PAGE]);
-        return give(r.number, r.kind, r.length, 0, 0);
-    } else if (a->call == CARRY_OUT_MAPPED) {
-        thx_written r = thx_carry_out_mapped(at[PATCH], len[PATCH], at[FULL], len[FULL], at[MAP],
-                                             len[MAP], a->block, a->kind, at[PAYLOAD], len[PAYLOAD],
-                                             at[PAGE], len[PAGE]);
-        return give(r.number, r.kind, r.length, 0, 0);
     } else if (a->call == READ_MAPPED) {
         thx_reading r = thx_read_mapped(at[PATCH], len[PATCH], at[FULL], len[FULL], at[MAP],
                                         len[MAP], a->block, at[BASE], len[BASE], at[PAGE],
                                         len[PAGE]);
         return give(r.number, r.kind, r.offset, 0, 0);
-    } else if (a->call == CUT) {
-        thx_done r = thx_cut(at[PATCH], len[PATCH], at[FULL], len[FULL], a->block);
-        return give(r.number, 0, 0, 0, 0);
-    } else if (a->call == CUT_MAPPED) {
-        thx_done r = thx_cut_mapped(at[PATCH], len[PATCH], at[FULL], len[FULL], at[MAP], len[MAP],
-                                    a->block);
-        return give(r.number, 0, 0, 0, 0);
     } else if (a->call == HIGHEST) {
         thx_extent r = thx_highest(at[PATCH], len[PATCH]);
         return give(r.number, (int64_t)r.blocks, 0, 0, 0);
@@ -202,13 +225,13 @@ static void check_call(int holds, const char *what, const ask *a) {
         const size_t *len = a->length;
         snprintf(text, sizeof text,
                  "%s of %s: patch %lu, full %lu, base %lu, page %lu, payload %lu, map %lu, "
-                 "slot %lu; block %lu, kind %lu, n %lu, at %lu, position %ld; "
+                 "slot %lu; block %lu, kind %lu, stores %lu, n %lu, at %lu, position %ld; "
                  "bytes made wrong: %d",
                  what, calls[a->call].name, (unsigned long)len[PATCH], (unsigned long)len[FULL],
                  (unsigned long)len[BASE], (unsigned long)len[PAGE], (unsigned long)len[PAYLOAD],
                  (unsigned long)len[MAP], (unsigned long)len[SLOT], (unsigned long)a->block,
-                 (unsigned long)a->kind, (unsigned long)a->n, (unsigned long)a->at,
-                 (long)a->position, a->pokes);
+                 (unsigned long)a->kind, (unsigned long)a->stores, (unsigned long)a->n,
+                 (unsigned long)a->at, (long)a->position, a->pokes);
     }
     check(holds, text, __FILE__, __LINE__);
 }

@@ -3,7 +3,8 @@
  *
  * Most calls are made on one scene, a sound store of three blocks with pages and a map (calls.c).
  * An ask is a call with its lengths and numbers, perhaps with a few bytes made wrong. What an ask
- * without wrong bytes must give is in rules.c, written from document 01 and Requests 02, 04 and 06.
+ * without wrong bytes must give is in rules.c, written from document 01 and Requests 02, 04, 06 and
+ * 07.
  */
 #ifndef CHECK_H
 #define CHECK_H
@@ -16,7 +17,7 @@ void check(int holds, const char *what, const char *file, int line);
 
 enum {
     FORMAT, COMPARE, APPLY, JUDGE, SHOW, READ, CARRY_OUT, BUILD, LOOK_UP, TALLY, NEXT,
-    CARRY_OUT_MAPPED, READ_MAPPED, CUT, CUT_MAPPED, HIGHEST, CALLS
+    CARRY_OUT_MAPPED, READ_MAPPED, CUT, CUT_MAPPED, HIGHEST, SWEEP, CALLS
 };
 enum { PATCH, FULL, BASE, PAGE, PAYLOAD, MAP, SLOT, ROLES };
 #define BIT(number) (1u << (number))
@@ -34,6 +35,7 @@ typedef struct {
     uint64_t n;           /* for Look up and Tally; the others see n in the patch area */
     uint64_t block;       /* a cut's k; it also chooses the page of some calls and Judge's slot */
     uint32_t kind;        /* for carrying out */
+    uint64_t stores;      /* for carrying out */
     uint64_t at;          /* for Next */
     int32_t position;     /* for Next */
     uint8_t *nowhere;     /* the pointer lent for a buffer of length 0 */
@@ -71,13 +73,22 @@ typedef struct {
     size_t map_len;
 } store;
 
-/* decisions.c: a decision carried out; a page written by the pair, as the header shows it. */
+/*
+ * decisions.c: a decision carried out, told how many stores or told all; a page written by the pair,
+ * as the header shows it.
+ */
+thx_written carry_out_told(const store *to, uint64_t block, uint32_t kind, const uint8_t *payload,
+                           size_t payload_len, const uint8_t *page, size_t page_len,
+                           uint64_t stores);
 thx_written carry_out(const store *to, uint64_t block, uint32_t kind, const uint8_t *payload,
                       size_t payload_len, const uint8_t *page, size_t page_len);
 thx_written write_by_pair(const store *to, uint64_t block, const uint8_t *base, size_t base_len,
                           const uint8_t *page, size_t page_len);
 
-/* refusals.c, lengths.c, payloads.c, maps.c, tally.c, cuts.c and decisions.c: tests. */
+/*
+ * refusals.c, lengths.c, payloads.c, maps.c, tally.c, cuts.c, decisions.c, stops.c and sweeps.c:
+ * tests.
+ */
 void every_refusal(void);
 void every_fault_left(void);
 void every_length(void);
@@ -89,5 +100,7 @@ void every_tally(void);
 void every_cut(void);
 void every_highest(void);
 void every_decision(void);
+void every_stop(void);
+void every_sweep(void);
 
 #endif

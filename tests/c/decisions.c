@@ -7,14 +7,20 @@
 
 #include <string.h>
 
-thx_written carry_out(const store *to, uint64_t block, uint32_t kind, const uint8_t *payload,
-                      size_t payload_len, const uint8_t *page, size_t page_len) {
+thx_written carry_out_told(const store *to, uint64_t block, uint32_t kind, const uint8_t *payload,
+                           size_t payload_len, const uint8_t *page, size_t page_len,
+                           uint64_t stores) {
     return to->map == NULL
                ? thx_carry_out(to->patch, to->patch_len, to->full, to->full_len, block, kind,
-                               payload, payload_len, page, page_len)
+                               payload, payload_len, page, page_len, stores)
                : thx_carry_out_mapped(to->patch, to->patch_len, to->full, to->full_len, to->map,
                                       to->map_len, block, kind, payload, payload_len, page,
-                                      page_len);
+                                      page_len, stores);
+}
+
+thx_written carry_out(const store *to, uint64_t block, uint32_t kind, const uint8_t *payload,
+                      size_t payload_len, const uint8_t *page, size_t page_len) {
+    return carry_out_told(to, block, kind, payload, payload_len, page, page_len, THX_STORES_ALL);
 }
 
 /* The lines that the header shows. */
@@ -26,7 +32,8 @@ static thx_written header_lines(uint8_t *patch, size_t patch_len, uint8_t *full,
     thx_written w = {c.number, 0, 0};
     if (c.number == THX_DONE)
         w = thx_carry_out(patch, patch_len, full, full_len, block, c.kind, buffer,
-                          c.kind == THX_DIFFERENCE_PATCH ? c.length : 0, page, page_len);
+                          c.kind == THX_DIFFERENCE_PATCH ? c.length : 0, page, page_len,
+                          THX_STORES_ALL);
     return w;
 }
 

@@ -43,6 +43,7 @@ static void names(void) {
     CHECK(THX_STRAY_PAGE == 10);
     CHECK(THX_BAD_PAIR == 11);
     CHECK(THX_KIND_EMPTY == 0 && THX_KIND_PATCH == 1 && THX_KIND_FULL == 2);
+    CHECK(THX_STORES_NONE == 0 && THX_STORES_ONE == 1 && THX_STORES_ALL == 2);
     CHECK(THX_DIFFERENCE_SAME == 0 && THX_DIFFERENCE_PATCH == 1 && THX_DIFFERENCE_LARGE == 2);
     CHECK(THX_PAIR_EMPTY == 0 && THX_PAIR_FULL == 1 && THX_PAIR_PATCH == 2);
 }
@@ -114,7 +115,7 @@ static void example_block(void) {
     CHECK(memcmp(patch, "PBKPATCH\2", 9) == 0 && memcmp(full, "PBKFULL\0\1", 9) == 0);
 
     written = thx_carry_out(patch, sizeof patch, full, sizeof full, 1, THX_KIND_PATCH, stream,
-                            sizeof stream, NULL, 0);
+                            sizeof stream, NULL, 0, THX_STORES_ALL);
     CHECK(written.number == THX_DONE && written.kind == THX_KIND_PATCH && written.length == 2);
 
     judged = thx_judge(patch + 1024, THX_SLOT_SIZE);
@@ -140,7 +141,7 @@ static void example_map(void) {
 
     memset(page, 9, sizeof page);
     written = thx_carry_out(patch, sizeof patch, full, sizeof full, 0, THX_KIND_FULL, NULL, 0, page,
-                            sizeof page);
+                            sizeof page, THX_STORES_ALL);
     CHECK(written.number == THX_DONE && written.kind == THX_KIND_FULL && written.length == 0);
     CHECK(memcmp(full + THX_FULL_HEADER_SIZE, page, sizeof page) == 0);
 
@@ -162,11 +163,12 @@ static void example_kept_map(void) {
 
     CHECK(thx_format(patch, sizeof patch, full, sizeof full).number == THX_DONE);
     written = thx_carry_out_mapped(patch, sizeof patch, full, sizeof full, kept, sizeof kept, 0,
-                                   THX_KIND_FULL, NULL, 0, page, sizeof page);
+                                   THX_KIND_FULL, NULL, 0, page, sizeof page, THX_STORES_ALL);
     CHECK(written.number == THX_DONE && written.kind == THX_KIND_FULL && written.length == 0);
     CHECK(kept[0] == 0x01 && memcmp(full + THX_FULL_HEADER_SIZE, page, sizeof page) == 0);
     written = thx_carry_out_mapped(patch, sizeof patch, full, sizeof full, kept, sizeof kept, 1,
-                                   THX_KIND_PATCH, stream, sizeof stream, NULL, 0);
+                                   THX_KIND_PATCH, stream, sizeof stream, NULL, 0,
+                                   THX_STORES_ALL);
     CHECK(written.number == THX_DONE && written.kind == THX_KIND_PATCH && written.length == 2);
     CHECK(kept[0] == 0x09 && memcmp(patch + 1032, stream, 2) == 0);
     map[0] = 0xEE;
@@ -214,6 +216,25 @@ static void example_cut(void) {
     CHECK(extent.number == THX_DONE && extent.blocks == 0);
     memcpy(patch, patch_before, sizeof patch);
     memcpy(full, full_before, sizeof full);
+}
+
+/* Block 1 of the same store on its way to a full page: stopped, swept, and written whole. */
+static void example_stop(void) {
+    static uint8_t patch_before[sizeof patch], full_before[sizeof full];
+    thx_written written;
+    thx_built built;
+
+    memcpy(patch_before, patch, sizeof patch);
+    memcpy(full_before, full, sizeof full);
+    written = carry_out_told(&whole, 1, THX_KIND_FULL, NULL, 0, page, sizeof page, THX_STORES_ONE);
+    CHECK(written.number == THX_DONE && written.kind == THX_KIND_FULL && written.length == 0);
+    CHECK(memcmp(patch, patch_before, sizeof patch) == 0);
+    CHECK(memcmp(full + THX_FULL_HEADER_SIZE + THX_PAGE_SIZE, page, sizeof page) == 0);
+    built = thx_build(patch, sizeof patch, full, sizeof full, map, sizeof map);
+    CHECK(built.number == THX_STRAY_PAGE && built.block == 1);
+    CHECK(thx_sweep(patch, sizeof patch, full, sizeof full).number == THX_DONE);
+    CHECK(memcmp(patch, patch_before, sizeof patch) == 0);
+    CHECK(memcmp(full, full_before, sizeof full) == 0);
 }
 
 /* Buffers that a call only reads may be the same or overlap. */
@@ -343,18 +364,34 @@ static void largest_cut(uint8_t *area, size_t length, uint8_t *bits) {
     CHECK(thx_highest(area, length).blocks == 131072);
 }
 
+/* The same area swept: all slots are checked, the last one too, though no block has a place. */
+static void largest_sweep(uint8_t *area, size_t length) {
+    CHECK(thx_sweep(area, length, NULL, 0).number == THX_DONE);
+    area[67108352] = 2; /* block 131070 */
+    CHECK(thx_sweep(area, length, NULL, 0).number == THX_NO_FULL_PAGE);
+    area[67108352] = 0;
+    area[67109375] = 1; /* the very last byte */
+    CHECK(thx_sweep(area, length, NULL, 0).number == THX_BAD_SLOT);
+    area[67109375] = 0;
+    CHECK(thx_sweep(area, length, NULL, 0).number == THX_DONE);
+    CHECK(area[67108864] == 1 && thx_highest(area, length).blocks == 131072);
+}
+
 /* The same area with a block more is refused by every call that takes it. */
 static void too_large_area(uint8_t *area, size_t length, uint8_t *bits) {
     thx_part part = thx_show(area, length, 131071);
+    uint64_t stores;
     CHECK(part.at == 0 && part.len == 0);
     CHECK(thx_read(area, length, NULL, 0, 131071, NULL, 0, page, 8192).number
           == THX_BAD_AREA_LENGTH);
-    CHECK(thx_carry_out(area, length, NULL, 0, 131071, 0, NULL, 0, NULL, 0).number
-          == THX_BAD_AREA_LENGTH);
+    for (stores = 0; stores <= THX_STORES_ALL; stores++) {
+        CHECK(thx_carry_out(area, length, NULL, 0, 131071, 0, NULL, 0, NULL, 0, stores).number
+              == THX_BAD_AREA_LENGTH);
+        /* n is too large before the map is too short for it. */
+        CHECK(thx_carry_out_mapped(area, length, NULL, 0, bits, 32768, 0, 0, NULL, 0, NULL, 0,
+                                   stores).number == THX_BAD_AREA_LENGTH);
+    }
     CHECK(thx_build(area, length, NULL, 0, bits, 32768).number == THX_BAD_AREA_LENGTH);
-    /* n is too large before the map is too short for it. */
-    CHECK(thx_carry_out_mapped(area, length, NULL, 0, bits, 32768, 0, 0, NULL, 0, NULL, 0).number
-          == THX_BAD_AREA_LENGTH);
     CHECK(thx_read_mapped(area, length, NULL, 0, bits, 32768, 0, NULL, 0, page, 8192).number
           == THX_BAD_AREA_LENGTH);
     CHECK(thx_format(area, length, NULL, 0).number == THX_BAD_AREA_LENGTH);
@@ -362,6 +399,7 @@ static void too_large_area(uint8_t *area, size_t length, uint8_t *bits) {
     CHECK(thx_cut_mapped(area, length, NULL, 0, bits, 32768, 0).number == THX_BAD_AREA_LENGTH);
     CHECK(thx_highest(area, length).number == THX_BAD_AREA_LENGTH);
     CHECK(thx_highest(area, length).blocks == 0);
+    CHECK(thx_sweep(area, length, NULL, 0).number == THX_BAD_AREA_LENGTH);
     CHECK(memcmp(area, "PBKPATCH\2", 9) == 0 && area[67108864] == 1);
 }
 
@@ -377,6 +415,7 @@ static void largest(void) {
     largest_area(area, length, bits);
     largest_map(area, length, bits);
     largest_cut(area, length, bits);
+    largest_sweep(area, length);
     too_large_area(area, length + 512, bits);
     free(area);
     free(bits);
@@ -391,6 +430,7 @@ int main(void) {
         example_map();
         example_kept_map();
         example_cut();
+        example_stop();
         overlap();
         sizes();
         largest();
@@ -405,6 +445,8 @@ int main(void) {
         every_cut();
         every_highest();
         every_decision();
+        every_stop();
+        every_sweep();
     }
     printf("%lu checks, %lu failed\n", checks, failures);
     return failures == 0 ? EXIT_SUCCESS : EXIT_FAILURE;

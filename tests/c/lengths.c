@@ -9,7 +9,7 @@ static void try_by_rules(const ask *a) {
 }
 
 /* Every length from 0 to 1,024 for one buffer, then both sides of every length that is right. */
-static void sweep(ask a, int role) {
+static void try_lengths(ask a, int role) {
     static const size_t longer[] = {1536,  2047,  2048,  2049,  2560,  4095,  4096,  4097,
                                     8191,  8192,  8193,  12287, 12288, 12289, 16384, 20479,
                                     20480, 20481, 28671, 28672, 28673, 36864};
@@ -29,17 +29,17 @@ static void sweep(ask a, int role) {
 }
 
 /* One buffer of a call, the others being right, with the full area and without it. */
-static void sweeps(ask a, int role) {
-    sweep(a, role);
+static void try_both_ways(ask a, int role) {
+    try_lengths(a, role);
     if (takes(a.call, MAP) && takes(a.call, PATCH) && role == PATCH) {
         ask longer = a; /* enough for every length of the patch area */
         longer.length[MAP] = 20;
-        sweep(longer, role);
+        try_lengths(longer, role);
     }
     if (takes(a.call, FULL) && role != FULL) {
         ask without = a;
         without.length[FULL] = 0;
-        sweep(without, role);
+        try_lengths(without, role);
     }
 }
 
@@ -48,19 +48,19 @@ static void sweeps(ask a, int role) {
  * looks at, and of the page, which FULL_REF alone looks at, every length with every kind on every
  * block, and with kinds above 2.
  */
-static void sweep_kinds(ask a, int role) {
+static void try_kinds(ask a, int role) {
     for (a.kind = 0; a.kind < 3; a.kind++) {
         a.block = (a.kind + (uint32_t)role) % 3;
-        sweeps(a, role);
+        try_both_ways(a, role);
         for (a.block = 0; a.block < 3 && (role == PAYLOAD || role == PAGE); a.block++) {
-            sweep(a, role);
+            try_lengths(a, role);
         }
     }
     a.block = 1;
     a.kind = 3;
-    sweep(a, role);
+    try_lengths(a, role);
     a.kind = UINT32_MAX;
-    sweep(a, role);
+    try_lengths(a, role);
 }
 
 /* Each buffer of each call in turn, the others being right, with the full area and without it. */
@@ -71,11 +71,13 @@ void every_length(void) {
             ask a = sound_ask(call);
             a.n = 2000; /* so Look up and Tally want a map of 500 bytes */
             if (takes(call, role) && carries(call)) {
-                sweep_kinds(a, role);
+                for (a.stores = 0; a.stores <= THX_STORES_ALL; a.stores++) {
+                    try_kinds(a, role);
+                }
             } else if (takes(call, role)) {
                 /* A cut at 3, which is n, changes nothing and is refused as any other. */
                 for (a.block = 0; a.block < (cuts(call) ? 4u : 3u); a.block++) {
-                    sweeps(a, role);
+                    try_both_ways(a, role);
                 }
             }
         }
@@ -122,7 +124,10 @@ static const uint64_t numbers[] = {
 };
 #define NUMBERS (sizeof numbers / sizeof numbers[0])
 
-/* Every buffer is NULL. Of kinds, where they are told, all four sorts come up with every block. */
+/*
+ * Every buffer is NULL. Of kinds, where they are told, all four sorts come up with every block; of
+ * stores any number.
+ */
 static void no_buffers(int call) {
     ask a = sound_ask(call);
     size_t n, block;
@@ -132,6 +137,7 @@ static void no_buffers(int call) {
             a.n = numbers[n];
             a.block = numbers[block];
             a.kind = (uint32_t)n % 4;
+            a.stores = numbers[(n + block) % NUMBERS];
             try_by_rules(&a);
         }
     }
@@ -189,10 +195,15 @@ static void blocks_of_a_mapped_store(ask a) {
     }
 }
 
-/* Kinds 0, 1 and 2 and one above, in as many stores as any other call is tried on. */
+/*
+ * Kinds 0, 1 and 2 and one above, in as many stores as any other call is tried on, told none, one
+ * and all.
+ */
 static void every_kind(ask a, void (*blocks)(ask)) {
     for (a.kind = 0; a.kind <= 3; a.kind++) {
-        blocks(a);
+        for (a.stores = 0; a.stores <= THX_STORES_ALL; a.stores++) {
+            blocks(a);
+        }
     }
 }
 
@@ -215,7 +226,7 @@ void every_number(void) {
             every_kind(a, blocks_of_a_store);
         } else if (call == CARRY_OUT_MAPPED) {
             every_kind(a, blocks_of_a_mapped_store);
-        } else if (call == CUT) {
+        } else if (call == CUT || call == SWEEP) {
             blocks_of_a_store(a);
         } else if (call == CUT_MAPPED) {
             blocks_of_a_mapped_store(a);

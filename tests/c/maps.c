@@ -126,7 +126,7 @@ static void left(uint32_t number, size_t map_len, uint64_t block, uint32_t kind,
         memcpy(patch_after, patch, sizeof patch);
         memcpy(full_after, full, sizeof full);
         r = thx_carry_out_mapped(patch, patch_len, full, full_len, map, map_len, block, kind,
-                                 payload, payload_len, fives, page_len);
+                                 payload, payload_len, fives, page_len, THX_STORES_ALL);
         CHECK(r.number == number && r.kind == 0 && r.length == 0);
         CHECK(memcmp(map, before, sizeof map) == 0);
         CHECK(memcmp(patch, patch_after, sizeof patch) == 0);

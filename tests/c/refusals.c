@@ -15,7 +15,7 @@ typedef struct {
     int role;       /* the buffer, for a length, a byte and an entry */
     size_t at;      /* length, place of the byte or entry, n, kind, a reader's place or position */
     uint8_t value;  /* the byte */
-    uint64_t block; /* the block asked for or, with Build, at fault */
+    uint64_t block; /* the block asked for or, with Build and Sweep, at fault */
     int64_t offset; /* where the payload breaks */
 } row;
 
@@ -27,10 +27,11 @@ typedef struct {
 #define MAPPED (BIT(CARRY_OUT_MAPPED) | BIT(READ_MAPPED))
 #define BASES (BIT(COMPARE) | BIT(APPLY) | READS)
 #define CUTS (BIT(CUT) | BIT(CUT_MAPPED))
-#define AREAS (READS | CARRIES | BIT(BUILD) | CUTS)
+#define IN_TURN (BIT(BUILD) | BIT(SWEEP)) /* that take blocks in rising order */
+#define AREAS (READS | CARRIES | IN_TURN | CUTS)
 #define PATCHES (AREAS | BIT(SHOW) | BIT(HIGHEST))
 #define BLOCKS (BIT(SHOW) | READS | CARRIES)
-#define SLOTS (BIT(SHOW) | BIT(READ) | BIT(BUILD) | BIT(HIGHEST))
+#define SLOTS (BIT(SHOW) | BIT(READ) | IN_TURN | BIT(HIGHEST))
 #define MAPS (BIT(LOOK_UP) | BIT(TALLY))
 #define PAYLOADS (BIT(APPLY) | CARRIES)
 
@@ -90,7 +91,7 @@ static const row rows[] = {
     {SLOTS | BIT(READ_MAPPED), THX_BAD_SLOT, 6, BYTE, PATCH, 1023, 1, 0, 0}, /* not zero after the payload */
     {SLOTS, THX_BAD_SLOT, 6, BYTE, PATCH, 1535, 1, 1, 0},
     {SLOTS, THX_BAD_SLOT, 6, BYTE, PATCH, 1536, 4, 2, 0},
-    {READS | BIT(BUILD), THX_NO_FULL_PAGE, 8, LENGTH, FULL, 12288, 0, 1, 0},
+    {READS | IN_TURN, THX_NO_FULL_PAGE, 8, LENGTH, FULL, 12288, 0, 1, 0},
     {CARRIES, THX_NO_FULL_PAGE, 8, LENGTH, FULL, 20480, 0, 2, 0},
     {CARRIES, THX_NO_FULL_PAGE, 8, LENGTH, FULL, 4096, 0, 0, 0}, /* a full area without a place */
     {PAYLOADS, THX_BAD_PAYLOAD, 7, LENGTH, PAYLOAD, 0, 0, 0, 0},
@@ -185,13 +186,27 @@ static void try_refusal(const ask *a, const row *r) {
     try_call(a, &wanted);
 }
 
-/* Two wrong things at once. Build takes blocks in rising order; else the upper row comes first. */
+/* What is carried out is refused alike whatever it is told; other calls are told nothing. */
+static void try_told(ask a, const row *r) {
+    static const uint64_t told[] = {THX_STORES_ALL, 0, 1};
+    size_t k;
+    for (k = 0; k < (carries(a.call) ? 3 : 1); k++) {
+        a.stores = told[k];
+        try_refusal(&a, r);
+    }
+}
+
+/*
+ * Two wrong things at once. Build and Sweep take blocks in rising order; else the upper row comes
+ * first.
+ */
 static void try_both(int call, const row *upper, const row *lower) {
     ask a = sound_ask(call);
-    int lower_first = call == BUILD && upper->block != ANY && lower->block < upper->block;
+    int in_turn = (IN_TURN & BIT(call)) != 0;
+    int lower_first = in_turn && upper->block != ANY && lower->block < upper->block;
     spoil(&a, lower);
     spoil(&a, upper);
-    try_refusal(&a, lower_first ? lower : upper);
+    try_told(a, lower_first ? lower : upper);
 }
 
 void every_refusal(void) {
@@ -203,7 +218,7 @@ void every_refusal(void) {
             if ((rows[upper].calls & BIT(call)) != 0) {
                 ask a = sound_ask(call);
                 spoil(&a, &rows[upper]);
-                try_refusal(&a, &rows[upper]);
+                try_told(a, &rows[upper]);
                 for (lower = upper + 1; lower < ROWS; lower++) {
                     if ((rows[lower].calls & BIT(call)) != 0) {
                         try_both(call, &rows[upper], &rows[lower]);
@@ -214,16 +229,21 @@ void every_refusal(void) {
     }
 }
 
-/* An ask made wrong in what the call does not look at: done, for each block and, if told one, kind. */
+/*
+ * An ask made wrong in what the call does not look at: done, for each block and, if they are told,
+ * each kind and number of stores.
+ */
 static void try_done(int call, const row *r) {
     uint32_t kinds = carries(call) ? 3 : 1;
     ask a = sound_ask(call);
     spoil(&a, r);
     for (a.block = 0; a.block <= (cuts(call) ? 3u : 2u); a.block++) {
         for (a.kind = 0; a.kind < kinds; a.kind++) {
-            answer wanted = answer_of(&a);
-            CHECK(wanted.number == THX_DONE);
-            try_call(&a, &wanted);
+            for (a.stores = 0; a.stores <= (carries(call) ? THX_STORES_ALL : 0u); a.stores++) {
+                answer wanted = answer_of(&a);
+                CHECK(wanted.number == THX_DONE);
+                try_call(&a, &wanted);
+            }
         }
     }
 }
@@ -231,10 +251,11 @@ static void try_done(int call, const row *r) {
 /*
  * What a call does not look at is no fault. A cut is done whatever the slots, payloads, places and
  * pairs are, in the blocks that it drops and in those that it keeps; highest is done whatever the
- * payloads are; carrying out whatever the slots, places and pairs are, its own block's and others.
+ * payloads are, and so is a sweep, which also takes any place for what it is; carrying out whatever
+ * the slots, places and pairs are, its own block's and others.
  */
 void every_fault_left(void) {
-    static const int calls[] = {CUT, CUT_MAPPED, HIGHEST, CARRY_OUT, CARRY_OUT_MAPPED};
+    static const int calls[] = {CUT, CUT_MAPPED, HIGHEST, SWEEP, CARRY_OUT, CARRY_OUT_MAPPED};
     size_t call, at;
     for (call = 0; call < sizeof calls / sizeof calls[0]; call++) {
         for (at = 0; at < ROWS; at++) {

@@ -169,7 +169,7 @@ static uint32_t later_refusal(const ask *a) {
     if (carries(a->call)) {
         return decision_refusal(a);
     }
-    if (a->call == BUILD && blocks(a) > 1 && places(a) < 2) {
+    if ((a->call == BUILD || a->call == SWEEP) && blocks(a) > 1 && places(a) < 2) {
         return THX_NO_FULL_PAGE;
     }
     if (a->call == APPLY && !sound_payload(a)) {
@@ -277,8 +277,8 @@ static void page_bytes(const ask *a, uint8_t *const bytes[ROLES]) {
     }
 }
 
-/* The slot of the kind, and the block's place, if it has one. */
-static void carry_bytes(const ask *a, uint8_t *const bytes[ROLES]) {
+/* The slot of the kind. */
+static void slot_bytes(const ask *a, uint8_t *const bytes[ROLES]) {
     uint8_t *slot = bytes[PATCH] + 512 + 512 * a->block;
     memset(slot, 0, 512);
     slot[0] = (uint8_t)a->kind;
@@ -288,6 +288,10 @@ static void carry_bytes(const ask *a, uint8_t *const bytes[ROLES]) {
         slot[3] = (uint8_t)(a->length[PAYLOAD] / 256);
         memcpy(slot + 8, bytes[PAYLOAD], a->length[PAYLOAD]);
     }
+}
+
+/* The block's place, if it has one: the page or zeros. */
+static void place_bytes(const ask *a, uint8_t *const bytes[ROLES]) {
     if (a->block < places(a)) {
         uint8_t *place = bytes[FULL] + 4096 + 8192 * a->block;
         memset(place, 0, 8192);
@@ -304,6 +308,31 @@ static void pair_bytes(const ask *a, uint8_t *const bytes[ROLES]) {
         {0x00, 0x00, 0x00, 0x00}, {0x02, 0x08, 0x20, 0x80}, {0x01, 0x04, 0x10, 0x40}};
     uint8_t *byte = bytes[MAP] + a->block / 4;
     *byte = (uint8_t)((*byte & others[a->block % 4]) | own[a->kind][a->block % 4]);
+}
+
+/* Page then slot, or slot then place, as far as it is told; the pair only if it is told all. */
+static void carry_bytes(const ask *a, uint8_t *const bytes[ROLES]) {
+    int all = a->stores != 0 && a->stores != 1;
+    int full = a->kind == THX_KIND_FULL;
+    if (all || (a->stores == 1 && full)) {
+        place_bytes(a, bytes);
+    }
+    if (all || (a->stores == 1 && !full)) {
+        slot_bytes(a, bytes);
+    }
+    if (all && a->call == CARRY_OUT_MAPPED) {
+        pair_bytes(a, bytes);
+    }
+}
+
+/* Every place but that of the FULL_REF block. */
+static void sweep_bytes(const ask *a, uint8_t *const bytes[ROLES]) {
+    uint64_t block;
+    for (block = 0; block < places(a); block++) {
+        if (slot_kind(block) != THX_KIND_FULL) {
+            memset(bytes[FULL] + 4096 + 8192 * block, 0, 8192);
+        }
+    }
 }
 
 /* Slots, places and pairs of blocks k and up, block by block; other pairs of the map stay. */
@@ -328,13 +357,12 @@ void change(const ask *a, uint8_t *const bytes[ROLES]) {
         memcpy(bytes[PAYLOAD], page_difference(a)->stream, page_difference(a)->length);
     } else if (a->call == APPLY || reads(a->call)) {
         page_bytes(a, bytes);
-    } else if (a->call == CARRY_OUT) {
+    } else if (carries(a->call)) {
         carry_bytes(a, bytes);
-    } else if (a->call == CARRY_OUT_MAPPED) {
-        carry_bytes(a, bytes);
-        pair_bytes(a, bytes);
     } else if (cuts(a->call)) {
         cut_bytes(a, bytes);
+    } else if (a->call == SWEEP) {
+        sweep_bytes(a, bytes);
     } else if (a->call == BUILD) {
         memset(bytes[MAP], 0, (blocks(a) + 3) / 4);
         if (blocks(a) > 0) {

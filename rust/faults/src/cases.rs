@@ -1,8 +1,6 @@
 //! Slots, pages and areas that are lost, swapped, cut, doubled, or lent with another base.
 
-use thonxiliko::{
-    carry_out, compare, Kind, PayloadRefusal, PAGE_SIZE, PATCH_HEADER_SIZE, PAYLOAD_SIZE, SLOT_SIZE,
-};
+use thonxiliko::{Kind, PayloadRefusal, Stores, PAGE_SIZE, PATCH_HEADER_SIZE, SLOT_SIZE};
 
 use crate::checksum;
 use crate::shipped::Block;
@@ -155,7 +153,7 @@ impl<'b> Ground<'b> {
 }
 
 /// A base of length 0 stands for zeros.
-fn filled(base: &[u8]) -> Vec<u8> {
+pub(crate) fn filled(base: &[u8]) -> Vec<u8> {
     let mut page = base.to_vec();
     page.resize(PAGE_SIZE, 0);
     page
@@ -207,10 +205,9 @@ pub fn all(store: &Store, blocks: &[Block]) -> Vec<Case> {
 fn lost(ground: &Ground) -> Vec<Case> {
     let ([patch, _], [full, _]) = (ground.patch, ground.full);
     let older = |store: &mut Store| {
-        let mut payload = [0; PAYLOAD_SIZE];
+        let Block { base, .. } = &ground.blocks[patch];
         let page = earlier(&ground.blocks[patch]);
-        let decision = compare(&store.bases[patch], &page, &mut payload).expect("sound lengths");
-        carry_out(&mut store.patch, &mut store.full, patch as u64, &decision).expect("a patch");
+        store.write_told(patch, base, &page, Stores::All).expect("a patch");
     };
     vec![
         ground
@@ -218,6 +215,10 @@ fn lost(ground: &Ground) -> Vec<Case> {
         ground.case("a PATCH slot as it was before the last write", &[patch], older),
         ground.case("a FULL_REF slot set to zeros, its page kept", &[full], |store| {
             store.patch[slot(full)].fill(0)
+        }),
+        ground.case("a FULL_REF slot set to zeros, its page kept, then swept", &[full], |store| {
+            store.patch[slot(full)].fill(0);
+            store.sweep().expect("sound slots");
         }),
         ground.case("a FULL_REF slot and its page set to zeros", &[full], |store| {
             store.patch[slot(full)].fill(0);

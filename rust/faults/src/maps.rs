@@ -1,9 +1,9 @@
 //! Reads by a map: what they give where a slot is damaged and the map is not, where the map is damaged,
-//! and where it missed a write.
+//! and where it missed a write or is from before a stop.
 
-use thonxiliko::{Kind, PAGE_SIZE};
+use thonxiliko::{Kind, Stores, PAGE_SIZE};
 
-use crate::cases::{Given, Ground};
+use crate::cases::{filled, Given, Ground};
 use crate::checksum;
 use crate::flips::in_patch_area;
 use crate::shipped::Block;
@@ -127,6 +127,11 @@ pub fn cases(store: &Store, blocks: &[Block]) -> Vec<Case> {
     let fresh = |store: &mut Store| {
         *store = Store::fresh(blocks, store.pages()).expect("sound lengths");
     };
+    // A full block is to be as its base again; its slot is, and then the process ends.
+    let stopped = |store: &mut Store| {
+        let base = &blocks[full].base;
+        store.write_told(full, base, &filled(base), Stores::One).expect("a sound store");
+    };
     vec![
         missed("a PATCH write that the map missed, EMPTY before", patch, EMPTY),
         missed("a PATCH write that the map missed, full before", patch, FULL),
@@ -146,5 +151,12 @@ pub fn cases(store: &Store, blocks: &[Block]) -> Vec<Case> {
         }),
         case("both areas formatted, the map kept: a PATCH block", patch, &|store, _| fresh(store)),
         case("both areas formatted, the map kept: a full block", full, &|store, _| fresh(store)),
+        case("a write of the base stopped after one store, full before", full, &|store, _| {
+            stopped(store)
+        }),
+        case("a write of the base so stopped, then swept, full before", full, &|store, _| {
+            stopped(store);
+            store.sweep().expect("sound slots");
+        }),
     ]
 }

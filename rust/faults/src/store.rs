@@ -4,8 +4,8 @@ use std::ops::Range;
 
 use thonxiliko::{
     build, carry_out, compare, format, full_area_len, judge, map_len, patch_area_len, read,
-    read_mapped, BuildRefusal, Kind, PayloadRefusal, Refusal, FULL_HEADER_SIZE, PAGE_SIZE,
-    PATCH_HEADER_SIZE, PAYLOAD_SIZE, SLOT_SIZE,
+    read_mapped, sweep, BuildRefusal, Kind, PayloadRefusal, Refusal, Stores, FULL_HEADER_SIZE,
+    PAGE_SIZE, PATCH_HEADER_SIZE, PAYLOAD_SIZE, SLOT_SIZE,
 };
 
 use crate::shipped::Block;
@@ -42,10 +42,25 @@ impl Store {
 
     /// Keeps a block's page over its base: what Compare decides is carried out.
     pub fn write(&mut self, at: usize, block: &Block) -> Result<(), Refusal> {
+        self.write_told(at, &block.base, &block.page, Stores::All)
+    }
+
+    /// The same for any base and page, stopped if it is told fewer stores than all.
+    pub fn write_told(
+        &mut self,
+        at: usize,
+        base: &[u8],
+        page: &[u8],
+        stores: Stores,
+    ) -> Result<(), Refusal> {
         let mut payload = [0; PAYLOAD_SIZE];
-        let decision = compare(&block.base, &block.page, &mut payload)?;
-        carry_out(&mut self.patch, &mut self.full, at as u64, &decision)?;
+        let decision = compare(base, page, &mut payload)?;
+        carry_out(&mut self.patch, &mut self.full, at as u64, &decision, stores)?;
         Ok(())
+    }
+
+    pub fn sweep(&mut self) -> Result<(), Refusal> {
+        sweep(&self.patch, &mut self.full)
     }
 
     pub fn fresh(blocks: &[Block], pages: usize) -> Result<Store, Refusal> {

@@ -9,7 +9,7 @@ use faults::maps::{self, Bit};
 use faults::shipped::{self, Block};
 use faults::store::{place, slot, Store};
 use faults::{checksum, tables};
-use thonxiliko::{entries, show, Kind, Refusal, PAGE_SIZE, SLOT_SIZE};
+use thonxiliko::{entries, show, Kind, Refusal, Stores, PAGE_SIZE, SLOT_SIZE};
 
 fn ground() -> (Store, Vec<Block>) {
     let blocks = shipped::blocks(&shipped::folder()).expect("the shipped pages");
@@ -313,6 +313,38 @@ fn what_a_wrong_map_says_is_done() {
     assert_eq!(by_map("the map says full of a block not below m"), Given::Refused(8));
     let lost = "a FULL_REF slot set to zeros, the map kept";
     assert_eq!(by_map(lost), page(Kind::Full, Page::Written));
+}
+
+/// A sweep where no write was stopped: Build accepts the store again, and a page is gone for good.
+#[test]
+fn a_sweep_erases_the_page_of_a_lost_slot() {
+    let (mut store, blocks) = ground();
+    let block = first(&store, Kind::Full);
+    store.patch[slot(block)].fill(0);
+    assert_eq!(store.full[place(block)], blocks[block].page);
+    assert_eq!(store.build().unwrap_err().refusal, Refusal::StrayPage);
+    store.sweep().expect("sound slots");
+    assert_eq!(store.build(), Ok(()));
+    assert_eq!(store.full[place(block)], [0; PAGE_SIZE]);
+    assert_eq!(read(&store, block), (Ok(Kind::Empty), blocks[block].base.clone()));
+}
+
+/// The trap: a full block is to be as its base again, the write is stopped and swept. By the map from
+/// before it is zeros, neither the page that it was nor the one that it became.
+#[test]
+fn a_map_from_before_a_stop_gives_zeros_after_the_sweep() {
+    let (mut store, blocks) = ground();
+    let map = store.map().expect("a sound store");
+    let block = first(&store, Kind::Full);
+    let Block { base, page, .. } = &blocks[block];
+    assert!(base.len() == PAGE_SIZE && base[..] != [0; PAGE_SIZE] && page[..] != [0; PAGE_SIZE]);
+    store.write_told(block, base, base, Stores::One).expect("a sound store");
+    assert_eq!(read_by(&map, &store, block), (Ok(Kind::Full), page.clone()));
+    assert_eq!(read(&store, block), (Ok(Kind::Empty), base.clone()));
+    store.sweep().expect("sound slots");
+    assert_eq!(read_by(&map, &store, block), (Ok(Kind::Full), vec![0; PAGE_SIZE]));
+    let anew = store.map().expect("a sound store");
+    assert_eq!(read_by(&anew, &store, block), (Ok(Kind::Empty), base.clone()));
 }
 
 /// The document's figures are those of this tree.

@@ -115,13 +115,6 @@ extern "C" {
         page_len: usize,
     ) -> thx_reading;
 
-    pub fn thx_sweep(
-        patch: *const u8,
-        patch_len: usize,
-        full: *mut u8,
-        full_len: usize,
-    ) -> thx_done;
-
     pub fn thx_cut(
         patch: *mut u8,
         patch_len: usize,
@@ -141,6 +134,13 @@ extern "C" {
     ) -> thx_done;
 
     pub fn thx_highest(patch: *const u8, patch_len: usize) -> thx_extent;
+
+    pub fn thx_sweep(
+        patch: *const u8,
+        patch_len: usize,
+        full: *mut u8,
+        full_len: usize,
+    ) -> thx_done;
 
     pub fn thx_build(
         patch: *const u8,

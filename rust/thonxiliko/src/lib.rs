@@ -1106,65 +1106,6 @@ pub fn carry_out_mapped(
     Ok(Written { kind: kind(written.kind), length: written.length as usize })
 }
 
-/// Clears up after a write that was stopped: zeroes the place of every block whose slot does not refer to
-/// it, and nothing else. `patch` is only read.
-///
-/// Every block reads as before, and [`build`] gives no [`Refusal::StrayPage`] any more; a store that it
-/// accepts is not changed. Where one write of a run of writes and cuts from fresh areas was stopped, both
-/// areas are, after the sweep, those of the run with that write whole or without it. Without it if it was
-/// told [`Stores::None`], or told [`Stores::One`] with [`Kind::Full`] on a block whose slot did not refer
-/// to a full page; else with it.
-///
-/// No map is lent. Build the map anew: by one from before the stop a block that was full reads as zeros.
-///
-/// Sweep where a stop is known. [`Refusal::StrayPage`] without one means that a slot was lost, and then
-/// the place has the only copy of a page.
-///
-/// Refuses, in this order: [`Refusal::AreaLength`], [`Refusal::Header`] and [`Refusal::Version`]; then, at
-/// the lowest block at fault, [`Refusal::Slot`] or [`Refusal::NoFullPage`], for all blocks, also where
-/// there is no full area. Payloads are not looked at.
-///
-/// ```
-/// use thonxiliko::{build, carry_out_mapped, compare, format, full_area_len, patch_area_len};
-/// use thonxiliko::{read, read_mapped, sweep, Kind, Refusal, Stores, PAGE_SIZE, PAYLOAD_SIZE};
-///
-/// let mut patch = vec![0; patch_area_len(2)];
-/// let mut full = vec![0; full_area_len(2)];
-/// let mut map = [0];
-/// format(&mut patch, &mut full)?;
-/// let (old, mut new) = (vec![9; PAGE_SIZE], vec![0; PAGE_SIZE]);
-/// new[100] = 8;
-/// let (mut first, mut second) = ([0; PAYLOAD_SIZE], [0; PAYLOAD_SIZE]);
-/// let large = compare(&[], &old, &mut first)?;
-/// let small = compare(&[], &new, &mut second)?;
-/// carry_out_mapped(&mut patch, &mut full, &mut map, 0, &large, Stores::All)?;
-///
-/// // Stopped after one store: block 0 has its patch, and the old page still stands in its place.
-/// carry_out_mapped(&mut patch, &mut full, &mut map, 0, &small, Stores::One)?;
-/// let fault = build(&patch, &full, &mut [0]).unwrap_err();
-/// assert_eq!((fault.refusal, fault.block), (Refusal::StrayPage, Some(0)));
-/// sweep(&patch, &mut full)?;
-/// assert_eq!(full[4_096], 0);
-///
-/// // The map did not see it, and gives neither page.
-/// let mut page = vec![1; PAGE_SIZE];
-/// assert_eq!(read_mapped(&patch, &full, &map, 0, &[], &mut page)?, Kind::Full);
-/// assert_eq!(page, [0; PAGE_SIZE]);
-/// build(&patch, &full, &mut map)?;
-/// assert_eq!(read_mapped(&patch, &full, &map, 0, &[], &mut page)?, Kind::Patch);
-/// assert_eq!(page, new);
-///
-/// patch[1_024] = 9; // block 1: no such kind
-/// assert_eq!(sweep(&patch, &mut full), Err(Refusal::Slot));
-/// # Ok::<(), Refusal>(())
-/// ```
-pub fn sweep(patch: &[u8], full: &mut [u8]) -> Result<(), Refusal> {
-    // SAFETY: as in `format`.
-    let done =
-        unsafe { sys::thx_sweep(patch.as_ptr(), patch.len(), full.as_mut_ptr(), full.len()) };
-    accepted(done.number)
-}
-
 /// Fills `page` with a block by what the map says of it.
 ///
 /// [`Pair::Empty`] gives the base, and neither slot nor full area is looked at. [`Pair::Patch`] needs a
@@ -1365,6 +1306,65 @@ pub fn highest(patch: &[u8]) -> Result<u64, Refusal> {
     let extent = unsafe { sys::thx_highest(patch.as_ptr(), patch.len()) };
     accepted(extent.number)?;
     Ok(extent.blocks)
+}
+
+/// Clears up after a write that was stopped: zeroes the place of every block whose slot does not refer to
+/// it, and nothing else. `patch` is only read.
+///
+/// Every block reads as before, and [`build`] gives no [`Refusal::StrayPage`] any more; a store that it
+/// accepts is not changed. Where one write of a run of writes and cuts from fresh areas was stopped, both
+/// areas are, after the sweep, those of the run with that write whole or without it. Without it if it was
+/// told [`Stores::None`], or told [`Stores::One`] with [`Kind::Full`] on a block whose slot did not refer
+/// to a full page; else with it.
+///
+/// No map is lent. Build the map anew: by one from before the stop a block that was full reads as zeros.
+///
+/// Sweep where a stop is known. [`Refusal::StrayPage`] without one means that a slot was lost, and then
+/// the place has the only copy of a page.
+///
+/// Refuses, in this order: [`Refusal::AreaLength`], [`Refusal::Header`] and [`Refusal::Version`]; then, at
+/// the lowest block at fault, [`Refusal::Slot`] or [`Refusal::NoFullPage`], for all blocks, also where
+/// there is no full area. Payloads are not looked at.
+///
+/// ```
+/// use thonxiliko::{build, carry_out_mapped, compare, format, full_area_len, patch_area_len};
+/// use thonxiliko::{read, read_mapped, sweep, Kind, Refusal, Stores, PAGE_SIZE, PAYLOAD_SIZE};
+///
+/// let mut patch = vec![0; patch_area_len(2)];
+/// let mut full = vec![0; full_area_len(2)];
+/// let mut map = [0];
+/// format(&mut patch, &mut full)?;
+/// let (old, mut new) = (vec![9; PAGE_SIZE], vec![0; PAGE_SIZE]);
+/// new[100] = 8;
+/// let (mut first, mut second) = ([0; PAYLOAD_SIZE], [0; PAYLOAD_SIZE]);
+/// let large = compare(&[], &old, &mut first)?;
+/// let small = compare(&[], &new, &mut second)?;
+/// carry_out_mapped(&mut patch, &mut full, &mut map, 0, &large, Stores::All)?;
+///
+/// // Stopped after one store: block 0 has its patch, and the old page still stands in its place.
+/// carry_out_mapped(&mut patch, &mut full, &mut map, 0, &small, Stores::One)?;
+/// let fault = build(&patch, &full, &mut [0]).unwrap_err();
+/// assert_eq!((fault.refusal, fault.block), (Refusal::StrayPage, Some(0)));
+/// sweep(&patch, &mut full)?;
+/// assert_eq!(full[4_096], 0);
+///
+/// // The map did not see it, and gives neither page.
+/// let mut page = vec![1; PAGE_SIZE];
+/// assert_eq!(read_mapped(&patch, &full, &map, 0, &[], &mut page)?, Kind::Full);
+/// assert_eq!(page, [0; PAGE_SIZE]);
+/// build(&patch, &full, &mut map)?;
+/// assert_eq!(read_mapped(&patch, &full, &map, 0, &[], &mut page)?, Kind::Patch);
+/// assert_eq!(page, new);
+///
+/// patch[1_024] = 9; // block 1: no such kind
+/// assert_eq!(sweep(&patch, &mut full), Err(Refusal::Slot));
+/// # Ok::<(), Refusal>(())
+/// ```
+pub fn sweep(patch: &[u8], full: &mut [u8]) -> Result<(), Refusal> {
+    // SAFETY: as in `format`.
+    let done =
+        unsafe { sys::thx_sweep(patch.as_ptr(), patch.len(), full.as_mut_ptr(), full.len()) };
+    accepted(done.number)
 }
 
 /// Checks every slot, every payload and every place in the full area, and makes the block map.

@@ -7,8 +7,8 @@ use std::path::Path;
 
 use thonxiliko::{
     build, carry_out_mapped, compare, cut_mapped, format, full_area_len, highest, look_up, map_len,
-    patch_area_len, read, read_mapped, tally, Kind, Pair, MAX_BLOCKS, PAGE_SIZE, PATCH_HEADER_SIZE,
-    PAYLOAD_SIZE, SLOT_SIZE,
+    patch_area_len, read, read_mapped, tally, Kind, Pair, Stores, MAX_BLOCKS, PAGE_SIZE,
+    PATCH_HEADER_SIZE, PAYLOAD_SIZE, SLOT_SIZE,
 };
 
 use crate::decided::{Decided, Files, Kinds};
@@ -204,7 +204,7 @@ impl Areas {
     fn write(&mut self, block: u64, base: &[u8], page: &[u8]) -> Outcome<Kind> {
         let Areas { patch, full, map } = self;
         compare(base, page, &mut [0; PAYLOAD_SIZE])
-            .and_then(|decision| carry_out_mapped(patch, full, map, block, &decision))
+            .and_then(|decision| carry_out_mapped(patch, full, map, block, &decision, Stores::All))
             .map(|written| written.kind)
             .map_err(|refusal| format!("block {block}: {refusal}").into())
     }

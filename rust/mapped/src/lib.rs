@@ -1,0 +1,149 @@
+//! Area files mapped into memory, as a program has them that keeps a store on disk.
+//!
+//! What a call stores in a mapped file is there for every other process at once, and stays there however
+//! the process ends. When it is on disk is for the system to choose, in an order of its own, but for
+//! [`Area::sync`].
+
+use std::fs::{File, OpenOptions};
+use std::io;
+use std::os::raw::{c_int, c_long, c_void};
+use std::os::unix::io::AsRawFd;
+use std::path::Path;
+use std::ptr;
+
+extern "C" {
+    fn mmap(
+        addr: *mut c_void,
+        length: usize,
+        prot: c_int,
+        flags: c_int,
+        fd: c_int,
+        offset: c_long,
+    ) -> *mut c_void;
+    fn msync(addr: *mut c_void, length: usize, flags: c_int) -> c_int;
+    fn munmap(addr: *mut c_void, length: usize) -> c_int;
+    fn raise(signal: c_int) -> c_int;
+}
+
+// The values of Linux on x86-64 and aarch64.
+const PROT_READ: c_int = 1;
+const PROT_WRITE: c_int = 2;
+const MAP_SHARED: c_int = 0x01;
+const MS_SYNC: c_int = 4;
+
+/// The signal that no process can catch or put off.
+pub const SIGKILL: c_int = 9;
+
+/// One area in a file, mapped as a whole. As long as it stands nobody else may write to the file or cut
+/// it. An absent area has no file and no bytes.
+pub struct Area {
+    start: *mut u8,
+    length: usize,
+}
+
+impl Area {
+    /// A new file of so many zeros, which is one hole.
+    pub fn create(path: &Path, length: usize) -> io::Result<Area> {
+        let file = OpenOptions::new().read(true).write(true).create_new(true).open(path)?;
+        file.set_len(length as u64)?;
+        Area::of(&file, length)
+    }
+
+    /// A file that is there, with all its bytes.
+    pub fn open(path: &Path) -> io::Result<Area> {
+        let file = OpenOptions::new().read(true).write(true).open(path)?;
+        let length = usize::try_from(file.metadata()?.len())
+            .map_err(|_| io::Error::new(io::ErrorKind::Other, "more bytes than can be mapped"))?;
+        Area::of(&file, length)
+    }
+
+    /// A file if it is there, else an absent area.
+    pub fn open_or_absent(path: &Path) -> io::Result<Area> {
+        if path.exists() {
+            Area::open(path)
+        } else {
+            Ok(Area::absent())
+        }
+    }
+
+    pub fn absent() -> Area {
+        Area { start: ptr::NonNull::dangling().as_ptr(), length: 0 }
+    }
+
+    /// The file stays mapped when its handle is gone.
+    fn of(file: &File, length: usize) -> io::Result<Area> {
+        if length == 0 {
+            return Ok(Area::absent()); // nothing cannot be mapped
+        }
+        let access = PROT_READ | PROT_WRITE;
+        // SAFETY: a new mapping, of bytes that the file has, at an address of the system's choice.
+        let start =
+            unsafe { mmap(ptr::null_mut(), length, access, MAP_SHARED, file.as_raw_fd(), 0) };
+        if start as isize == -1 {
+            return Err(io::Error::last_os_error());
+        }
+        Ok(Area { start: start.cast(), length })
+    }
+
+    pub fn bytes(&self) -> &[u8] {
+        // SAFETY: mapped with this length, or no bytes at an aligned address; borrowed for the slice.
+        unsafe { std::slice::from_raw_parts(self.start, self.length) }
+    }
+
+    pub fn bytes_mut(&mut self) -> &mut [u8] {
+        // SAFETY: as in `bytes`, and nothing else borrows it.
+        unsafe { std::slice::from_raw_parts_mut(self.start, self.length) }
+    }
+
+    /// Waits until all that was stored so far is on disk, as far as the system tells.
+    pub fn sync(&self) -> io::Result<()> {
+        if self.length == 0 {
+            return Ok(());
+        }
+        // SAFETY: a mapping that stands, as a whole.
+        match unsafe { msync(self.start.cast(), self.length, MS_SYNC) } {
+            0 => Ok(()),
+            _ => Err(io::Error::last_os_error()),
+        }
+    }
+}
+
+impl Drop for Area {
+    fn drop(&mut self) {
+        if self.length != 0 {
+            // SAFETY: mapped with this length; no slice of it is alive.
+            unsafe { munmap(self.start.cast(), self.length) };
+        }
+    }
+}
+
+/// Ends this process on the spot, as a kill from elsewhere would: nothing is flushed, dropped or undone.
+pub fn end_now() -> ! {
+    // SAFETY: the signal goes to this process alone, and nothing of it runs afterwards.
+    unsafe { raise(SIGKILL) };
+    unreachable!("a process that survived SIGKILL")
+}
+
+#[cfg(test)]
+mod tests {
+    use super::*;
+    use std::fs;
+
+    #[test]
+    fn what_is_stored_is_in_the_file() {
+        let path = std::env::temp_dir().join(format!("mapped-{}", std::process::id()));
+        let mut area = Area::create(&path, 10_000).expect("a new file");
+        assert!(area.bytes().iter().all(|byte| *byte == 0));
+        area.bytes_mut()[9_999] = 7;
+        assert_eq!(fs::read(&path).expect("the file")[9_998..], [0, 7]);
+        area.sync().expect("on disk");
+        drop(area);
+        assert!(Area::create(&path, 1).is_err());
+        let again = Area::open_or_absent(&path).expect("the file");
+        assert_eq!((again.bytes().len(), again.bytes()[9_999]), (10_000, 7));
+        fs::remove_file(&path).expect("removed");
+        assert_eq!(again.bytes()[9_999], 7);
+        assert_eq!(Area::open_or_absent(&path).expect("no file").bytes(), []);
+        assert!(Area::absent().sync().is_ok());
+    }
+}
