@@ -665,8 +665,17 @@ fn read_input(rng: &mut Rng) -> Input {
     Input::new(Call::Read, vec![areas.patch, areas.full, base, page]).at_block(block)
 }
 
+/// Areas on which a decision is carried out, some of them as other stops have left them.
+fn areas_to_write(rng: &mut Rng) -> Areas {
+    let mut areas = damaged_areas(rng);
+    if rng.chance(30) {
+        stray_pages(rng, &mut areas);
+    }
+    areas
+}
+
 fn carry_out_input(rng: &mut Rng) -> Input {
-    let areas = damaged_areas(rng);
+    let areas = areas_to_write(rng);
     let block = block(rng, areas.blocks());
     let input = decision(rng).input(Call::CarryOut, vec![areas.patch, areas.full], block);
     input.storing(stores(rng))
@@ -731,7 +740,7 @@ fn map_beside(rng: &mut Rng, areas: &mut Areas) -> Vec<u8> {
 }
 
 fn carry_out_mapped_input(rng: &mut Rng) -> Input {
-    let mut areas = damaged_areas(rng);
+    let mut areas = areas_to_write(rng);
     let map = map_beside(rng, &mut areas);
     let block = block(rng, areas.blocks());
     let lent = vec![areas.patch, areas.full, map];

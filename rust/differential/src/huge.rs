@@ -429,33 +429,21 @@ fn with_full_area(harness: &mut Harness) -> Result<(), Mismatch> {
     stores.write(LAST - 1, &[0; PAGE], &[0, 0, 0])?;
     stores.build(&[0])?;
 
-    // The same byte again, and the last page: both go by a cut.
+    // Two writes stopped after one store: a page to which no slot refers yet, and one to which none refers
+    // any more. An unsound slot at the end keeps both from the sweep.
+    stores.write_told(1, 65_537, &[7; PAGE], &[0, 2, 0])?;
+    stores.write_told(1, LAST, &small_change(), &[0, 1, 4])?;
+    stores.poke_patch(patch_len(MAX_BLOCKS) - 1, 1);
+    stores.sweep(&[6])?;
+    stores.poke_patch(patch_len(MAX_BLOCKS) - 1, 0);
+    stores.sweep_of_holes(&[0])?;
+    stores.build(&[0])?;
+
+    // The same byte again, and the last block: both go by a cut.
     stores.poke_full(full_len(MAX_BLOCKS - 1) - 1, 5);
     stores.cut(LAST - 1, &[0])?;
     stores.highest(&[0, 65_537])?;
     stores.build(&[0])
-}
-
-/// n = m = 131,072, with two writes stopped after one store and one before its first.
-fn stopped_and_swept(harness: &mut Harness) -> Result<(), Mismatch> {
-    let mut stores = Stores::new(harness, MAX_BLOCKS, Some(MAX_BLOCKS));
-    stores.write(LAST, &[9; PAGE], &[0, 2, 0])?;
-    stores.write_told(0, 0, &[8; PAGE], &[0, 2, 0])?;
-    // A page to which no slot refers yet, and one to which none refers any more.
-    stores.write_told(1, 65_536, &[7; PAGE], &[0, 2, 0])?;
-    stores.write_told(1, LAST, &small_change(), &[0, 1, 4])?;
-    stores.read(65_536, &[0, 0])?;
-    stores.read(LAST, &[0, 1])?;
-    stores.build(&[10, 65_536])?;
-
-    // An unsound slot at the end keeps both.
-    stores.poke_patch(patch_len(MAX_BLOCKS) - 1, 1);
-    stores.sweep(&[6])?;
-    stores.build(&[10, 65_536])?;
-    stores.poke_patch(patch_len(MAX_BLOCKS) - 1, 0);
-    stores.sweep_of_holes(&[0])?;
-    stores.build(&[0])?;
-    stores.read(LAST, &[0, 1])
 }
 
 /// A map of 131,072 blocks, lent to every decision and gone by.
@@ -515,7 +503,6 @@ fn more_pages_than_blocks(harness: &mut Harness) -> Result<(), Mismatch> {
     let mut stores = Stores::new(harness, MAX_BLOCKS, Some(MAX_BLOCKS + 1));
     stores.read(0, &[2])?;
     stores.cut(0, &[2])?;
-    stores.sweep(&[2])?;
     stores.build(&[2])
 }
 
@@ -525,7 +512,6 @@ pub fn check(harness: &mut Harness) -> Result<(), Mismatch> {
     cut_short(harness)?;
     one_block_too_many(harness)?;
     with_full_area(harness)?;
-    stopped_and_swept(harness)?;
     with_map(harness)?;
     one_page_fewer(harness)?;
     more_pages_than_blocks(harness)?;

@@ -542,7 +542,6 @@ pub fn check(harness: &mut Harness) -> Result<(), Mismatch> {
     maps(harness)?;
     steps(harness)?;
     highest(harness)?;
-    of_sweeps(harness)?;
     cut(harness)?;
     cut_mapped(harness)?;
     build_patches(harness)?;
@@ -551,6 +550,7 @@ pub fn check(harness: &mut Harness) -> Result<(), Mismatch> {
     read_full(harness)?;
     read_mapped_patch(harness)?;
     read_mapped_full(harness)?;
+    of_sweeps(harness)?;
     of_decisions(harness)
 }
 
@@ -563,5 +563,9 @@ pub fn of_sweeps(harness: &mut Harness) -> Result<(), Mismatch> {
 /// Those of a decision alone, which are the most.
 pub fn of_decisions(harness: &mut Harness) -> Result<(), Mismatch> {
     carry_out(harness)?;
+    of_decisions_with_a_map(harness)
+}
+
+pub fn of_decisions_with_a_map(harness: &mut Harness) -> Result<(), Mismatch> {
     carry_out_mapped(harness)
 }

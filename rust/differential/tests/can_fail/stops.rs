@@ -273,12 +273,13 @@ const WRONG_STOPS: [WrongStop; 27] = [
 
 #[test]
 fn wrong_stops_are_found() {
-    WRONG_STOPS.iter().for_each(|(name, wrong, _)| must_find(name, *wrong));
+    WRONG_STOPS.iter().for_each(|(name, wrong, _)| must_find_in(&DECISIONS, name, *wrong));
 }
 
 #[test]
 fn cases_by_hand_notice_wrong_stops() {
-    let cases = cases::all();
+    let mut cases = cases::all();
+    cases.retain(|case| case.input.call.carries_out());
     for (name, wrong, _) in WRONG_STOPS {
         let differs = |case: &cases::Case| {
             wrong(&case.input).difference(&case.expected, case.input.call).is_some()
@@ -295,10 +296,10 @@ pub(super) fn on_both_sides(program: Side) -> Harness {
     harness
 }
 
-/// The side that notices a program on both sides in runs that are stopped.
+/// The side that notices a wrong program on both sides in runs that are stopped. It needs not many.
 pub(super) fn side_in_stopped_runs(program: Side) -> Option<&'static str> {
     let mut harness = on_both_sides(program);
-    let mismatch = (0..60).find_map(|case| {
+    let mismatch = (0..20).find_map(|case| {
         let mut rng = Rng::for_case(SEED, "stops", case);
         stops::run(&mut harness, &mut rng, &mut stops::Met::default()).err()
     });
@@ -329,11 +330,11 @@ fn other_refusals_of_stops_are_noticed() {
         told_0_refuses_nothing as Side,
         told_0_looks_at_no_payload,
         told_0_wants_no_place,
-        stops_want_no_map,
         told_0_answers_nothing,
+        stops_want_no_map,
     ] {
-        let mismatch = orders::of_decisions(&mut on_both_sides(wrong)).expect_err("noticed");
-        assert_eq!(mismatch.side, "order of refusals");
+        let found = orders::of_decisions_with_a_map(&mut on_both_sides(wrong));
+        assert_eq!(found.expect_err("noticed").side, "order of refusals");
     }
 }
 
