@@ -69,8 +69,8 @@
  *   kind 1  PATCH      flags 1, payload length 1 to 504, zero after the payload.
  *   kind 2  FULL_REF   the page stands in the full area. Every other byte is zero.
  *
- * In the full area the place of a block that is not FULL_REF is all zeros. Only a write that was
- * stopped can leave a page there, until thx_sweep removes it.
+ * In the full area the place of a block that is not FULL_REF is all zeros. A write that was stopped
+ * can leave a page there, until thx_sweep removes it.
  *
  * A payload is a row of entries, each a jump and a value byte. A jump of 0 to 254 is one byte. A
  * jump of 255 to 65,535 is the byte 255 and then the jump in 16 bits, low byte first: the long
@@ -209,7 +209,8 @@
  *   - After a stop thx_read gives the block as before the write, or as after the whole of it, and
  *     every other block as before.
  *   - What a stop can leave is a page in the place of a block that is not FULL_REF: a new page that
- *     has no slot yet, or an old one that has none any more. thx_build gives 10 then.
+ *     has no slot yet, or an old one that has none any more. Unless it is all zeros thx_build gives
+ *     10 then.
  *
  * thx_sweep zeroes every such place. Say that one write was stopped in a run of writes and cuts
  * from fresh areas, and that others came after it or none. After the sweep both areas are, byte for
@@ -221,9 +222,9 @@
  *     FULL_REF block was to become PATCH, was told 1 and was swept, its pair is still 1, its place
  *     is zeros, and thx_read_mapped gives this page of zeros in silence: neither the old page nor
  *     the new one. Where an EMPTY block became PATCH its pair is 0 and gives the base.
- *   - SWEEP ONLY WHERE A WRITE MAY HAVE BEEN STOPPED. After a known stop 10 means: sweep. Without
- *     one it means that a FULL_REF slot was lost, and the place has the only copy of its page. A
- *     sweep erases it.
+ *   - SWEEP ONLY AFTER A KNOWN STOP, when 10 from thx_build means: sweep. Without one it means that
+ *     something is lost, a FULL_REF slot for instance, and then its place has the only copy of the
+ *     page. A sweep erases it.
  *   - MEMORY IS NOT DISK. What is proved is what a call leaves in memory when it returns. In a file
  *     that is mapped the second store may reach the disk first: the zeros before the slot, say, and
  *     after a power cut the block is FULL_REF and reads as zeros. Nor is anything proved of which
@@ -544,8 +545,8 @@ thx_written thx_carry_out_mapped(uint8_t *patch, size_t patch_len, uint8_t *full
  * Read by the map: fill `page` with a block as its pair in the map says.
  *
  * It trusts the map: with one that missed a write it can give yesterday's page, with one that
- * missed a cut a page of zeros. See A MAP THAT IS KEPT. `base` is the block's page in the base, the
- * same that its page was compared with.
+ * missed a cut, or a stop and its sweep, a page of zeros. See A MAP THAT IS KEPT. `base` is the
+ * block's page in the base, the same that its page was compared with.
  * Refuses, in this order: 1 if base_len is not 0 or 8,192 or page_len is not 8,192; 2 if the length
  * of an area is wrong; 9 if map_len is below n / 4, rounded up; 3 or 4 for the headers; 5 if the
  * block is not below n; 11 if the block's own pair is 3; and then
@@ -606,8 +607,8 @@ thx_extent thx_highest(const uint8_t *patch, size_t patch_len);
 /*
  * Sweep: clear up after a write that was stopped.
  *
- * Only where a write may have been stopped, and the map is built anew afterwards: see A WRITE THAT
- * IS STOPPED. The patch area is only read. Every block reads as before.
+ * Only after a known stop, and the map is built anew afterwards: see A WRITE THAT IS STOPPED. The
+ * patch area is only read. Every block reads as before.
  * Refuses, in this order: 2 if the length of an area is wrong; 3 or 4 for the headers; then block
  * by block in rising order, stopping at the first fault, and for one block 6 if its slot is not
  * sound, 8 if it is FULL_REF and not below m. All n slots are checked, also where the full area is
@@ -626,7 +627,8 @@ thx_done thx_sweep(const uint8_t *patch, size_t patch_len, uint8_t *full, size_t
  * Refuses, in this order: 2 if the length of an area is wrong; 9 if map_len is below n / 4, rounded
  * up; 3 or 4 for the headers; then block by block in rising order, stopping at the first fault, and
  * for one block 6 if its slot is not sound, 8 if it is FULL_REF and not below m, 7 if its payload
- * is not sound, 10 if it is not FULL_REF and its place in the full area is not all zero.
+ * is not sound, 10 if it is not FULL_REF and its place in the full area is not all zero. After a
+ * known stop 10 means that the areas are to be swept first: see A WRITE THAT IS STOPPED.
  * Writes: the first n / 4 bytes of the map, rounded up. Unused pairs of the last byte are 0; later
  * bytes stay.
  * Answers: block   the block at fault with 6, 7, 8 and 10, else 0;

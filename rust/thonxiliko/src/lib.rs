@@ -1319,12 +1319,12 @@ pub fn highest(patch: &[u8]) -> Result<u64, Refusal> {
 ///
 /// No map is lent. Build the map anew: by one from before the stop a block that was full reads as zeros.
 ///
-/// Sweep where a stop is known. [`Refusal::StrayPage`] without one means that a slot was lost, and then
-/// the place has the only copy of a page.
+/// Sweep only after a known stop. Without one [`Refusal::StrayPage`] means that something is lost, a slot
+/// for instance, and then the place has the only copy of a page, which a sweep erases.
 ///
-/// Refuses, in this order: [`Refusal::AreaLength`], [`Refusal::Header`] and [`Refusal::Version`]; then, at
-/// the lowest block at fault, [`Refusal::Slot`] or [`Refusal::NoFullPage`], for all blocks, also where
-/// there is no full area. Payloads are not looked at.
+/// Refuses, in this order: [`Refusal::AreaLength`], [`Refusal::Header`] and [`Refusal::Version`]; then
+/// [`Refusal::Slot`] or [`Refusal::NoFullPage`], that of the lowest block at fault. All slots are checked,
+/// also where there is no full area. Payloads are not looked at.
 ///
 /// ```
 /// use thonxiliko::{build, carry_out_mapped, compare, format, full_area_len, patch_area_len};

@@ -2,7 +2,7 @@
 
 use std::collections::BTreeSet;
 use std::fs::{self, File};
-use std::io::{BufReader, Read};
+use std::io::{BufReader, Read, Seek, SeekFrom};
 use std::path::{Path, PathBuf};
 
 use thonxiliko::PAGE_SIZE;
@@ -122,6 +122,17 @@ impl Pages {
         }
         Ok(())
     }
+}
+
+/// One page of a file of whole pages; empty where the file has none so far, as in [`Pages::next_page`].
+pub fn page_of(path: &Path, number: u64) -> Outcome<Vec<u8>> {
+    let mut pages = Pages::open(path)?;
+    let mut page = Vec::new();
+    if let (Some(file), true) = (&mut pages.file, number < pages.count) {
+        file.seek(SeekFrom::Start(number * PAGE_SIZE as u64))?;
+        pages.next_page(&mut page)?;
+    }
+    Ok(page)
 }
 
 pub fn same_bytes(one: &Path, other: &Path) -> Outcome<bool> {

@@ -45,7 +45,7 @@ fn with_suffix(path: &Path, suffix: &str) -> PathBuf {
     PathBuf::from(name)
 }
 
-fn area_paths(kept: &Path, path: &Path) -> (PathBuf, PathBuf) {
+pub fn area_paths(kept: &Path, path: &Path) -> (PathBuf, PathBuf) {
     let pages = kept.join("pages").join(path);
     (with_suffix(&pages, ".patch"), with_suffix(&pages, ".full"))
 }
@@ -247,7 +247,7 @@ fn rebuild_segments(
 }
 
 /// The paths of the segments that have areas, in order.
-fn kept_segments(kept: &Path) -> Outcome<Vec<PathBuf>> {
+pub fn kept_segments(kept: &Path) -> Outcome<Vec<PathBuf>> {
     let files = Listing::of(&kept.join("pages"))?.files;
     Ok(files
         .iter()

@@ -3,9 +3,11 @@
 //! The base folder is last night's backup and is never written to. `decide` tells what the changed pages
 //! of the relation files of another folder would take beside it, `store` keeps them there, `rebuild`
 //! makes that other folder again from the base and what was kept, `compare` holds two folders against
-//! each other byte by byte.
+//! each other byte by byte. `write` and `read` are about one block of what was kept, and `sweep` clears up
+//! after a write that was stopped.
 
 mod decided;
+mod files;
 mod folder;
 mod kept;
 mod names;
@@ -17,9 +19,11 @@ use std::error::Error;
 use std::path::Path;
 use std::process::ExitCode;
 
+use files::Block;
 use kept::Folders;
 use names::Names;
 use progress::Progress;
+use thonxiliko::Stores;
 
 pub type Outcome<T> = Result<T, Box<dyn Error>>;
 
@@ -28,6 +32,10 @@ usage: trial decide BASE CHANGED [--names FILE] [--live]
        trial store BASE CHANGED KEPT [--noon FOLDER] [--names FILE] [--live]
        trial rebuild BASE KEPT FOLDER [--live]
        trial compare FOLDER FOLDER
+       trial blocks KEPT
+       trial write BASE KEPT FILE BLOCK FROM PAGE [--stores 0 | --stores 1]
+       trial read BASE KEPT FILE BLOCK TO
+       trial sweep KEPT
 
   decide   tells what the changed blocks of CHANGED would take: nothing, a patch or a full page;
            nothing is stored
@@ -35,9 +43,17 @@ usage: trial decide BASE CHANGED [--names FILE] [--live]
   rebuild  makes FOLDER from BASE and KEPT
            KEPT of store and FOLDER of rebuild must be new, or have nothing in them
   compare  says whether both folders hold the same files with the same bytes
+  blocks   checks KEPT and lists its blocks: file, number, kind, and whether it has a place for a page
+  write    makes the page PAGE of the file FROM that of BLOCK of FILE in KEPT: the area files are mapped,
+           and the write is safe against a power cut
+  read     reads BLOCK of FILE from KEPT over BASE, into the file TO
+  sweep    clears up in KEPT after a write that was stopped: pages to which no slot refers are removed,
+           and KEPT is checked. Do not sweep where no write was stopped: a page whose slot was lost
+           would be removed too
 
   --noon FOLDER what CHANGED was like at noon: its pages are stored first, then those of CHANGED;
                 a file that CHANGED has shorter is cut in between
+  --stores N    the write is stopped after none or one of its two stores, and the process is killed
   --names FILE  lines of: path of a relation's first file, its name, 'system' or 'user' (by tabs)
   --live        a progress line that is written over, for terminals
 ";
@@ -46,6 +62,7 @@ struct Words {
     plain: Vec<String>,
     names: Option<String>,
     noon: Option<String>,
+    stores: Stores,
     live: bool,
 }
 
@@ -55,18 +72,48 @@ impl Words {
     }
 }
 
+fn fewer_stores(word: Option<String>) -> Outcome<Stores> {
+    match word.as_deref() {
+        Some("0") => Ok(Stores::None),
+        Some("1") => Ok(Stores::One),
+        _ => Err("--stores wants 0 or 1".into()),
+    }
+}
+
 fn words() -> Outcome<Words> {
-    let mut words = Words { plain: Vec::new(), names: None, noon: None, live: false };
+    let (plain, stores) = (Vec::new(), Stores::All);
+    let mut words = Words { plain, names: None, noon: None, stores, live: false };
     let mut given = std::env::args().skip(1);
     while let Some(word) = given.next() {
         match word.as_str() {
             "--names" => words.names = Some(given.next().ok_or("--names wants a file")?),
             "--noon" => words.noon = Some(given.next().ok_or("--noon wants a folder")?),
+            "--stores" => words.stores = fewer_stores(given.next())?,
             "--live" => words.live = true,
             _ => words.plain.push(word),
         }
     }
     Ok(words)
+}
+
+fn block<'p>(base: &'p str, kept: &'p str, path: &'p str, number: &str) -> Outcome<Block<'p>> {
+    let [base, kept, path] = [base, kept, path].map(Path::new);
+    Ok(Block { base, kept, path, number: number.parse()? })
+}
+
+/// The words about single blocks and stopped writes.
+fn run_on_blocks(words: &[&str], stores: Stores) -> Outcome<()> {
+    match *words {
+        ["blocks", kept] => files::list(kept.as_ref()),
+        ["write", base, kept, path, number, from, page] => {
+            block(base, kept, path, number)?.write(from.as_ref(), page.parse()?, stores)
+        }
+        ["read", base, kept, path, number, to] => {
+            block(base, kept, path, number)?.read(to.as_ref())
+        }
+        ["sweep", kept] => files::sweep_all(kept.as_ref()),
+        _ => Err("see 'trial --help'".into()),
+    }
 }
 
 fn run() -> Outcome<bool> {
@@ -105,7 +152,7 @@ fn run() -> Outcome<bool> {
             print!("{HELP}");
             Ok(true)
         }
-        _ => Err("see 'trial --help'".into()),
+        _ => run_on_blocks(&plain, words.stores).map(|()| true),
     }
 }
 

@@ -1,0 +1,313 @@
+//! The area files of a kept segment, mapped into memory: one block is written or read, and a stopped write
+//! is swept away. Each of these is one process of `examples/run`.
+
+use std::io::{self, Write};
+use std::path::Path;
+
+use mapped::{end_now, Area};
+use thonxiliko::{
+    build, carry_out, compare, judge, map_len, read, sweep, Decision, Kind, Stores,
+    FULL_HEADER_SIZE, PAGE_SIZE, PATCH_HEADER_SIZE, PAYLOAD_SIZE, SLOT_SIZE,
+};
+
+use crate::folder::page_of;
+use crate::kept::{area_paths, kept_segments};
+use crate::Outcome;
+
+/// A block of a segment, and where its store and its base are.
+#[derive(Clone, Copy)]
+pub struct Block<'p> {
+    pub base: &'p Path,
+    pub kept: &'p Path,
+    pub path: &'p Path,
+    pub number: u64,
+}
+
+impl Block<'_> {
+    fn base_page(&self) -> Outcome<Vec<u8>> {
+        page_of(&self.base.join(self.path), self.number)
+    }
+
+    /// Writes a page of a file, zeros if the file has no such page. Told fewer stores than all, this
+    /// process ends right after them, as it would if the machine tripped there.
+    pub fn write(&self, from: &Path, page: u64, stores: Stores) -> Outcome<()> {
+        let mut files = AreaFiles::open(self.kept, self.path)?;
+        let (base, mut page) = (self.base_page()?, page_of(from, page)?);
+        page.resize(PAGE_SIZE, 0);
+        let mut payload = [0; PAYLOAD_SIZE];
+        let decision = compare(&base, &page, &mut payload)?;
+        let (held, takes) = (files.kind(self.number)?, decision.kind());
+        let what = format!("{self}: held {}, takes {}", in_words(held), in_words(takes));
+        if stores == Stores::All {
+            files.write_safely(self.number, &decision)?;
+            println!("{what}; written");
+            return Ok(());
+        }
+        files.carry_out(self.number, &decision, stores)?;
+        let made = stores.number();
+        println!("{what}; stopped after {made} of its stores, and the process with it");
+        io::stdout().flush()?;
+        end_now()
+    }
+
+    /// Reads the block by its slot into a file.
+    pub fn read(&self, to: &Path) -> Outcome<()> {
+        let files = AreaFiles::open(self.kept, self.path)?;
+        let mut page = vec![0; PAGE_SIZE];
+        let kind = files.read(self.number, &self.base_page()?, &mut page)?;
+        std::fs::write(to, page)?;
+        println!("{self}: holds {} and was read", in_words(kind));
+        Ok(())
+    }
+}
+
+impl std::fmt::Display for Block<'_> {
+    fn fmt(&self, f: &mut std::fmt::Formatter<'_>) -> std::fmt::Result {
+        write!(f, "{}, block {}", self.path.display(), self.number)
+    }
+}
+
+fn in_words(kind: Kind) -> &'static str {
+    match kind {
+        Kind::Empty => "nothing",
+        Kind::Patch => "a patch",
+        Kind::Full => "a full page",
+    }
+}
+
+/// Both areas of a segment; without a full file the full area is absent.
+pub struct AreaFiles {
+    patch: Area,
+    full: Area,
+}
+
+impl AreaFiles {
+    pub fn open(kept: &Path, path: &Path) -> Outcome<AreaFiles> {
+        let (patch, full) = area_paths(kept, path);
+        let patch = Area::open(&patch).map_err(|error| format!("{}: {error}", patch.display()))?;
+        Ok(AreaFiles { patch, full: Area::open_or_absent(&full)? })
+    }
+
+    fn blocks(&self) -> u64 {
+        (self.patch.bytes().len().saturating_sub(PATCH_HEADER_SIZE) / SLOT_SIZE) as u64
+    }
+
+    fn kind(&self, block: u64) -> Outcome<Kind> {
+        if block >= self.blocks() {
+            return Err(format!("the store has {} blocks", self.blocks()).into());
+        }
+        let start = PATCH_HEADER_SIZE + SLOT_SIZE * block as usize;
+        Ok(judge(&self.patch.bytes()[start..start + SLOT_SIZE])?.kind)
+    }
+
+    /// The bytes of a block's place in the full area, if it has one.
+    fn place(&self, block: u64) -> Option<&[u8]> {
+        let start = FULL_HEADER_SIZE + PAGE_SIZE * block as usize;
+        self.full.bytes().get(start..start + PAGE_SIZE)
+    }
+
+    fn carry_out(&mut self, block: u64, decision: &Decision<'_>, stores: Stores) -> Outcome<()> {
+        carry_out(self.patch.bytes_mut(), self.full.bytes_mut(), block, decision, stores)?;
+        Ok(())
+    }
+
+    /// A whole write that a power cut can stop anywhere: the first store is on disk before the second one
+    /// is made.
+    fn write_safely(&mut self, block: u64, decision: &Decision<'_>) -> Outcome<()> {
+        self.carry_out(block, decision, Stores::One)?;
+        match decision.kind() {
+            Kind::Full => self.full.sync()?,
+            Kind::Empty | Kind::Patch => self.patch.sync()?,
+        }
+        self.carry_out(block, decision, Stores::All)?;
+        self.patch.sync()?;
+        self.full.sync()?;
+        Ok(())
+    }
+
+    fn read(&self, block: u64, base: &[u8], page: &mut [u8]) -> Outcome<Kind> {
+        Ok(read(self.patch.bytes(), self.full.bytes(), block, base, page)?)
+    }
+
+    /// Checks every block, as Build does.
+    fn check(&self) -> Outcome<()> {
+        let mut map = vec![0; map_len(self.blocks())];
+        Ok(build(self.patch.bytes(), self.full.bytes(), &mut map)?)
+    }
+
+    /// The blocks whose place holds something though their slots do not refer to it.
+    fn stray_blocks(&self) -> Outcome<Vec<u64>> {
+        let mut stray = Vec::new();
+        for block in 0..self.blocks() {
+            let place = self.place(block).unwrap_or(&[]);
+            if self.kind(block)? != Kind::Full && place.iter().any(|byte| *byte != 0) {
+                stray.push(block);
+            }
+        }
+        Ok(stray)
+    }
+
+    /// Sweeps, and gives the blocks from whose places a page was removed. Then Build must accept the areas.
+    fn sweep(&mut self) -> Outcome<Vec<u64>> {
+        let stray = self.stray_blocks()?;
+        sweep(self.patch.bytes(), self.full.bytes_mut())?;
+        self.full.sync()?;
+        self.check()?;
+        Ok(stray)
+    }
+}
+
+/// Does something with the area files of each kept segment, and names the segment if that fails.
+fn with_segments(
+    kept: &Path,
+    mut act: impl FnMut(&Path, AreaFiles) -> Outcome<()>,
+) -> Outcome<usize> {
+    let segments = kept_segments(kept)?;
+    for path in &segments {
+        AreaFiles::open(kept, path)
+            .and_then(|files| act(path, files))
+            .map_err(|problem| format!("{}: {problem}", path.display()))?;
+    }
+    Ok(segments.len())
+}
+
+/// Sweeps every kept segment, and tells what was removed.
+pub fn sweep_all(kept: &Path) -> Outcome<()> {
+    let mut removed = 0;
+    let segments = with_segments(kept, |path, mut files| {
+        for block in files.sweep()? {
+            println!("{}, block {block}: a page without a slot, removed", path.display());
+            removed += 1;
+        }
+        Ok(())
+    })?;
+    println!("segments swept: {segments}, pages removed: {removed}; Build accepts each segment");
+    Ok(())
+}
+
+/// Lists every block of every kept segment: its file, its number, its kind, and whether it has a place in
+/// the full area. Build must accept each segment.
+pub fn list(kept: &Path) -> Outcome<()> {
+    with_segments(kept, |path, files| {
+        files.check()?;
+        for block in 0..files.blocks() {
+            let kind = match files.kind(block)? {
+                Kind::Empty => "EMPTY",
+                Kind::Patch => "PATCH",
+                Kind::Full => "full",
+            };
+            let place = if files.place(block).is_some() { "place" } else { "-" };
+            println!("{} {block} {kind} {place}", path.display());
+        }
+        Ok(())
+    })?;
+    Ok(())
+}
+
+#[cfg(test)]
+mod tests {
+    use super::*;
+    use std::fs;
+    use std::path::PathBuf;
+    use thonxiliko::{format, full_area_len, patch_area_len};
+
+    const FILE: &str = "base/1/11";
+
+    /// A folder of its own for each test, removed at the end, with fresh area files of four blocks and
+    /// three places.
+    struct Kept(PathBuf);
+
+    impl Kept {
+        fn new(name: &str) -> Kept {
+            let kept = std::env::temp_dir().join(format!("files-{}-{name}", std::process::id()));
+            let (patch_path, full_path) = area_paths(&kept, Path::new(FILE));
+            fs::create_dir_all(patch_path.parent().expect("a folder")).expect("a folder");
+            let mut patch = vec![0; patch_area_len(4)];
+            let mut full = vec![0; full_area_len(3)];
+            format(&mut patch, &mut full).expect("sound lengths");
+            fs::write(patch_path, patch).expect("a file");
+            fs::write(full_path, full).expect("a file");
+            Kept(kept)
+        }
+
+        fn files(&self) -> AreaFiles {
+            AreaFiles::open(&self.0, Path::new(FILE)).expect("area files")
+        }
+
+        /// Writes a page over a base of zeros, told so many stores.
+        fn write_told(&self, block: u64, page: &[u8], stores: Stores) {
+            let mut payload = [0; PAYLOAD_SIZE];
+            let decision = compare(&[], page, &mut payload).expect("a page");
+            self.files().carry_out(block, &decision, stores).expect("a sound store");
+        }
+
+        fn write_safely(&self, block: u64, page: &[u8]) {
+            let mut payload = [0; PAYLOAD_SIZE];
+            let decision = compare(&[], page, &mut payload).expect("a page");
+            self.files().write_safely(block, &decision).expect("a sound store");
+        }
+
+        /// The bytes of both files.
+        fn bytes(&self) -> (Vec<u8>, Vec<u8>) {
+            let files = self.files();
+            (files.patch.bytes().to_vec(), files.full.bytes().to_vec())
+        }
+    }
+
+    impl Drop for Kept {
+        fn drop(&mut self) {
+            let _ = fs::remove_dir_all(&self.0);
+        }
+    }
+
+    const SEVENS: [u8; PAGE_SIZE] = [7; PAGE_SIZE];
+
+    fn small() -> [u8; PAGE_SIZE] {
+        let mut page = [0; PAGE_SIZE];
+        page[9] = 1;
+        page
+    }
+
+    #[test]
+    fn a_safe_write_is_the_whole_write() {
+        let (safe, plain) = (Kept::new("safe"), Kept::new("plain"));
+        for (block, page) in [(0, SEVENS), (1, small()), (0, small()), (3, small())] {
+            safe.write_safely(block, &page);
+            plain.write_told(block, &page, Stores::All);
+            assert!(safe.bytes() == plain.bytes(), "block {block}");
+        }
+        assert!(list(&safe.0).is_ok());
+    }
+
+    /// A full page that becomes a patch, and a full page in the place of nothing, both stopped after their
+    /// first store: one is there after the sweep and the other is not.
+    #[test]
+    fn a_stopped_write_is_swept() {
+        let (tripped, wanted) = (Kept::new("tripped"), Kept::new("wanted"));
+        tripped.write_safely(0, &SEVENS);
+        tripped.write_told(0, &small(), Stores::One);
+        tripped.write_told(2, &SEVENS, Stores::One);
+        wanted.write_safely(0, &small());
+
+        let problem = list(&tripped.0).expect_err("stray pages").to_string();
+        assert!(problem.starts_with("base/1/11: refused 10:"), "{problem}");
+        assert!(tripped.bytes() != wanted.bytes());
+        assert_eq!(tripped.files().sweep().expect("swept"), [0, 2]);
+        assert!(tripped.bytes() == wanted.bytes());
+        assert_eq!(tripped.files().sweep().expect("swept"), []);
+        assert!(sweep_all(&tripped.0).is_ok() && list(&tripped.0).is_ok());
+    }
+
+    /// What cannot be swept is left, and the tool says why.
+    #[test]
+    fn an_unsound_store_is_not_swept() {
+        let kept = Kept::new("unsound");
+        kept.write_told(1, &SEVENS, Stores::One);
+        kept.files().patch.bytes_mut()[PATCH_HEADER_SIZE + 3 * SLOT_SIZE] = 2; // it has no place
+        let before = kept.bytes();
+        let problem = sweep_all(&kept.0).expect_err("refused").to_string();
+        assert_eq!(problem, "base/1/11: refused 8: the full area has no place for the block");
+        assert!(kept.bytes() == before);
+        assert!(kept.files().kind(4).is_err());
+    }
+}
