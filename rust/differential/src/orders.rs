@@ -304,12 +304,15 @@ fn highest(harness: &mut Harness) -> Result<(), Mismatch> {
     all_sets(harness, &Input::new(Call::Highest, vec![patch]), &faults)
 }
 
-/// Two blocks, each PATCH, and a place for the first. A stray page and a payload that breaks are no
-/// faults, and a reference is one only where there is no place.
+/// Two blocks, and a place for the first. A stray page beside a payload that breaks is no fault, nor is a
+/// reference to the place.
 fn sweep_places(harness: &mut Harness) -> Result<(), Mismatch> {
-    let Areas { mut patch, mut full } = patched(Some(1));
+    let Areas { patch, mut full } = patched(Some(1));
     full[PLACE_0..].fill(0x90);
-    patch[SLOT_0 + 8] = 0xFF;
+    let (mut broken, mut in_use) = (patch.clone(), patch);
+    broken[SLOT_0 + 8] = 0xFF;
+    in_use[SLOT_0..SLOT_1].fill(0);
+    in_use[SLOT_0] = 2;
     let mut faults = vec![
         fault(2, |input| input.buffers[PATCH].push(0)),
         fault(2, |input| input.buffers[FULL].push(0)),
@@ -320,7 +323,10 @@ fn sweep_places(harness: &mut Harness) -> Result<(), Mismatch> {
         fault(6, unsound_slot_1),
         fault(8, reference_1),
     ]);
-    all_sets(harness, &Input::new(Call::Sweep, vec![patch, full]), &faults)
+    for patch in [broken, in_use] {
+        all_sets(harness, &Input::new(Call::Sweep, vec![patch, full.clone()]), &faults)?;
+    }
+    Ok(())
 }
 
 /// Without a full area and with one that has no place: every slot counts all the same, 8 at block 0
