@@ -173,7 +173,7 @@ impl Answer {
 pub enum Told {
     None,
     One,
-    /// Any number but 0 and 1. It also stands for calls that are told none.
+    /// Any number but 0 and 1; also for calls that have no such number.
     All,
 }
 

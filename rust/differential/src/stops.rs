@@ -43,9 +43,12 @@ pub struct Met {
     /// block without a place, which are whole.
     pub stray_pages: u64,
     pub whole: u64,
-    /// Runs that went on after the stop, and that were cut off there.
+    /// Runs that went on after the stop, those of them with an accepted cut of the block, or a write to
+    /// it, and runs that ended there.
     pub went_on: u64,
-    pub cut_off: u64,
+    pub cut_later: u64,
+    pub written_later: u64,
+    pub ended_there: u64,
     /// Stops with a map and without.
     pub mapped: u64,
     pub unmapped: u64,
@@ -59,10 +62,10 @@ impl Met {
     /// What did not happen, if anything did not.
     pub fn hole(&self) -> Option<String> {
         let Met { told, new_pages, other_pages, stray_pages, whole, .. } = *self;
-        let Met { went_on, cut_off, mapped, unmapped, .. } = *self;
+        let Met { went_on, cut_later, written_later, ended_there, mapped, unmapped, .. } = *self;
         let Met { runs_of_several, several, sweeps_between, .. } = *self;
         let met = told.concat().into_iter().chain([new_pages, other_pages, stray_pages, whole]);
-        let met = met.chain([went_on, cut_off, mapped, unmapped]);
+        let met = met.chain([went_on, cut_later, written_later, ended_there, mapped, unmapped]);
         let met = met.chain([runs_of_several, several, sweeps_between]);
         met.min().filter(|least| *least == 0).map(|_| format!("{self:?}"))
     }
@@ -85,6 +88,21 @@ impl Met {
             (Told::One, _) if !before.has_place(*block) => self.whole += 1,
             _ => {}
         }
+    }
+}
+
+impl Met {
+    /// How the run went on after a stop on a block, with so many steps.
+    fn add_rest(&mut self, run: &Run, number: usize, length: usize, block: u64) {
+        let rest = || run.steps.iter().zip(&run.accepted).skip(number + 1).take(length);
+        let cuts = |(step, _): (&Step, &bool)| matches!(step, Step::Cut { k, .. } if *k <= block);
+        let writes = |(step, accepted): (&Step, &bool)| {
+            *accepted && matches!(step, Step::Write(write) if write.block == block)
+        };
+        self.went_on += u64::from(length > 0);
+        self.ended_there += u64::from(length == 0);
+        self.cut_later += u64::from(rest().any(cuts));
+        self.written_later += u64::from(rest().any(writes));
     }
 }
 
@@ -297,8 +315,7 @@ fn stop_one(
     let left = &run.steps[number + 1..];
     let length = if rng.chance(50) { left.len() } else { rng.below(left.len() + 1) };
     go_on(harness, &mut state, &left[..length])?;
-    met.went_on += u64::from(length > 0);
-    met.cut_off += u64::from(length == 0);
+    met.add_rest(run, number, length, write.block);
     let ended = if before.counts(write.block, write.decision.kind, stores) {
         run.states[number + 1 + length].clone()
     } else {
@@ -345,7 +362,9 @@ fn stop_several(
 fn ground(rng: &mut Rng, most_blocks: usize) -> Ground {
     let n = rng.between(1, most_blocks);
     let m = if rng.chance(60) { Some(n) } else { generate::pages(rng, n) };
-    Ground::of(rng, n, m)
+    let mut ground = Ground::of(rng, n, m);
+    ground.cuts = rng.pick(&[0, 10, 25]);
+    ground
 }
 
 /// A short run stopped at every store of every write, and a longer one with several stops.

@@ -268,10 +268,15 @@ impl Session {
     /// What the stops met.
     fn print_stops(&self) {
         let stops::Met { told: [none, one], new_pages, other_pages, .. } = self.stops;
-        let stops::Met { stray_pages, whole, went_on, cut_off, mapped, unmapped, .. } = self.stops;
+        let stops::Met { stray_pages, whole, mapped, unmapped, .. } = self.stops;
+        let stops::Met { went_on, cut_later, written_later, ended_there, .. } = self.stops;
         println!(
             "stops, EMPTY, PATCH and FULL_REF: {none:?} told 0, {one:?} told 1; {mapped} with a map, \
-             {unmapped} without; {went_on} runs went on, {cut_off} did not"
+             {unmapped} without"
+        );
+        println!(
+            "after a stop {went_on} runs went on, {cut_later} with a cut of the block, {written_later} \
+             with a write to it; {ended_there} ended there"
         );
         println!(
             "told 1: {new_pages} pages without a reference, {other_pages} under an old one, \

@@ -222,7 +222,7 @@ fn told_1_stores_nothing_without_a_place(input: &Input) -> Outcome {
     })
 }
 
-/// A write and where two wrong programs with the same fault on both sides are noticed.
+/// A wrong program, and where it is noticed if both sides are that program.
 type WrongStop = (&'static str, Side, Noticed);
 
 #[derive(Clone, Copy, PartialEq, Eq)]
