@@ -107,31 +107,47 @@ fn set_pair(map: &mut [u8], block: usize, pair: u8) {
     map[block / 4] |= pair << (2 * (block % 4));
 }
 
-/// Writes that the map missed, and areas that changed beside it.
-pub fn cases(store: &Store, blocks: &[Block]) -> Vec<Case> {
-    let ground = Ground::new(store, blocks);
-    let map = store.map().expect("a sound store");
-    let case = |what, block, alter: &dyn Fn(&mut Store, &mut [u8])| {
-        let (mut store, mut map) = (store.clone(), map.clone());
+/// A sound store, and the map that its writes kept.
+struct Kept<'b> {
+    ground: Ground<'b>,
+    blocks: &'b [Block],
+    store: &'b Store,
+    map: Vec<u8>,
+}
+
+impl Kept<'_> {
+    /// Alters copies of the store and the map, and reads a block by its slot and by the map.
+    fn case(
+        &self,
+        what: &'static str,
+        block: usize,
+        alter: impl FnOnce(&mut Store, &mut [u8]),
+    ) -> Case {
+        let (mut store, mut map) = (self.store.clone(), self.map.clone());
         alter(&mut store, &mut map);
         let mut page = [0; PAGE_SIZE];
         let read = store.read(block, &mut page);
-        let by_slot = ground.came(&store, block, read, &page);
+        let by_slot = self.ground.came(&store, block, read, &page);
         let read = store.read_mapped(&map, block, &mut page);
-        let by_map = ground.came(&store, block, read, &page);
+        let by_map = self.ground.came(&store, block, read, &page);
         Case { what, block, by_slot, by_map }
-    };
-    let missed = |what, block, pair| case(what, block, &|_, map| set_pair(map, block, pair));
-    let ([patch, _], [full, _]) = (ground.patch, ground.full);
-    let (empty, past) = (ground.empty, ground.empty_past);
-    let fresh = |store: &mut Store| {
-        *store = Store::fresh(blocks, store.pages()).expect("sound lengths");
-    };
-    // A full block is to be as its base again; its slot is, and then the process ends.
-    let stopped = |store: &mut Store| {
-        let base = &blocks[full].base;
-        store.write_told(full, base, &filled(base), Stores::One).expect("a sound store");
-    };
+    }
+}
+
+/// Writes that the map missed, areas that changed beside it, and a write that was stopped.
+pub fn cases(store: &Store, blocks: &[Block]) -> Vec<Case> {
+    let (ground, map) = (Ground::new(store, blocks), store.map().expect("a sound store"));
+    let kept = Kept { ground, blocks, store, map };
+    let mut cases = missed(&kept);
+    cases.extend(changed(&kept));
+    cases.extend(stopped(&kept));
+    cases
+}
+
+fn missed(kept: &Kept) -> Vec<Case> {
+    let missed = |what, block, pair| kept.case(what, block, |_, map| set_pair(map, block, pair));
+    let ([patch, _], [full, _]) = (kept.ground.patch, kept.ground.full);
+    let (empty, past) = (kept.ground.empty, kept.ground.empty_past);
     vec![
         missed("a PATCH write that the map missed, EMPTY before", patch, EMPTY),
         missed("a PATCH write that the map missed, full before", patch, FULL),
@@ -140,22 +156,42 @@ pub fn cases(store: &Store, blocks: &[Block]) -> Vec<Case> {
         missed("a write of the base that the map missed, PATCH before", empty, PATCH),
         missed("a write of the base that the map missed, full before", empty, FULL),
         missed("the map says full of a block not below m", past, FULL),
-        case("a PATCH slot set to zeros, the map kept", patch, &|store, _| {
+    ]
+}
+
+fn changed(kept: &Kept) -> Vec<Case> {
+    let ([patch, _], [full, _]) = (kept.ground.patch, kept.ground.full);
+    let fresh = |store: &mut Store, _: &mut [u8]| {
+        *store = Store::fresh(kept.blocks, store.pages()).expect("sound lengths");
+    };
+    vec![
+        kept.case("a PATCH slot set to zeros, the map kept", patch, |store, _| {
             store.patch[slot(patch)].fill(0)
         }),
-        case("a FULL_REF slot set to zeros, the map kept", full, &|store, _| {
+        kept.case("a FULL_REF slot set to zeros, the map kept", full, |store, _| {
             store.patch[slot(full)].fill(0)
         }),
-        case("a full page set to zeros, the map kept", full, &|store, _| {
+        kept.case("a full page set to zeros, the map kept", full, |store, _| {
             store.full[place(full)].fill(0)
         }),
-        case("both areas formatted, the map kept: a PATCH block", patch, &|store, _| fresh(store)),
-        case("both areas formatted, the map kept: a full block", full, &|store, _| fresh(store)),
-        case("a write of the base stopped after one store, full before", full, &|store, _| {
-            stopped(store)
+        kept.case("both areas formatted, the map kept: a PATCH block", patch, fresh),
+        kept.case("both areas formatted, the map kept: a full block", full, fresh),
+    ]
+}
+
+/// A full block is to be as its base again. Its slot is, and then the process ends.
+fn stopped(kept: &Kept) -> Vec<Case> {
+    let [full, _] = kept.ground.full;
+    let stop = |store: &mut Store| {
+        let base = &kept.blocks[full].base;
+        store.write_told(full, base, &filled(base), Stores::One).expect("a sound store");
+    };
+    vec![
+        kept.case("a write of the base stopped after one store, full before", full, |store, _| {
+            stop(store)
         }),
-        case("a write of the base so stopped, then swept, full before", full, &|store, _| {
-            stopped(store);
+        kept.case("a write of the base so stopped, then swept, full before", full, |store, _| {
+            stop(store);
             store.sweep().expect("sound slots");
         }),
     ]
