@@ -5,8 +5,9 @@
 //! set. Where it looks at each of its bytes and writes few, that is all it can be measured by.
 
 use differential::rng::Rng;
+use independent::ALL;
 use thonxiliko::{
-    full_area_len, map_len, patch_area_len, Decision, Difference, Kind, FULL_HEADER_SIZE,
+    full_area_len, map_len, patch_area_len, Decision, Difference, Kind, Stores, FULL_HEADER_SIZE,
     MAX_BLOCKS, PAGE_SIZE, PATCH_HEADER_SIZE, PAYLOAD_SIZE, SLOT_SIZE,
 };
 
@@ -138,7 +139,19 @@ impl Lent {
     fn write(&mut self, block: u64) {
         let Lent { patch, full, base, page, filled } = self;
         let decision = thonxiliko::compare(base, page, filled).expect("sound pages");
-        thonxiliko::carry_out(patch, full, block, &decision).expect("a sound store");
+        thonxiliko::carry_out(patch, full, block, &decision, Stores::All).expect("a sound store");
+    }
+
+    /// A store whose blocks all have pages of their own, with so many differences at most: one page again
+    /// and again would be known by heart.
+    fn drawn(places: Option<u64>, most: usize) -> Lent {
+        let mut lent = Lent::fresh(BUILT, places, &Pages::equal());
+        for block in 0..BUILT {
+            let Pages { base, page, .. } = Pages::drawn_with(block, most);
+            (lent.base, lent.page) = (base, page);
+            lent.write(block);
+        }
+        lent
     }
 
     /// A store with the page in its block.
@@ -304,6 +317,16 @@ impl Turns {
         })
     }
 
+    /// What carrying out touches until it is stopped after one store: headers, the payload that is
+    /// checked, and the slot, or the page for FULL_REF.
+    fn limit_of_stop(&self) -> Limit {
+        match self.kind() {
+            Kind::Empty => headers().copy(SLOT_SIZE),
+            Kind::Patch => headers().copy(SLOT_SIZE).compare(self.mean_payload()),
+            Kind::Full => headers().copy_by_turns(PAGE_SIZE, self.pages.len()),
+        }
+    }
+
     /// What carrying out touches: headers, the payload that is checked, slot and place. Of payloads the
     /// mean length counts. So many pages are at hand by turns.
     fn carrying_out(&self, pages: usize) -> Limit {
@@ -342,56 +365,58 @@ impl Turns {
     }
 }
 
-fn carry_out_by_library(turns: &mut Turns) {
+/// Both told the same number of stores, each in its own way.
+fn store_by_library(turns: &mut Turns, stores: Stores) {
     let Turns { patch, full, decisions, turn, .. } = turns;
-    let _ = opaque(thonxiliko::carry_out(patch, full, BLOCK, &decisions[*turn]));
+    let _ = opaque(thonxiliko::carry_out(patch, full, BLOCK, &decisions[*turn], stores));
 }
 
-fn carry_out_by_independent(turns: &mut Turns) {
+fn store_by_independent(turns: &mut Turns, stores: u64) {
     let Turns { patch, full, decisions, turn, .. } = turns;
     let made = &decisions[*turn];
     let (kind, payload, page) = (made.kind().number(), made.payload(), made.page());
-    opaque(independent::carry_out(patch, full, BLOCK, kind, payload, page));
+    opaque(independent::carry_out(patch, full, BLOCK, kind, payload, page, stores));
 }
 
-fn carry_out_mapped_by_library(turns: &mut Turns) {
+fn store_mapped_by_library(turns: &mut Turns, stores: Stores) {
     let Turns { patch, full, map, decisions, turn, .. } = turns;
-    let _ = opaque(thonxiliko::carry_out_mapped(patch, full, map, BLOCK, &decisions[*turn]));
+    let made = &decisions[*turn];
+    let _ = opaque(thonxiliko::carry_out_mapped(patch, full, map, BLOCK, made, stores));
 }
 
-fn carry_out_mapped_by_independent(turns: &mut Turns) {
+fn store_mapped_by_independent(turns: &mut Turns, stores: u64) {
     let Turns { patch, full, map, decisions, turn, .. } = turns;
     let made = &decisions[*turn];
     let (kind, payload, page) = (made.kind().number(), made.payload(), made.page());
-    opaque(independent::carry_out_mapped(patch, full, map, BLOCK, kind, payload, page));
+    opaque(independent::carry_out_mapped(patch, full, map, BLOCK, kind, payload, page, stores));
 }
 
 fn pair_by_library(turns: &mut Turns) {
     let Turns { patch, full, pages, buffer, turn, .. } = turns;
     let Pages { base, page, .. } = &pages[*turn];
     let made = thonxiliko::compare(base, page, buffer).expect("sound pages");
-    let _ = opaque(thonxiliko::carry_out(patch, full, BLOCK, &made));
+    let _ = opaque(thonxiliko::carry_out(patch, full, BLOCK, &made, Stores::All));
 }
 
 fn pair_by_independent(turns: &mut Turns) {
     let Turns { patch, full, pages, buffer, turn, .. } = turns;
     let Pages { base, page, .. } = &pages[*turn];
     let (kind, payload) = decided_by_independent(base, page, buffer);
-    opaque(independent::carry_out(patch, full, BLOCK, kind, payload, page));
+    opaque(independent::carry_out(patch, full, BLOCK, kind, payload, page, ALL));
 }
 
 fn pair_mapped_by_library(turns: &mut Turns) {
     let Turns { patch, full, map, pages, buffer, turn, .. } = turns;
     let Pages { base, page, .. } = &pages[*turn];
     let made = thonxiliko::compare(base, page, buffer).expect("sound pages");
-    let _ = opaque(thonxiliko::carry_out_mapped(patch, full, map, BLOCK, &made));
+    let _ = opaque(thonxiliko::carry_out_mapped(patch, full, map, BLOCK, &made, Stores::All));
 }
 
 fn pair_mapped_by_independent(turns: &mut Turns) {
     let Turns { patch, full, map, pages, buffer, turn, .. } = turns;
     let Pages { base, page, .. } = &pages[*turn];
     let (kind, payload) = decided_by_independent(base, page, buffer);
-    opaque(independent::carry_out_mapped(patch, full, map, BLOCK, kind, payload, page));
+    opaque(independent::carry_out_mapped(patch, full, map, BLOCK, kind, payload, page, ALL));
 }
 
 /// Kind and payload, as the independent Compare decides.
@@ -438,15 +463,32 @@ fn drawn_kinds() -> Vec<(String, Turns)> {
     drawn_turns().into_iter().map(named).collect()
 }
 
-/// A decision carried out. Of a page that takes no turns the processor would know the payload by heart.
+const WHOLE: [Work; 2] =
+    [|turns| store_by_library(turns, Stores::All), |turns| store_by_independent(turns, ALL)];
+const WHOLE_MAPPED: [Work; 2] = [
+    |turns| store_mapped_by_library(turns, Stores::All),
+    |turns| store_mapped_by_independent(turns, ALL),
+];
+const STOPPED: [Work; 2] =
+    [|turns| store_by_library(turns, Stores::One), |turns| store_by_independent(turns, 1)];
+const STOPPED_MAPPED: [Work; 2] = [
+    |turns| store_mapped_by_library(turns, Stores::One),
+    |turns| store_mapped_by_independent(turns, 1),
+];
+
+/// A decision carried out, whole and stopped after one store. Of a page that takes no turns the processor
+/// would know the payload by heart.
 fn carry_out_cases(cases: &mut Cases) {
-    for (name, turns) in drawn_kinds() {
-        let both = turns.both([carry_out_by_library, carry_out_by_independent]);
-        cases.add("Carry out", &name, turns.limit_of_carry_out(), both);
+    for (call, works) in [("Carry out", WHOLE), ("Carry out with a map", WHOLE_MAPPED)] {
+        for (name, turns) in drawn_kinds() {
+            cases.add(call, &name, turns.limit_of_carry_out(), turns.both(works));
+        }
     }
-    for (name, turns) in drawn_kinds() {
-        let both = turns.both([carry_out_mapped_by_library, carry_out_mapped_by_independent]);
-        cases.add("Carry out with a map", &name, turns.limit_of_carry_out(), both);
+    let stopped = [("Carry out told 1", STOPPED), ("Carry out told 1 with a map", STOPPED_MAPPED)];
+    for (call, works) in stopped {
+        for (name, turns) in drawn_kinds() {
+            cases.add(call, &name, turns.limit_of_stop(), turns.both(works));
+        }
     }
 }
 
@@ -558,7 +600,6 @@ fn cut_cases(cases: &mut Cases) {
     }
 }
 
-/// Pages of their own in each block: one again and again would be known by heart.
 fn highest_cases(cases: &mut Cases) {
     let all = [
         ("n = 64 EMPTY", None, 0),
@@ -566,12 +607,7 @@ fn highest_cases(cases: &mut Cases) {
         ("n = 64 FULL_REF", Some(BUILT), PAGE_SIZE),
     ];
     for (name, places, most) in all {
-        let mut lent = Lent::fresh(BUILT, places, &Pages::equal());
-        for block in 0..BUILT {
-            let Pages { base, page, .. } = Pages::drawn_with(block, most);
-            (lent.base, lent.page) = (base, page);
-            lent.write(block);
-        }
+        let lent = Lent::drawn(places, most);
         let mut limit = Limit::default().compare(PATCH_HEADER_SIZE);
         for _ in 0..BUILT {
             limit = limit.compare(SLOT_SIZE);
@@ -581,10 +617,83 @@ fn highest_cases(cases: &mut Cases) {
     }
 }
 
+/// What a sweep looks at: headers, each slot, and each place to which no slot refers.
+fn limit_of_sweep(lent: &Lent, looks_at_places: bool) -> Limit {
+    let mut limit = Limit::default().compare(PATCH_HEADER_SIZE);
+    if !lent.full.is_empty() {
+        limit = headers();
+    }
+    for _ in 0..BUILT {
+        limit = limit.compare(SLOT_SIZE);
+        if looks_at_places {
+            limit = limit.compare(PAGE_SIZE);
+        }
+    }
+    limit
+}
+
+/// A store, and pages of which one is put where no slot refers to it, in another place each time.
+#[derive(Clone)]
+struct Stray {
+    lent: Lent,
+    pages: Vec<Vec<u8>>,
+    turn: usize,
+}
+
+impl Stray {
+    fn new(lent: &Lent) -> Stray {
+        let page = |number| Pages::drawn_with(number, PAGE_SIZE).page;
+        Stray { lent: lent.clone(), pages: (0..BUILT).map(page).collect(), turn: 0 }
+    }
+
+    fn put(&mut self) {
+        self.turn = (self.turn + 1) % self.pages.len();
+        let place = full_area_len(self.turn as u64)..full_area_len(self.turn as u64 + 1);
+        self.lent.full[place].copy_from_slice(&self.pages[self.turn]);
+    }
+}
+
+/// Areas with nothing to sweep: a call that is made again and again finds no others. Then a page is put
+/// into another place before each sweep, which counts for all contenders.
+fn sweep_cases(cases: &mut Cases) {
+    let all = [
+        ("n = m = 64 EMPTY", Some(BUILT), 0),
+        ("n = m = 64 PATCH of 1 to 200", Some(BUILT), 200),
+        ("n = m = 64 FULL_REF", Some(BUILT), PAGE_SIZE),
+        ("n = 64 PATCH of 1 to 200, no full area", None, 200),
+    ];
+    for (name, places, most) in all {
+        let lent = Lent::drawn(places, most);
+        let limit = limit_of_sweep(&lent, places.is_some() && most < PAGE_SIZE);
+        cases.add("Sweep", name, limit, both!(lent, sweep(&lent.patch, &mut lent.full)));
+    }
+    for (name, most) in [("EMPTY", 0), ("PATCH of 1 to 200", 200)] {
+        let lent = Lent::drawn(Some(BUILT), most);
+        let limit = limit_of_sweep(&lent, true).set(PAGE_SIZE);
+        let limit = limit.copy_by_turns(PAGE_SIZE, TAKING_TURNS as usize);
+        let mut by_library = Stray::new(&lent);
+        let mut by_independent = Stray::new(&lent);
+        let both = [
+            Contender::new(move || {
+                by_library.put();
+                let Lent { patch, full, .. } = &mut by_library.lent;
+                let _ = opaque(thonxiliko::sweep(patch, full));
+            }),
+            Contender::new(move || {
+                by_independent.put();
+                let Lent { patch, full, .. } = &mut by_independent.lent;
+                opaque(independent::sweep(patch, full));
+            }),
+        ];
+        let name = format!("n = m = 64 {name}, a stray page put before it");
+        cases.add("Sweep", &name, limit, both);
+    }
+}
+
 fn map_cases(cases: &mut Cases) {
     let mut map = Rng::new(3).bytes(map_len(MAX_BLOCKS));
     // Pairs of all kinds and none of 3: where both bits are set the low one goes.
-    map.iter_mut().for_each(|byte| *byte &= !(*byte / 2 & 0x55));
+    map.iter_mut().for_each(|byte| *byte &= !((*byte / 2) & 0x55));
     let limit = Limit::default().compare(1);
     let both = both!(map, look_up(&map, MAX_BLOCKS, opaque(70_001)));
     cases.add("Look up", "n = 131,072", limit, both);
@@ -619,6 +728,7 @@ pub fn rows(effort: Effort) -> Vec<Row> {
     build_cases(&mut cases);
     cut_cases(&mut cases);
     highest_cases(&mut cases);
+    sweep_cases(&mut cases);
     map_cases(&mut cases);
     until_stable(effort, || cases.pass(TURNS));
     cases.rows()

@@ -19,13 +19,13 @@ use crate::timing::{until_stable, Contender, Effort, Times};
 
 pub const EFFORT: Effort = Effort { least: 4, quiet: 3, most: 10 };
 /// Pages that places are filled from; no two neighbours are alike.
-const PAGES: usize = 61;
+pub const PAGES: usize = 61;
 
 /// The kind of each block.
-type KindOf = fn(u64) -> Kind;
+pub type KindOf = fn(u64) -> Kind;
 
 /// No two stretches of blocks have the same kinds.
-fn drawn(block: u64) -> Kind {
+pub fn drawn(block: u64) -> Kind {
     [Kind::Empty, Kind::Patch, Kind::Full][Rng::for_case(17, "kind", block).below(3)]
 }
 
@@ -43,7 +43,7 @@ fn put_slot(slot: &mut [u8], kind: Kind, block: u64) {
 }
 
 /// A patch area with these slots.
-fn patch_of(blocks: u64, kind_of: KindOf) -> Vec<u8> {
+pub fn patch_of(blocks: u64, kind_of: KindOf) -> Vec<u8> {
     let mut patch = segments::fresh(blocks);
     let slots = patch[PATCH_HEADER_SIZE..].chunks_exact_mut(SLOT_SIZE);
     slots.zip(0..).for_each(|(slot, block)| put_slot(slot, kind_of(block), block));
@@ -177,7 +177,7 @@ fn plain_mapped(ground: &Ground, areas: &mut Areas) {
 }
 
 /// Measures library, limits and independent implementation by turns; a time is for so many pieces.
-fn row(
+pub fn row(
     blocks: u64,
     pieces: u64,
     work: &'static str,

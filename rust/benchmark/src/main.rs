@@ -1,7 +1,7 @@
 //! Prints how long each call takes, as tables in Markdown. With `--once` every contender gets one turn,
 //! to see that all of it works; with `--format` only Format of large areas is measured, with `--maps`
 //! only what a map that is kept brings, with `--cuts` only cuts of the largest areas and their highest
-//! block.
+//! block, with `--sweeps` only sweeps of the largest areas.
 
 mod calls;
 mod cuts;
@@ -10,6 +10,7 @@ mod limits;
 mod maps;
 mod pages;
 mod segments;
+mod sweeps;
 mod timing;
 
 use std::process::ExitCode;
@@ -24,7 +25,8 @@ five passes in a row bring nothing better by more than 1 % (whole segments: thre
 the machine meets all of them alike. Limits that are equal (the same functions over the same numbers of
 bytes) are measured as one: beside each case that has them, and the least of all counts. In a case that is
 \"drawn\" 64 pages with bases of their own take turns, and so they do in its limits: one page again and again
-would be known by heart. \"Compare and carry out\" is a page written by the pair of calls.
+would be known by heart. \"Compare and carry out\" is a page written by the pair of calls. Carry out is told
+all its stores, but where \"told 1\" is said.
 ";
 
 const HEAD: &str =
@@ -113,6 +115,13 @@ fn print_cuts(once: bool) {
     print_segments(&cuts::rows(effort, blocks));
 }
 
+/// Sweeps of the largest areas; a time is for a block.
+fn print_sweeps(once: bool) {
+    let (effort, blocks) =
+        if once { (ONCE, 1_024) } else { (sweeps::EFFORT, thonxiliko::MAX_BLOCKS) };
+    print_segments(&sweeps::rows(effort, blocks));
+}
+
 fn print_all(once: bool) {
     println!("{METHOD}");
     println!("### Each call, warm buffers\n");
@@ -130,6 +139,8 @@ fn print_all(once: bool) {
     print_kept_maps(once);
     println!("\n### A table cut short, and the highest block\n");
     print_cuts(once);
+    println!("\n### A sweep after a stop\n");
+    print_sweeps(once);
     println!("\n### Targets\n");
     print_targets(&calls, &segments);
 }
@@ -149,8 +160,12 @@ fn main() -> ExitCode {
             println!("{METHOD}");
             print_cuts(false);
         }
+        ["--sweeps"] => {
+            println!("{METHOD}");
+            print_sweeps(false);
+        }
         _ => {
-            eprintln!("usage: benchmark [--once | --format | --maps | --cuts]");
+            eprintln!("usage: benchmark [--once | --format | --maps | --cuts | --sweeps]");
             return ExitCode::from(2);
         }
     }

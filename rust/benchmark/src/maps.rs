@@ -5,8 +5,9 @@
 //! again would be known by heart. The limits touch the same memory in the same order.
 
 use differential::rng::Rng;
+use independent::ALL;
 use thonxiliko::{
-    full_area_len, map_len, patch_area_len, Decision, Kind, FULL_HEADER_SIZE, MAX_BLOCKS,
+    full_area_len, map_len, patch_area_len, Decision, Kind, Stores, FULL_HEADER_SIZE, MAX_BLOCKS,
     PAGE_SIZE, PATCH_HEADER_SIZE, PAYLOAD_SIZE, SLOT_SIZE,
 };
 
@@ -101,7 +102,7 @@ impl Store {
         let mut buffer = [0; PAYLOAD_SIZE];
         for (block, Pages { base, page, .. }) in (0..).zip(pages.iter()) {
             let made = thonxiliko::compare(base, page, &mut buffer).expect("sound pages");
-            let written = thonxiliko::carry_out_mapped(patch, full, map, block, &made);
+            let written = thonxiliko::carry_out_mapped(patch, full, map, block, &made, Stores::All);
             let written = written.expect("a sound store");
             assert_eq!(written.kind, kind_of(block));
             kinds.push(written.kind);
@@ -218,7 +219,8 @@ impl Batch {
         let twenty = Pages::spread(20).decision();
         for block in 0..blocks {
             let Segment { patch, map } = &mut segment;
-            thonxiliko::carry_out_mapped(patch, &mut [], map, block, &twenty).expect("sound");
+            thonxiliko::carry_out_mapped(patch, &mut [], map, block, &twenty, Stores::All)
+                .expect("sound");
         }
         let mut rng = Rng::new(9);
         let write = |number: usize| {
@@ -268,7 +270,15 @@ impl Batch {
             Contender::new(|| {
                 let Segment { patch, map } = &mut library;
                 self.by_library(|block, made| {
-                    let _ = opaque(thonxiliko::carry_out_mapped(patch, &mut [], map, block, made));
+                    let full = &mut [];
+                    let _ = opaque(thonxiliko::carry_out_mapped(
+                        patch,
+                        full,
+                        map,
+                        block,
+                        made,
+                        Stores::All,
+                    ));
                 });
             }),
             Contender::new(|| self.touch(&mut limits, &header)),
@@ -276,7 +286,16 @@ impl Batch {
                 let Segment { patch, map } = &mut plain;
                 self.by_independent(|at, kind, payload| {
                     let full = &mut [];
-                    opaque(independent::carry_out_mapped(patch, full, map, at, kind, payload, &[]));
+                    opaque(independent::carry_out_mapped(
+                        patch,
+                        full,
+                        map,
+                        at,
+                        kind,
+                        payload,
+                        &[],
+                        ALL,
+                    ));
                 });
             }),
         ];
@@ -302,7 +321,7 @@ impl Batch {
             Contender::new(|| {
                 let Segment { patch, map } = &mut library;
                 self.by_library(|block, made| {
-                    let _ = opaque(thonxiliko::carry_out(patch, &mut [], block, made));
+                    let _ = opaque(thonxiliko::carry_out(patch, &mut [], block, made, Stores::All));
                 });
                 let _ = opaque(thonxiliko::build(patch, &[], map));
             }),
@@ -317,7 +336,7 @@ impl Batch {
             Contender::new(|| {
                 let Segment { patch, map } = &mut plain;
                 self.by_independent(|at, kind, payload| {
-                    opaque(independent::carry_out(patch, &mut [], at, kind, payload, &[]));
+                    opaque(independent::carry_out(patch, &mut [], at, kind, payload, &[], ALL));
                 });
                 opaque(independent::build(patch, &[], map));
             }),

@@ -2,8 +2,9 @@
 //! not fit the caches any more, and that is so for the memory functions too.
 
 use differential::arena::Mapping;
+use independent::ALL;
 use thonxiliko::{
-    full_area_len, map_len, patch_area_len, FULL_HEADER_SIZE, MAX_BLOCKS, PAGE_SIZE,
+    full_area_len, map_len, patch_area_len, Stores, FULL_HEADER_SIZE, MAX_BLOCKS, PAGE_SIZE,
     PATCH_HEADER_SIZE, PAYLOAD_SIZE, SLOT_SIZE,
 };
 
@@ -67,7 +68,8 @@ impl Segment {
             Contender::new(|| {
                 for block in 0..*blocks {
                     let made = thonxiliko::compare(base, page, &mut first).expect("sound pages");
-                    let _ = opaque(thonxiliko::carry_out(library, &mut [], block, &made));
+                    let all = Stores::All;
+                    let _ = opaque(thonxiliko::carry_out(library, &mut [], block, &made, all));
                 }
             }),
             Contender::new(|| {
@@ -82,7 +84,7 @@ impl Segment {
             Contender::new(|| {
                 for block in 0..*blocks {
                     let (kind, own) = decided_by_independent(base, page, &mut third);
-                    opaque(independent::carry_out(plain, &mut [], block, kind, own, page));
+                    opaque(independent::carry_out(plain, &mut [], block, kind, own, page, ALL));
                 }
             }),
         ];

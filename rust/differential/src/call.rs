@@ -32,10 +32,12 @@ pub enum Call {
     /// A cut that keeps a lent map.
     CutMapped,
     Highest,
+    /// Places that no slot refers to are cleared.
+    Sweep,
 }
 
 impl Call {
-    pub const ALL: [Call; 16] = [
+    pub const ALL: [Call; 17] = [
         Call::Format,
         Call::Compare,
         Call::Apply,
@@ -52,6 +54,7 @@ impl Call {
         Call::Cut,
         Call::CutMapped,
         Call::Highest,
+        Call::Sweep,
     ];
 
     pub fn name(self) -> &'static str {
@@ -72,6 +75,7 @@ impl Call {
             Call::Cut => "cut",
             Call::CutMapped => "cut_mapped",
             Call::Highest => "highest",
+            Call::Sweep => "sweep",
         }
     }
 
@@ -94,6 +98,7 @@ impl Call {
             Call::Cut => &["patch", "full"],
             Call::CutMapped => &["patch", "full", "map"],
             Call::Highest => &["patch"],
+            Call::Sweep => &["patch", "full"],
         }
     }
 
@@ -116,6 +121,7 @@ impl Call {
             Call::Cut => &[0, 2, 3, 4, 5],
             Call::CutMapped => &[0, 2, 3, 4, 5, 9],
             Call::Highest => &[0, 2, 3, 4, 6],
+            Call::Sweep => &[0, 2, 3, 4, 6, 8],
         }
     }
 
@@ -127,6 +133,11 @@ impl Call {
             Call::CarryOutMapped => &[0, 2, 3, 4, 5, 8, 9],
             _ => &[],
         }
+    }
+
+    /// Whether it carries out a decision, and so is told a number of stores.
+    pub fn carries_out(self) -> bool {
+        matches!(self, Call::CarryOut | Call::CarryOutMapped)
     }
 
     /// Where the payload offset stands among the members of the answer, for calls that give it.
@@ -157,18 +168,43 @@ impl Answer {
     }
 }
 
+/// How many of its stores a decision makes, as a number says it.
+#[derive(Clone, Copy, Debug, PartialEq, Eq)]
+pub enum Told {
+    None,
+    One,
+    /// Any number but 0 and 1; also for calls that have no such number.
+    All,
+}
+
+impl Told {
+    pub const EVERY: [Told; 3] = [Told::None, Told::One, Told::All];
+
+    pub fn of(stores: u64) -> Told {
+        match stores {
+            0 => Told::None,
+            1 => Told::One,
+            _ => Told::All,
+        }
+    }
+}
+
 /// The numbers that a call is told. Those that it does not have are unused.
 #[derive(Clone, Copy, Debug)]
 pub struct Numbers {
     pub n: u64,
     /// For a cut its K, the lowest block that it drops.
     pub block: u64,
-    /// The kind of a decision.
+    /// The kind of a decision, and how many stores it is told to make.
     pub kind: u32,
+    pub stores: u64,
     /// Place and position of a reader.
     pub at: u64,
     pub position: i32,
 }
+
+/// All stores of a decision, where nothing else is told.
+pub const ALL: u64 = independent::ALL;
 
 /// A reader that begins.
 pub const BEGINNING: (u64, i32) = (0, -1);
@@ -176,7 +212,7 @@ pub const BEGINNING: (u64, i32) = (0, -1);
 impl Default for Numbers {
     fn default() -> Numbers {
         let (at, position) = BEGINNING;
-        Numbers { n: 0, block: 0, kind: 0, at, position }
+        Numbers { n: 0, block: 0, kind: 0, stores: ALL, at, position }
     }
 }
 
@@ -211,6 +247,12 @@ impl Input {
         self
     }
 
+    /// A decision that is told to make so many of its stores.
+    pub fn storing(mut self, stores: u64) -> Input {
+        self.numbers.stores = stores;
+        self
+    }
+
     pub fn told(mut self, n: u64) -> Input {
         self.numbers.n = n;
         self
@@ -223,8 +265,9 @@ impl fmt::Display for Input {
         for (name, bytes) in self.call.buffers().iter().zip(&self.buffers) {
             write!(f, "{name}: {} bytes #{:016x}, ", bytes.len(), fingerprint(bytes))?;
         }
-        let Numbers { n, block, kind, at, position } = self.numbers;
-        write!(f, "n: {n}, block: {block}, kind: {kind}, at: {at}, position: {position})")
+        let Numbers { n, block, kind, stores, at, position } = self.numbers;
+        write!(f, "n: {n}, block: {block}, kind: {kind}, stores: {stores}, ")?;
+        write!(f, "at: {at}, position: {position})")
     }
 }
 

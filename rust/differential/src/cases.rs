@@ -1,14 +1,17 @@
 //! Inputs with their outcomes written by hand from the rules: P1 to P12, both sides of each edge, the
 //! order of refusals, long jumps that are long and those that are not, where payloads break, the steps
-//! of a reader, what Compare decides and what comes of a decision that is carried out, what a lent map
-//! becomes and what it makes of a read, what a cut leaves, the highest block, and the shortcuts that give
-//! a wrong page.
+//! of a reader, what Compare decides and what comes of a decision that is carried out, what one that is
+//! stopped has stored, what a lent map becomes and what it makes of a read, what a cut leaves, the highest
+//! block, what a sweep clears, and the shortcuts that give a wrong page.
 
 use crate::call::{
     Answer, Call, Input, Outcome, BEGINNING, FULL_HEADER, PAGE, PATCH_HEADER, PAYLOAD, SLOT,
 };
 use crate::generate::Decision;
 
+mod stops;
+
+#[derive(Clone)]
 pub struct Case {
     pub name: String,
     pub input: Input,
@@ -186,6 +189,10 @@ fn cut_mapped([patch, full]: [Vec<u8>; 2], map: &[u8], k: u64) -> Input {
 
 fn highest(patch: Vec<u8>) -> Input {
     Input::new(Call::Highest, vec![patch])
+}
+
+fn sweep([patch, full]: [Vec<u8>; 2]) -> Input {
+    Input::new(Call::Sweep, vec![patch, full])
 }
 
 fn build(patch: Vec<u8>, full: Vec<u8>, map: Vec<u8>) -> Input {
@@ -605,6 +612,7 @@ fn no_blocks(cases: &mut Vec<Case>) {
         cases.push(case("n = 0: cut at 0, no map", cut_mapped(areas(), &[], 0), &[0], &[]));
         cases.push(case("n = 0: cut at 0, any map", cut_mapped(areas(), &[0xFF], 0), &[0], &[]));
         cases.push(case("n = 0: cut at 1, no map", cut_mapped(areas(), &[], 1), &[5], &[]));
+        cases.push(case("n = 0: swept", sweep(areas()), &[0], &[]));
     }
     cases.push(case("n = 0: highest", highest(patch_area(0)), &[0, 0], &[]));
     let input = build(patch_area(0), full_area(1), Vec::new());
@@ -675,6 +683,7 @@ fn headers(cases: &mut Vec<Case>) {
         cases.push(case(&format!("{name}: cut"), cut(areas(), 0), &[number], &[]));
         let input = cut_mapped(areas(), &[0xFF], 0);
         cases.push(case(&format!("{name}: cut with a map"), input, &[number], &[]));
+        cases.push(case(&format!("{name}: swept"), sweep(areas()), &[number], &[]));
         let input = build(patch, full, filler(1));
         cases.push(case(&format!("{name}: built"), input, &[number], &[]));
     };
@@ -786,6 +795,7 @@ fn area_lengths(cases: &mut Vec<Case>) {
             cases.push(case(&name, cut(areas.clone(), 0), &[2], &[]));
             cases.push(case(&name, cut_mapped(areas.clone(), &[], 9), &[2], &[]));
             cases.push(case(&name, highest(area), &[2], &[]));
+            cases.push(case(&name, sweep(areas.clone()), &[2], &[]));
             decisions_on(cases, &name, &areas, 2);
         }
     }
@@ -801,6 +811,7 @@ fn area_lengths(cases: &mut Vec<Case>) {
         cases.push(case(&name, read_mapped(areas.clone(), &[], 0, vec![]), &[2], &[]));
         cases.push(case(&name, cut(areas.clone(), 0), &[2], &[]));
         cases.push(case(&name, cut_mapped(areas.clone(), &[], 9), &[2], &[]));
+        cases.push(case(&name, sweep(areas.clone()), &[2], &[]));
         decisions_on(cases, &name, &areas, 2);
     }
 }
@@ -1507,10 +1518,16 @@ pub fn all() -> Vec<Case> {
     cuts(&mut cases);
     refused_cuts(&mut cases);
     highest_blocks(&mut cases);
+    stops::stops(&mut cases);
+    stops::reads_after_stops(&mut cases);
+    stops::sweeps(&mut cases);
+    stops::sweeps_of_bytes(&mut cases);
+    stops::refused_sweeps(&mut cases);
     built_maps(&mut cases);
     first_faults(&mut cases);
     look_ups(&mut cases);
     tallies(&mut cases);
     orders(&mut cases);
+    stops::refused_whatever_is_told(&mut cases);
     cases
 }

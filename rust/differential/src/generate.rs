@@ -2,7 +2,7 @@
 //! once so that the order of refusals decides.
 
 use crate::call::{
-    Call, Input, BEGINNING, FULL_HEADER, MAX_BLOCKS, PAGE, PATCH_HEADER, PAYLOAD, SLOT,
+    Call, Input, ALL, BEGINNING, FULL_HEADER, MAX_BLOCKS, PAGE, PATCH_HEADER, PAYLOAD, SLOT,
 };
 use crate::rng::Rng;
 
@@ -293,6 +293,42 @@ pub const STRANGE_KINDS: [u32; 18] = [
     u32::MAX,
 ];
 
+/// Numbers of stores that mean all of them, and those of them that would be 0 or 1 if they were cut to 8,
+/// 16, 31, 32 or 63 bits.
+pub const STRANGE_STORES: [u64; 20] = [
+    2,
+    3,
+    255,
+    256,
+    257,
+    65_536,
+    65_537,
+    (1 << 31) - 1,
+    1 << 31,
+    (1 << 31) + 1,
+    (1 << 32) - 1,
+    1 << 32,
+    (1 << 32) + 1,
+    1 << 33,
+    (1 << 63) - 1,
+    1 << 63,
+    (1 << 63) + 1,
+    u64::MAX - 2,
+    u64::MAX - 1,
+    u64::MAX,
+];
+
+/// How many stores a decision is told to make: mostly all of them.
+pub fn stores(rng: &mut Rng) -> u64 {
+    match rng.below(20) {
+        0..=3 => 0,
+        4..=7 => 1,
+        8..=11 => rng.pick(&STRANGE_STORES),
+        12 => rng.draw(),
+        _ => ALL,
+    }
+}
+
 impl Decision {
     /// What Compare decides of a page over its base.
     pub fn by_compare(base: &[u8], page: Vec<u8>) -> Decision {
@@ -357,6 +393,7 @@ pub fn decision(rng: &mut Rng) -> Decision {
 // Areas
 // ---------------------------------------------------------------------------------------------
 
+#[derive(Clone)]
 pub struct Areas {
     pub patch: Vec<u8>,
     pub full: Vec<u8>,
@@ -628,10 +665,20 @@ fn read_input(rng: &mut Rng) -> Input {
     Input::new(Call::Read, vec![areas.patch, areas.full, base, page]).at_block(block)
 }
 
+/// Areas on which a decision is carried out, some of them as other stops have left them.
+fn areas_to_write(rng: &mut Rng) -> Areas {
+    let mut areas = damaged_areas(rng);
+    if rng.chance(30) {
+        stray_pages(rng, &mut areas);
+    }
+    areas
+}
+
 fn carry_out_input(rng: &mut Rng) -> Input {
-    let areas = damaged_areas(rng);
+    let areas = areas_to_write(rng);
     let block = block(rng, areas.blocks());
-    decision(rng).input(Call::CarryOut, vec![areas.patch, areas.full], block)
+    let input = decision(rng).input(Call::CarryOut, vec![areas.patch, areas.full], block);
+    input.storing(stores(rng))
 }
 
 /// The pair that a slot's kind byte stands for, sound or not: what a map says that was kept.
@@ -693,10 +740,11 @@ fn map_beside(rng: &mut Rng, areas: &mut Areas) -> Vec<u8> {
 }
 
 fn carry_out_mapped_input(rng: &mut Rng) -> Input {
-    let mut areas = damaged_areas(rng);
+    let mut areas = areas_to_write(rng);
     let map = map_beside(rng, &mut areas);
     let block = block(rng, areas.blocks());
-    decision(rng).input(Call::CarryOutMapped, vec![areas.patch, areas.full, map], block)
+    let lent = vec![areas.patch, areas.full, map];
+    decision(rng).input(Call::CarryOutMapped, lent, block).storing(stores(rng))
 }
 
 fn read_mapped_input(rng: &mut Rng) -> Input {
@@ -733,6 +781,24 @@ fn highest_input(rng: &mut Rng) -> Input {
         }
     }
     Input::new(Call::Highest, vec![areas.patch])
+}
+
+/// Pages where no slot refers to them, as stops leave them, and anywhere else.
+pub fn stray_pages(rng: &mut Rng, areas: &mut Areas) {
+    for block in 0..areas.pages() {
+        match rng.below(6) {
+            0 | 1 => rng.fill(areas.place(block)),
+            // One byte, at either end or inside.
+            2 => areas.place(block)[rng.pick(&[0, PAGE - 1, PAGE / 2])] ^= rng.nonzero_byte(),
+            _ => {}
+        }
+    }
+}
+
+fn sweep_input(rng: &mut Rng) -> Input {
+    let mut areas = damaged_areas(rng);
+    stray_pages(rng, &mut areas);
+    Input::new(Call::Sweep, vec![areas.patch, areas.full])
 }
 
 fn build_input(rng: &mut Rng) -> Input {
@@ -846,6 +912,7 @@ fn input(rng: &mut Rng, call: Call) -> Input {
         Call::Cut => cut_input(rng),
         Call::CutMapped => cut_mapped_input(rng),
         Call::Highest => highest_input(rng),
+        Call::Sweep => sweep_input(rng),
     }
 }
 
@@ -893,6 +960,9 @@ pub fn any_input(rng: &mut Rng) -> Input {
         Call::CutMapped,
         Call::Highest,
         Call::Highest,
+        Call::Sweep,
+        Call::Sweep,
+        Call::Sweep,
     ]);
     input(rng, call)
 }

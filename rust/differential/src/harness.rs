@@ -3,7 +3,7 @@
 use std::fmt;
 
 use crate::arena::{Flush, Room};
-use crate::call::{Answer, Call, Input, Numbers, Outcome};
+use crate::call::{Answer, Call, Input, Numbers, Outcome, Told};
 use crate::sides::{self, Lent, SafeSide};
 
 /// More than any buffer of a generated input.
@@ -27,15 +27,21 @@ impl fmt::Display for Mismatch {
     }
 }
 
+/// How often a call gave each number, by what it was told of its stores.
+type ByNumber = [[u64; 12]; Told::EVERY.len()];
+
 /// How often each call was compared, and with which number.
 #[derive(Clone, Debug, Default)]
 pub struct Counts {
     /// For Show, 0 counts the parts handed out and 1 the empty ones; for Next, 0 counts the entries, 1
     /// the ends and 7 the stops.
-    by_number: [[u64; 12]; Call::ALL.len()],
+    by_number: [ByNumber; Call::ALL.len()],
     /// The same of the wrapper, for calls that it does not make for every input.
-    by_wrapper: [[u64; 12]; Call::ALL.len()],
+    by_wrapper: [ByNumber; Call::ALL.len()],
 }
+
+/// A number that a call never gave, told so many stores.
+pub type Unseen = (Call, Told, usize);
 
 /// What is counted for a call; all of it must be met.
 fn counted(call: Call) -> &'static [usize] {
@@ -46,60 +52,80 @@ fn counted(call: Call) -> &'static [usize] {
     }
 }
 
+/// What is told of stores: a decision must meet each of its numbers with each of these.
+fn told(call: Call) -> &'static [Told] {
+    if call.carries_out() {
+        &Told::EVERY
+    } else {
+        &[Told::All]
+    }
+}
+
+/// What of these numbers was never given.
+fn unseen(counts: &[ByNumber], numbers: fn(Call) -> &'static [usize]) -> Vec<Unseen> {
+    let mut unseen = Vec::new();
+    for call in Call::ALL {
+        for told in told(call) {
+            for number in numbers(call) {
+                if counts[call as usize][*told as usize][*number] == 0 {
+                    unseen.push((call, *told, *number));
+                }
+            }
+        }
+    }
+    unseen
+}
+
+/// The sum of what was told none, one and all.
+fn sum(counts: &ByNumber) -> [u64; 12] {
+    let mut sum = [0; 12];
+    for row in counts {
+        sum.iter_mut().zip(row).for_each(|(sum, count)| *sum += count);
+    }
+    sum
+}
+
 impl Counts {
-    pub fn add(&mut self, call: Call, answer: &Answer) {
+    pub fn add(&mut self, call: Call, numbers: &Numbers, answer: &Answer) {
         let number = match call {
             Call::Show => i128::from(answer.0[1] == 0),
             Call::Next if answer.number() == 0 => i128::from(answer.0[1] == 0),
             _ => answer.number(),
         };
         // A number that is not in the table has been reported as a mismatch before.
-        if let Some(count) = self.by_number[call as usize].get_mut(number as usize) {
+        let told = Told::of(numbers.stores) as usize;
+        if let Some(count) = self.by_number[call as usize][told].get_mut(number as usize) {
             *count += 1;
         }
     }
 
     /// The wrapper made the call too.
-    pub fn add_by_wrapper(&mut self, call: Call, answer: &Answer) {
-        if let Some(count) = self.by_wrapper[call as usize].get_mut(answer.number() as usize) {
+    pub fn add_by_wrapper(&mut self, call: Call, numbers: &Numbers, answer: &Answer) {
+        let told = Told::of(numbers.stores) as usize;
+        let row = &mut self.by_wrapper[call as usize][told];
+        if let Some(count) = row.get_mut(answer.number() as usize) {
             *count += 1;
         }
     }
 
     pub fn add_all(&mut self, other: &Counts) {
-        let counts = self.by_number.iter_mut().chain(&mut self.by_wrapper).flatten();
-        let others = other.by_number.iter().chain(&other.by_wrapper).flatten();
+        let counts = self.by_number.iter_mut().chain(&mut self.by_wrapper).flatten().flatten();
+        let others = other.by_number.iter().chain(&other.by_wrapper).flatten().flatten();
         counts.zip(others).for_each(|(count, more)| *count += more);
     }
 
     pub fn total(&self) -> u64 {
-        self.by_number.iter().flatten().sum()
+        self.by_number.iter().flatten().flatten().sum()
     }
 
     /// Calls with a number that they can give but that was never seen.
-    pub fn unseen(&self) -> Vec<(Call, usize)> {
-        let mut unseen = Vec::new();
-        for call in Call::ALL {
-            for number in counted(call) {
-                if self.by_number[call as usize][*number] == 0 {
-                    unseen.push((call, *number));
-                }
-            }
-        }
-        unseen
+    pub fn unseen(&self) -> Vec<Unseen> {
+        unseen(&self.by_number, counted)
     }
 
     /// The same for the wrapper, of calls that it does not make for every input.
-    pub fn unseen_by_wrapper(&self) -> Vec<(Call, usize)> {
-        let mut unseen = Vec::new();
-        for call in Call::ALL {
-            for number in call.numbers_of_wrapper() {
-                if self.by_wrapper[call as usize][*number] == 0 {
-                    unseen.push((call, *number));
-                }
-            }
-        }
-        unseen
+    pub fn unseen_by_wrapper(&self) -> Vec<Unseen> {
+        unseen(&self.by_wrapper, Call::numbers_of_wrapper)
     }
 
     /// One line of the table.
@@ -119,6 +145,25 @@ impl Counts {
         }
         writeln!(f)
     }
+
+    /// Of decisions also the stops, and what the wrapper carried out.
+    fn fmt_decisions(
+        f: &mut fmt::Formatter<'_>,
+        call: Call,
+        counts: &ByNumber,
+        by_wrapper: &ByNumber,
+    ) -> fmt::Result {
+        let rows = [("  told 0", Told::None), ("  told 1", Told::One)];
+        for (name, told) in rows {
+            Counts::fmt_row(f, name, &counts[told as usize], call.numbers())?;
+        }
+        Counts::fmt_row(f, "  by the wrapper", &sum(by_wrapper), call.numbers_of_wrapper())?;
+        let wrapper_rows = [("    told 0", Told::None), ("    told 1", Told::One)];
+        for (name, told) in wrapper_rows {
+            Counts::fmt_row(f, name, &by_wrapper[told as usize], call.numbers_of_wrapper())?;
+        }
+        Ok(())
+    }
 }
 
 impl fmt::Display for Counts {
@@ -129,7 +174,8 @@ impl fmt::Display for Counts {
         }
         writeln!(f, "   (times each number was given; . = the call has no such number)")?;
         for call in Call::ALL {
-            let row = self.by_number[call as usize];
+            let counts = &self.by_number[call as usize];
+            let row = sum(counts);
             let (name, sum) = (call.name(), row.iter().sum::<u64>());
             match call {
                 Call::Show => writeln!(
@@ -144,9 +190,8 @@ impl fmt::Display for Counts {
                 )?,
                 _ => Counts::fmt_row(f, name, &row, call.numbers())?,
             }
-            if !call.numbers_of_wrapper().is_empty() {
-                let row = self.by_wrapper[call as usize];
-                Counts::fmt_row(f, "  by the wrapper", &row, call.numbers_of_wrapper())?;
+            if call.carries_out() {
+                Counts::fmt_decisions(f, call, counts, &self.by_wrapper[call as usize])?;
             }
         }
         Ok(())
@@ -239,19 +284,19 @@ impl Harness {
             if let Some(outcome) = wrapper_outcome(input) {
                 let answer = outcome.answer;
                 hold(input, "Rust wrapper", Ok(outcome), &expected)?;
-                self.counts.add_by_wrapper(input.call, &answer);
+                self.counts.add_by_wrapper(input.call, &input.numbers, &answer);
             }
         }
         if let Some(found) = forbidden(input, &expected) {
             return Err(Mismatch { side: "rule of answers", input: input.to_string(), found });
         }
-        self.count(input.call, &expected.answer);
+        self.count(input.call, &input.numbers, &expected.answer);
         Ok(expected)
     }
 
     /// All sides agreed about this call; the next one lends its buffers in another manner.
-    pub fn count(&mut self, call: Call, answer: &Answer) {
-        self.counts.add(call, answer);
+    pub fn count(&mut self, call: Call, numbers: &Numbers, answer: &Answer) {
+        self.counts.add(call, numbers, answer);
         self.turn += 1;
     }
 
@@ -300,9 +345,23 @@ fn forbidden(input: &Input, outcome: &Outcome) -> Option<String> {
     match input.call {
         Call::Show => None,
         Call::Next => forbidden_step(input, outcome),
-        _ if outcome.answer.number() == 0 => forbidden_offset(input.call, &outcome.answer),
+        _ if outcome.answer.number() == 0 => forbidden_offset(input.call, &outcome.answer)
+            .or_else(|| forbidden_by_told(input, outcome)),
         _ => forbidden_by_refusal(input, outcome),
     }
+}
+
+/// A decision that is told to store nothing changes no byte, and one that is not told all leaves the map.
+fn forbidden_by_told(input: &Input, outcome: &Outcome) -> Option<String> {
+    let left = match (input.call, Told::of(input.numbers.stores)) {
+        (_, Told::All) => return None,
+        (call, Told::None) if call.carries_out() => 0..input.buffers.len(),
+        (Call::CarryOutMapped, Told::One) => 2..3,
+        _ => return None,
+    };
+    let changed = left.clone().find(|index| outcome.buffers[*index] != input.buffers[*index])?;
+    let name = input.call.buffers()[changed];
+    Some(format!("{name} was changed by a decision told {}", input.numbers.stores))
 }
 
 /// A call that is done gives no offset.

@@ -8,8 +8,8 @@ use std::fs;
 
 use crate::arena::{Flush, Room};
 use crate::call::{
-    first_difference, Answer, Call, Input, Numbers, FULL_HEADER, MAX_BLOCKS, PAGE, PATCH_HEADER,
-    SLOT,
+    first_difference, Answer, Call, Input, Numbers, ALL, FULL_HEADER, MAX_BLOCKS, PAGE,
+    PATCH_HEADER, SLOT,
 };
 use crate::generate::{Areas, Decision};
 use crate::harness::{Harness, Mismatch};
@@ -140,9 +140,10 @@ impl<'h> Stores<'h> {
         expected: &[i128],
     ) -> Result<Vec<Vec<u8>>, Mismatch> {
         let [patch, full] = [self.library.patch.length, self.library.full.length];
-        let (name, Numbers { block, kind, .. }) = (call.name(), told);
-        let input =
-            format!("{name} of block {block}, kind {kind}, areas of {patch} and {full} bytes");
+        let (name, Numbers { block, kind, stores, .. }) = (call.name(), told);
+        let input = format!(
+            "{name} of block {block}, kind {kind}, stores {stores}, areas of {patch} and {full} bytes"
+        );
         if self.harness.trace {
             println!("{input}");
         }
@@ -164,9 +165,9 @@ impl<'h> Stores<'h> {
             Some((side, found)) => Err(Mismatch { side, input, found }),
             None => {
                 if wrapped {
-                    self.harness.counts.add_by_wrapper(call, &came.0);
+                    self.harness.counts.add_by_wrapper(call, &told, &came.0);
                 }
-                self.harness.count(call, &came.0);
+                self.harness.count(call, &told, &came.0);
                 Ok(came.1)
             }
         }
@@ -184,7 +185,19 @@ impl<'h> Stores<'h> {
 
     /// A page over a base of zeros, written by the pair: Compare decides, and that is carried out.
     fn write(&mut self, block: u64, page: &[u8], expected: &[i128]) -> Result<(), Mismatch> {
+        self.write_told(ALL, block, page, expected)
+    }
+
+    /// The same, told so many stores.
+    fn write_told(
+        &mut self,
+        stores: u64,
+        block: u64,
+        page: &[u8],
+        expected: &[i128],
+    ) -> Result<(), Mismatch> {
         let (told, small) = self.decided(block, page)?;
+        let told = Numbers { stores, ..told };
         self.check_giving(Call::CarryOut, told, &small, expected).map(|_| ())
     }
 
@@ -212,6 +225,29 @@ impl<'h> Stores<'h> {
 
     fn highest(&mut self, expected: &[i128]) -> Result<(), Mismatch> {
         self.check(Call::Highest, 0, &[], expected)
+    }
+
+    fn sweep(&mut self, expected: &[i128]) -> Result<(), Mismatch> {
+        self.check(Call::Sweep, 0, &[], expected)
+    }
+
+    /// A sweep of areas that are mostly holes, which stay holes on every side.
+    fn sweep_of_holes(&mut self, expected: &[i128]) -> Result<(), Mismatch> {
+        /// For three areas of 1 GiB whose holes would be filled.
+        const FEW_KIB: u64 = 64 << 10;
+        let before = resident_kib();
+        self.sweep(expected)?;
+        match (before, resident_kib()) {
+            (Some(before), Some(after)) if after > before + FEW_KIB => {
+                let found = format!("{before} KiB in use before it, {after} after it");
+                Err(Mismatch {
+                    side: "demand on sweeps",
+                    input: "sweep of holes".to_string(),
+                    found,
+                })
+            }
+            _ => Ok(()),
+        }
     }
 
     fn build(&mut self, expected: &[i128]) -> Result<(), Mismatch> {
@@ -328,8 +364,10 @@ fn without_full_area(harness: &mut Harness) -> Result<(), Mismatch> {
     stores.poke_patch(patch_len(MAX_BLOCKS - 1) + 2, 5);
     stores.build(&[7, i128::from(LAST), 4])?;
     stores.read(LAST, &[7, 0, 4])?;
+    stores.sweep(&[0])?;
     stores.poke_patch(patch_len(MAX_BLOCKS) - 1, 1);
     stores.build(&[6, i128::from(LAST)])?;
+    stores.sweep(&[6])?;
     stores.read(LAST, &[6])?;
     stores.write(LAST, &[0; PAGE], &[0, 0, 0])?;
     stores.build(&[0])
@@ -372,6 +410,7 @@ fn one_block_too_many(harness: &mut Harness) -> Result<(), Mismatch> {
     stores.cut(0, &[2])?;
     stores.cut_mapped(&mut vec![0xAB; MAP + 1], 0, &[2])?;
     stores.highest(&[2])?;
+    stores.sweep(&[2])?;
     stores.build(&[2])
 }
 
@@ -390,7 +429,17 @@ fn with_full_area(harness: &mut Harness) -> Result<(), Mismatch> {
     stores.write(LAST - 1, &[0; PAGE], &[0, 0, 0])?;
     stores.build(&[0])?;
 
-    // The same byte again, and the last page: both go by a cut.
+    // Two writes stopped after one store: a page to which no slot refers yet, and one to which none refers
+    // any more. An unsound slot at the end keeps both from the sweep.
+    stores.write_told(1, 65_537, &[7; PAGE], &[0, 2, 0])?;
+    stores.write_told(1, LAST, &small_change(), &[0, 1, 4])?;
+    stores.poke_patch(patch_len(MAX_BLOCKS) - 1, 1);
+    stores.sweep(&[6])?;
+    stores.poke_patch(patch_len(MAX_BLOCKS) - 1, 0);
+    stores.sweep_of_holes(&[0])?;
+    stores.build(&[0])?;
+
+    // The same byte again, and the last block: both go by a cut.
     stores.poke_full(full_len(MAX_BLOCKS - 1) - 1, 5);
     stores.cut(LAST - 1, &[0])?;
     stores.highest(&[0, 65_537])?;
@@ -446,6 +495,7 @@ fn one_page_fewer(harness: &mut Harness) -> Result<(), Mismatch> {
     let mut stores = Stores::new(harness, MAX_BLOCKS, Some(MAX_BLOCKS - 1));
     stores.poke_patch(patch_len(MAX_BLOCKS - 1), 2);
     stores.read(LAST, &[8])?;
+    stores.sweep(&[8])?;
     stores.build(&[8, i128::from(LAST)])
 }
 
@@ -512,7 +562,16 @@ pub fn check_format(harness: &mut Harness) -> Result<Option<String>, Mismatch> {
 
 /// What the system says it could give, in KiB.
 fn available_kib() -> Option<u64> {
-    let text = fs::read_to_string("/proc/meminfo").ok()?;
-    let line = text.lines().find(|line| line.starts_with("MemAvailable:"))?;
+    kib_in("/proc/meminfo", "MemAvailable:")
+}
+
+/// The memory that this program has in use; holes of a mapping are not among it.
+fn resident_kib() -> Option<u64> {
+    kib_in("/proc/self/status", "VmRSS:")
+}
+
+fn kib_in(file: &str, name: &str) -> Option<u64> {
+    let text = fs::read_to_string(file).ok()?;
+    let line = text.lines().find(|line| line.starts_with(name))?;
     line.split_whitespace().nth(1)?.parse().ok()
 }

@@ -8,11 +8,13 @@
 //! * beside a store from elsewhere that Build accepts, reads by Build's map are those of Read, decisions
 //!   and cuts with it do to the areas what they do without, and afterwards it is again the map that Build
 //!   makes; the highest block is the last whose pair is not 0. Right after a decision, Compare's or from
-//!   elsewhere, the block reads as its base, as Apply makes it of the payload, or as the page.
+//!   elsewhere, the block reads as its base, as Apply makes it of the payload, or as the page. In some of
+//!   these stores decisions are stopped, with the map and without; once swept, Build accepts them again,
+//!   and the map is built anew.
 //!
 //! Every call of it is also compared with the independent implementation.
 
-use crate::call::{Answer, Call, Input, Outcome, FULL_HEADER, PAGE, PATCH_HEADER, SLOT};
+use crate::call::{Answer, Call, Input, Outcome, ALL, FULL_HEADER, PAGE, PATCH_HEADER, SLOT};
 use crate::generate::{self, Areas, Decision};
 use crate::harness::{Harness, Mismatch};
 use crate::pair;
@@ -219,6 +221,8 @@ pub fn every_one(harness: &mut Harness) -> Result<(), Mismatch> {
 pub struct Elsewhere {
     pub accepted: u64,
     pub refused: u64,
+    /// Decisions that were stopped on accepted ones.
+    pub stopped: u64,
 }
 
 /// A store and a map beside it, with bytes after it that stay.
@@ -273,18 +277,24 @@ impl Kept {
     fn carry_out(&mut self, harness: &mut Harness, rng: &mut Rng) -> Result<(), Mismatch> {
         let block = rng.below(self.areas.blocks()) as u64;
         let base = generate::base(rng);
-        let decision = if rng.chance(70) {
-            let page = generate::modified(rng, &base);
-            pair::decide(harness, &base, &page)?
-        } else {
-            Some(generate::decision_from_elsewhere(rng))
-        };
-        let decision = match decision {
-            Some(decision) => decision,
-            None => return demand(false, || "Compare of sound pages is refused".to_string()),
-        };
-        let plain = decision.input(Call::CarryOut, self.kept(false), block);
-        let mapped = decision.input(Call::CarryOutMapped, self.kept(true), block);
+        let decision = decision_over(harness, rng, &base)?;
+        if self.store(harness, block, &decision, ALL)? == 0 {
+            self.check_read_back(harness, block, &base, &decision)?;
+        }
+        Ok(())
+    }
+
+    /// Makes so many stores of a decision, with the map and without: both do the same to the areas. Gives
+    /// the number.
+    fn store(
+        &mut self,
+        harness: &mut Harness,
+        block: u64,
+        decision: &Decision,
+        stores: u64,
+    ) -> Result<i128, Mismatch> {
+        let plain = decision.input(Call::CarryOut, self.kept(false), block).storing(stores);
+        let mapped = decision.input(Call::CarryOutMapped, self.kept(true), block).storing(stores);
         let (plain, mapped) = (harness.check(&plain)?, harness.check(&mapped)?);
         demand(plain.answer == mapped.answer && plain.buffers[..2] == mapped.buffers[..2], || {
             format!("block {block} without a map {:?}, with it {:?}", plain.answer, mapped.answer)
@@ -294,10 +304,48 @@ impl Kept {
         let has_place = (block as usize) < self.areas.pages();
         let expected = if decision.kind == 2 && !has_place { 8 } else { 0 };
         demand(number == expected, || format!("kind {} gives {number}", decision.kind))?;
-        if number != 0 {
-            return Ok(());
+        Ok(number)
+    }
+
+    /// A decision that is stopped. The map stays; the block reads as before or as the whole write leaves it.
+    fn stop(&mut self, harness: &mut Harness, rng: &mut Rng) -> Result<(), Mismatch> {
+        let block = rng.below(self.areas.blocks()) as u64;
+        let base = generate::base(rng);
+        let mut decision = decision_over(harness, rng, &base)?;
+        // Full pages often: about them there is most to be told.
+        if rng.chance(40) {
+            decision = Decision { kind: 2, payload: Vec::new(), page: rng.bytes(PAGE) };
         }
-        self.check_read_back(harness, block, &base, &decision)
+        let mut whole = Kept { areas: self.areas.clone(), map: self.map.clone() };
+        whole.store(harness, block, &decision, ALL)?;
+        let (map, before) = (self.map.clone(), self.reading(harness, block, &base)?);
+        self.store(harness, block, &decision, rng.below(2) as u64)?;
+        demand(self.map == map, || format!("a stop changed the map to {:02X?}", self.map))?;
+        let stopped = self.reading(harness, block, &base)?;
+        let after = whole.reading(harness, block, &base)?;
+        demand(stopped == before || stopped == after, || {
+            format!("block {block} after a stop reads as {:?}", stopped.answer)
+        })
+    }
+
+    /// The answer and the page of a block that is read.
+    fn reading(&self, harness: &mut Harness, block: u64, base: &[u8]) -> Result<Outcome, Mismatch> {
+        let read = Input::new(Call::Read, self.lent(false, base, &[0xD5; PAGE])).at_block(block);
+        let Outcome { answer, buffers } = harness.check(&read)?;
+        Ok(Outcome { answer, buffers: buffers.into_iter().skip(3).collect() })
+    }
+
+    /// A sweep after stops, and the map built anew.
+    fn sweep(&mut self, harness: &mut Harness) -> Result<(), Mismatch> {
+        let Outcome { answer, mut buffers } =
+            harness.check(&Input::new(Call::Sweep, self.kept(false)))?;
+        demand(answer == Answer::of(&[0]), || format!("a sweep gives {:?}", answer.0))?;
+        self.areas.full = buffers.swap_remove(1);
+        let (answer, built) = self.build(harness)?;
+        demand(answer.number() == 0, || format!("Build after a sweep gives {:?}", answer.0))?;
+        let used = self.used();
+        self.map[..used].copy_from_slice(&built[..used]);
+        Ok(())
     }
 
     /// A block right after a decision: its base, what Apply makes of it, or the page.
@@ -313,10 +361,9 @@ impl Kept {
             1 => pair::applied(harness, base, &decision.payload)?,
             _ => Some(decision.page.clone()),
         };
-        let read = Input::new(Call::Read, self.lent(false, base, &[0xD3; PAGE])).at_block(block);
-        let read = harness.check(&read)?;
+        let read = self.reading(harness, block, base)?;
         let as_decided = Answer::of(&[0, decision.kind.into()]);
-        demand(read.answer == as_decided && Some(&read.buffers[3]) == page.as_ref(), || {
+        demand(read.answer == as_decided && read.buffers.first() == page.as_ref(), || {
             format!("block {block} after kind {} reads with {:?}", decision.kind, read.answer)
         })
     }
@@ -356,6 +403,44 @@ impl Kept {
     }
 }
 
+/// A decision over a base: Compare's, or one from elsewhere.
+fn decision_over(harness: &mut Harness, rng: &mut Rng, base: &[u8]) -> Result<Decision, Mismatch> {
+    if !rng.chance(70) {
+        return Ok(generate::decision_from_elsewhere(rng));
+    }
+    let page = generate::modified(rng, base);
+    let decided = pair::decide(harness, base, &page)?;
+    demand(decided.is_some(), || "Compare of sound pages is refused".to_string())?;
+    Ok(decided.expect("just seen"))
+}
+
+/// Decisions and cuts carried out on a store; in some stores decisions are stopped too, and it is swept at
+/// the end or before.
+fn used_for_a_while(
+    harness: &mut Harness,
+    rng: &mut Rng,
+    kept: &mut Kept,
+    met: &mut Elsewhere,
+) -> Result<(), Mismatch> {
+    let stops = if rng.chance(40) { 30 } else { 0 };
+    for _ in 0..rng.between(1, 12) {
+        if rng.chance(15) {
+            kept.cut(harness, rng)?;
+        } else if rng.chance(stops) {
+            kept.stop(harness, rng)?;
+            met.stopped += 1;
+        } else if rng.chance(stops / 3) {
+            kept.sweep(harness)?;
+        } else {
+            kept.carry_out(harness, rng)?;
+        }
+    }
+    if stops > 0 {
+        kept.sweep(harness)?;
+    }
+    Ok(())
+}
+
 /// One store from elsewhere, and decisions and cuts carried out on it.
 pub fn from_elsewhere(
     harness: &mut Harness,
@@ -376,13 +461,7 @@ pub fn from_elsewhere(
     kept.check_reads(harness, rng)?;
     kept.check_highest(harness)?;
     if kept.areas.blocks() > 0 {
-        for _ in 0..rng.between(1, 12) {
-            if rng.chance(15) {
-                kept.cut(harness, rng)?;
-            } else {
-                kept.carry_out(harness, rng)?;
-            }
-        }
+        used_for_a_while(harness, rng, &mut kept, met)?;
     }
     let (answer, built) = kept.build(harness)?;
     let used = kept.used();

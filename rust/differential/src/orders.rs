@@ -5,7 +5,7 @@
 //! not only to the independent implementation.
 
 use crate::call::{
-    Answer, Call, Input, Numbers, BEGINNING, FULL_HEADER, PAGE, PATCH_HEADER, PAYLOAD, SLOT,
+    Answer, Call, Input, Numbers, ALL, BEGINNING, FULL_HEADER, PAGE, PATCH_HEADER, PAYLOAD, SLOT,
 };
 use crate::generate::Areas;
 use crate::harness::{Harness, Mismatch};
@@ -58,7 +58,7 @@ impl Fault {
     }
 }
 
-// Where the buffers of Read, Build, the cuts and of decisions stand.
+// Where the buffers of Read, Build, the cuts, the sweep and of decisions stand.
 const PATCH: usize = 0;
 const FULL: usize = 1;
 const BASE: usize = 2;
@@ -120,7 +120,7 @@ fn patched(m: Option<usize>) -> Areas {
     for (block, entries) in [(0, 2), (1, 3)] {
         let payload = [0, 7].repeat(entries);
         let Areas { patch, full } = &mut areas;
-        let written = independent::carry_out(patch, full, block, 1, &payload, &[]);
+        let written = independent::carry_out(patch, full, block, 1, &payload, &[], ALL);
         assert_eq!((written.number, written.length as usize), (0, 2 * entries));
     }
     areas
@@ -304,6 +304,58 @@ fn highest(harness: &mut Harness) -> Result<(), Mismatch> {
     all_sets(harness, &Input::new(Call::Highest, vec![patch]), &faults)
 }
 
+/// Two blocks, and a place for the first. A stray page beside a payload that breaks is no fault, nor is a
+/// reference to the place.
+fn sweep_places(harness: &mut Harness) -> Result<(), Mismatch> {
+    let Areas { patch, mut full } = patched(Some(1));
+    full[PLACE_0..].fill(0x90);
+    let (mut broken, mut in_use) = (patch.clone(), patch);
+    broken[SLOT_0 + 8] = 0xFF;
+    in_use[SLOT_0..SLOT_1].fill(0);
+    in_use[SLOT_0] = 2;
+    let mut faults = vec![
+        fault(2, |input| input.buffers[PATCH].push(0)),
+        fault(2, |input| input.buffers[FULL].push(0)),
+    ];
+    faults.extend(header_faults());
+    faults.extend([
+        fault(6, |input| input.buffers[PATCH][SLOT_0 + 511] = 1),
+        fault(6, unsound_slot_1),
+        fault(8, reference_1),
+    ]);
+    for patch in [broken, in_use] {
+        all_sets(harness, &Input::new(Call::Sweep, vec![patch, full.clone()]), &faults)?;
+    }
+    Ok(())
+}
+
+/// Without a full area and with one that has no place: every slot counts all the same, 8 at block 0
+/// before 6 at block 1.
+fn sweep_without_places(harness: &mut Harness) -> Result<(), Mismatch> {
+    for m in [None, Some(0)] {
+        let Areas { patch, full } = Areas::fresh(2, m);
+        let mut faults = vec![fault(2, |input| input.buffers[PATCH].push(0))];
+        // Those of the patch header.
+        faults.extend(header_faults().into_iter().take(3));
+        faults.extend([
+            fault(6, |input| input.buffers[PATCH][SLOT_0 + 5] = 1),
+            fault(8, |input| input.buffers[PATCH][SLOT_0] = 2),
+            fault(6, unsound_slot_1),
+            fault(8, reference_1),
+        ]);
+        all_sets(harness, &Input::new(Call::Sweep, vec![patch, full]), &faults)?;
+    }
+    Ok(())
+}
+
+/// Block 1 refers to its place. What is wrong with its slot besides stays wrong.
+fn reference_1(input: &mut Input) {
+    let slot = &mut input.buffers[PATCH][SLOT_1..SLOT_1 + SLOT];
+    slot[0] = 2;
+    slot[1..4].fill(0);
+    slot[8..].fill(0);
+}
+
 fn build_patches(harness: &mut Harness) -> Result<(), Mismatch> {
     let Areas { patch, full } = patched(Some(2));
     let input = Input::new(Call::Build, vec![patch, full, vec![0xEE; 1]]);
@@ -447,26 +499,47 @@ fn did(input: &Input, answer: &Answer) -> bool {
     }
 }
 
+/// What a decision is told of its stores.
+const TOLD: [u64; 5] = [ALL, 0, 1, 2, 1 << 32];
+
+/// The numbers of stores that a set of faults is tried with. For decisions of up to two faults all of
+/// them; of larger sets there are many, and they take turns.
+fn told(start: &Input, set: u32) -> Vec<u64> {
+    match set.count_ones() {
+        _ if !start.call.carries_out() => vec![ALL],
+        0..=2 => TOLD.to_vec(),
+        _ => vec![TOLD[set as usize % TOLD.len()]],
+    }
+}
+
 /// Tries every set of the faults; the first of them that is one must decide.
 fn all_sets(harness: &mut Harness, start: &Input, faults: &[Fault]) -> Result<(), Mismatch> {
     for set in 0..1u32 << faults.len() {
-        let chosen = || faults.iter().enumerate().filter(|(at, _)| set >> at & 1 == 1);
-        let mut input = start.clone();
-        chosen().for_each(|(_, fault)| (fault.make)(&mut input));
-        let answer = harness.check(&input)?.answer;
-        let first = chosen().find(|(_, fault)| fault.counts(&input));
-        let expected = first.map(|(_, fault)| fault.answer(&input));
-        let held = expected.map_or(did(&input, &answer), |expected| answer == expected);
-        if !held {
-            let numbers: Vec<i128> = chosen().map(|(_, fault)| fault.number).collect();
-            return Err(Mismatch {
-                side: "order of refusals",
-                input: format!("{input} with faults {numbers:?}"),
-                found: format!("answer {:?}, by the order {expected:?}", answer.0),
-            });
+        let chosen = faults.iter().enumerate().filter(|(at, _)| set >> at & 1 == 1);
+        let chosen: Vec<&Fault> = chosen.map(|(_, fault)| fault).collect();
+        for stores in told(start, set) {
+            let mut input = start.clone().storing(stores);
+            chosen.iter().for_each(|fault| (fault.make)(&mut input));
+            check_set(harness, &input, &chosen)?;
         }
     }
     Ok(())
+}
+
+/// An input with these faults.
+fn check_set(harness: &mut Harness, input: &Input, faults: &[&Fault]) -> Result<(), Mismatch> {
+    let answer = harness.check(input)?.answer;
+    let first = faults.iter().find(|fault| fault.counts(input));
+    let expected = first.map(|fault| fault.answer(input));
+    if expected.map_or(did(input, &answer), |expected| answer == expected) {
+        return Ok(());
+    }
+    let numbers: Vec<i128> = faults.iter().map(|fault| fault.number).collect();
+    Err(Mismatch {
+        side: "order of refusals",
+        input: format!("{input} with faults {numbers:?}"),
+        found: format!("answer {:?}, by the order {expected:?}", answer.0),
+    })
 }
 
 pub fn check(harness: &mut Harness) -> Result<(), Mismatch> {
@@ -483,11 +556,22 @@ pub fn check(harness: &mut Harness) -> Result<(), Mismatch> {
     read_full(harness)?;
     read_mapped_patch(harness)?;
     read_mapped_full(harness)?;
+    of_sweeps(harness)?;
     of_decisions(harness)
+}
+
+/// Those of a sweep alone.
+pub fn of_sweeps(harness: &mut Harness) -> Result<(), Mismatch> {
+    sweep_without_places(harness)?;
+    sweep_places(harness)
 }
 
 /// Those of a decision alone, which are the most.
 pub fn of_decisions(harness: &mut Harness) -> Result<(), Mismatch> {
     carry_out(harness)?;
+    of_decisions_with_a_map(harness)
+}
+
+pub fn of_decisions_with_a_map(harness: &mut Harness) -> Result<(), Mismatch> {
     carry_out_mapped(harness)
 }

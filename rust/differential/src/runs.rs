@@ -28,13 +28,16 @@
 //! buffer of the run: the demands hold for its bytes too, and at the end it is the map that Build makes.
 //! Whether it was kept or built, each block reads by it as Read reads it.
 //!
+//! Every write here is told all its stores; runs with a write that is told fewer are those of `stops`. A
+//! sweep over what a run has left changes nothing.
+//!
 //! Every call of it is also compared with the independent implementation.
 
 use std::collections::BTreeMap;
 
 use crate::call::{
-    first_difference, Answer, Call, Input, Numbers, Outcome, FULL_HEADER, PAGE, PATCH_HEADER,
-    PAYLOAD, SLOT,
+    first_difference, Answer, Call, Input, Numbers, Outcome, Told, ALL, FULL_HEADER, PAGE,
+    PATCH_HEADER, PAYLOAD, SLOT,
 };
 use crate::generate::{self, Areas, Decision, STRANGE_KINDS, STRANGE_NUMBERS};
 use crate::harness::{Harness, Mismatch};
@@ -42,27 +45,29 @@ use crate::pair;
 use crate::rng::Rng;
 
 /// The fixed part of a run: sizes of the areas, and the base page of each block at the beginning.
-struct Ground {
-    n: usize,
+pub(crate) struct Ground {
+    pub(crate) n: usize,
     m: Option<usize>,
     bases: Vec<Vec<u8>>,
     /// Whether every decision and every cut is lent a map.
-    mapped: bool,
+    pub(crate) mapped: bool,
     /// How many of 100 operations are cuts.
-    cuts: usize,
+    pub(crate) cuts: usize,
     /// How many of 100 decisions are from elsewhere; 0 in a run decided by Compare.
-    elsewhere: usize,
+    pub(crate) elsewhere: usize,
 }
 
 /// What a run has led to.
-struct State {
-    patch: Vec<u8>,
-    full: Vec<u8>,
+#[derive(Clone)]
+pub(crate) struct State {
+    pub(crate) patch: Vec<u8>,
+    pub(crate) full: Vec<u8>,
     /// The map, if every decision and every cut is lent it.
-    map: Option<Vec<u8>>,
+    pub(crate) map: Option<Vec<u8>>,
     /// Each block's base page by now.
-    bases: Vec<Vec<u8>>,
-    /// Each block's last accepted decision that no later accepted cut covers.
+    pub(crate) bases: Vec<Vec<u8>>,
+    /// Each block's last accepted decision that no later accepted cut covers. One that was stopped is
+    /// among them if it counts, see `counts`.
     last: BTreeMap<usize, Decision>,
 }
 
@@ -78,7 +83,7 @@ fn demand(holds: bool, what: impl FnOnce() -> String) -> Result<(), Mismatch> {
     }
 }
 
-fn base_page(rng: &mut Rng) -> Vec<u8> {
+pub(crate) fn base_page(rng: &mut Rng) -> Vec<u8> {
     generate::page_of_base(&generate::base(rng))
 }
 
@@ -111,6 +116,10 @@ impl Ground {
     fn random(rng: &mut Rng) -> Ground {
         let n = rng.between(1, 12);
         let m = generate::pages(rng, n);
+        Ground::of(rng, n, m)
+    }
+
+    pub(crate) fn of(rng: &mut Rng, n: usize, m: Option<usize>) -> Ground {
         let bases = (0..n).map(|_| base_page(rng)).collect();
         // A run with many cuts has few decisions left at the end.
         let (mapped, cuts) = (rng.chance(50), rng.pick(&[0, 4, 12]));
@@ -127,7 +136,7 @@ impl Ground {
     }
 
     /// Fresh areas, made by Format over bytes of no meaning.
-    fn fresh(&self, harness: &mut Harness, rng: &mut Rng) -> Result<State, Mismatch> {
+    pub(crate) fn fresh(&self, harness: &mut Harness, rng: &mut Rng) -> Result<State, Mismatch> {
         let Areas { patch, full } = Areas::fresh(self.n, self.m);
         let input = Input::new(Call::Format, vec![rng.bytes(patch.len()), rng.bytes(full.len())]);
         let mut buffers = harness.check(&input)?.buffers.into_iter();
@@ -144,7 +153,7 @@ impl Ground {
 
 impl State {
     /// The block's base, a base of zeros in either form.
-    fn base(&self, rng: &mut Rng, block: usize) -> Vec<u8> {
+    pub(crate) fn base(&self, rng: &mut Rng, block: usize) -> Vec<u8> {
         let page = &self.bases[block];
         if rng.chance(50) && page.iter().all(|byte| *byte == 0) {
             Vec::new()
@@ -154,12 +163,12 @@ impl State {
     }
 
     /// The kind of the block by the dictionary.
-    fn kind(&self, block: usize) -> u32 {
+    pub(crate) fn kind(&self, block: usize) -> u32 {
         self.last.get(&block).map_or(0, |decision| decision.kind)
     }
 
     /// The page that the block reads as, by the dictionary.
-    fn standing(&self, block: usize) -> Vec<u8> {
+    pub(crate) fn standing(&self, block: usize) -> Vec<u8> {
         let mut page = self.bases[block].clone();
         match self.last.get(&block) {
             Some(Decision { kind: 1, payload, .. }) => {
@@ -173,7 +182,7 @@ impl State {
     }
 
     /// The areas and the map, written out from the dictionary.
-    fn written_out(&self, ground: &Ground) -> State {
+    pub(crate) fn written_out(&self, ground: &Ground) -> State {
         let Areas { mut patch, mut full } = Areas::fresh(ground.n, ground.m);
         let mut map = vec![0; ground.map_len()];
         for (block, Decision { kind, payload, page }) in &self.last {
@@ -191,17 +200,31 @@ impl State {
         State { patch, full, map, bases: self.bases.clone(), last: self.last.clone() }
     }
 
+    /// Whether a write that is told so many stores counts among the others once the areas are swept: not
+    /// if nothing was stored, and not if that is a page to which the slot does not refer.
+    pub(crate) fn counts(&self, block: u64, kind: u32, stores: u64) -> bool {
+        match Told::of(stores) {
+            Told::None => false,
+            Told::One => kind != 2 || self.kind(block as usize) == 2,
+            Told::All => true,
+        }
+    }
+
+    /// Whether the block has a place in the full area.
+    pub(crate) fn has_place(&self, block: u64) -> bool {
+        block < (self.full.len().saturating_sub(FULL_HEADER) / PAGE) as u64
+    }
+
     /// Whether a decision must be accepted.
     fn acceptable(&self, block: u64, decision: &Decision) -> bool {
         let n = self.bases.len();
-        let places = self.full.len().saturating_sub(FULL_HEADER) / PAGE;
         let room = self.map.as_ref().map_or(true, |map| 4 * map.len() >= n);
         let Decision { kind, payload, page } = decision;
         room && block < n as u64
             && match kind {
                 0 => true,
                 1 => entries_of(payload).is_some(),
-                2 => page.len() == PAGE && block < places as u64,
+                2 => page.len() == PAGE && self.has_place(block),
                 _ => false,
             }
     }
@@ -229,14 +252,16 @@ impl State {
         Ok(answer)
     }
 
-    fn carry_out(
+    /// Whatever is told of stores, the decision is accepted or refused and answered alike.
+    pub(crate) fn carry_out(
         &mut self,
         harness: &mut Harness,
         block: u64,
         decision: Decision,
+        stores: u64,
     ) -> Result<bool, Mismatch> {
         let acceptable = self.acceptable(block, &decision);
-        let numbers = Numbers { block, kind: decision.kind, ..Numbers::default() };
+        let numbers = Numbers { block, kind: decision.kind, stores, ..Numbers::default() };
         let others = vec![decision.payload.clone(), decision.page.clone()];
         let calls = [Call::CarryOut, Call::CarryOutMapped];
         let answer = self.lend(harness, calls, numbers, others)?;
@@ -245,10 +270,20 @@ impl State {
         demand(done == acceptable && done == (answer.number() == 0), || {
             format!("kind {} on block {block}: {:?}", decision.kind, answer.0)
         })?;
-        if done {
+        if done && self.counts(block, decision.kind, stores) {
             self.last.insert(block as usize, decision);
         }
         Ok(done)
+    }
+
+    /// A sweep, which must be accepted. The patch area stays.
+    pub(crate) fn sweep(&mut self, harness: &mut Harness) -> Result<(), Mismatch> {
+        let input = Input::new(Call::Sweep, vec![self.patch.clone(), self.full.clone()]);
+        let Outcome { answer, mut buffers } = harness.check(&input)?;
+        demand(answer == Answer::of(&[0]), || format!("sweep gives {:?}", answer.0))?;
+        demand(buffers[0] == self.patch, || "a sweep changed the patch area".to_string())?;
+        self.full = buffers.swap_remove(1);
+        Ok(())
     }
 
     /// A write by the pair. Where Compare is refused there is nothing to carry out.
@@ -260,12 +295,12 @@ impl State {
         page: &[u8],
     ) -> Result<bool, Mismatch> {
         match pair::decide(harness, base, page)? {
-            Some(decision) => self.carry_out(harness, block, decision),
+            Some(decision) => self.carry_out(harness, block, decision, ALL),
             None => Ok(false),
         }
     }
 
-    fn cut(&mut self, harness: &mut Harness, k: u64) -> Result<bool, Mismatch> {
+    pub(crate) fn cut(&mut self, harness: &mut Harness, k: u64) -> Result<bool, Mismatch> {
         let numbers = Numbers { block: k, ..Numbers::default() };
         let answer = self.lend(harness, [Call::Cut, Call::CutMapped], numbers, Vec::new())?;
         let accepted = answer.number() == 0;
@@ -309,7 +344,7 @@ impl State {
     }
 
     /// Reads a block by a map and by its slot; both must give the same.
-    fn read_by_map(
+    pub(crate) fn read_by_map(
         &self,
         harness: &mut Harness,
         map: &[u8],
@@ -326,7 +361,7 @@ impl State {
         })
     }
 
-    fn same_bytes(&self, other: &State) -> bool {
+    pub(crate) fn same_bytes(&self, other: &State) -> bool {
         self.patch == other.patch && self.full == other.full && self.map == other.map
     }
 
@@ -337,7 +372,7 @@ impl State {
         (&self.patch[slot..slot + SLOT], self.full.get(place..place + PAGE), pair)
     }
 
-    fn difference(&self, other: &State) -> String {
+    pub(crate) fn difference(&self, other: &State) -> String {
         let patch = first_difference(&self.patch, &other.patch);
         let full = first_difference(&self.full, &other.full);
         format!("patch {patch:?}, full {full:?}, maps {:02X?} {:02X?}", self.map, other.map)
@@ -390,7 +425,7 @@ impl Met {
 }
 
 /// The decision with a fault for which it is refused on every block.
-fn spoiled(rng: &mut Rng, decision: Decision) -> Decision {
+pub(crate) fn spoiled(rng: &mut Rng, decision: Decision) -> Decision {
     let Decision { mut payload, .. } = decision.clone();
     match rng.below(3) {
         0 => Decision { kind: rng.pick(&STRANGE_KINDS), ..decision },
@@ -437,7 +472,7 @@ fn random_write(
         }
         4 => {
             if let Some(decision) = pair::decide(harness, &base, &page)? {
-                state.carry_out(harness, at, spoiled(rng, decision))?;
+                state.carry_out(harness, at, spoiled(rng, decision), ALL)?;
                 met.spoiled += 1;
             }
         }
@@ -459,7 +494,7 @@ fn random_decision(
     met: &mut Met,
 ) -> Result<(), Mismatch> {
     let block = rng.below(ground.n) as u64;
-    let accepted = state.carry_out(harness, block, generate::decision_from_elsewhere(rng))?;
+    let accepted = state.carry_out(harness, block, generate::decision_from_elsewhere(rng), ALL)?;
     met.from_elsewhere += u64::from(accepted);
     Ok(())
 }
@@ -531,7 +566,7 @@ fn last_decisions_alone(
     let mut order: Vec<(&usize, &Decision)> = run.last.iter().collect();
     rng.shuffle(&mut order);
     for (block, decision) in order {
-        let accepted = state.carry_out(harness, *block as u64, decision.clone())?;
+        let accepted = state.carry_out(harness, *block as u64, decision.clone(), ALL)?;
         demand(accepted, || format!("the last accepted decision on block {block} is refused"))?;
     }
     Ok(state)
@@ -604,6 +639,15 @@ fn check_map(
     }
     let tally = harness.check(&Input::new(Call::Tally, vec![map]).told(n))?.answer.0;
     demand(tally[..3] == [0, counted[2], counted[1]], || format!("tally {tally:?}"))
+}
+
+/// Build accepts the areas, so that a sweep finds nothing.
+fn check_sweep(harness: &mut Harness, state: &State) -> Result<(), Mismatch> {
+    let mut swept = state.clone();
+    swept.sweep(harness)?;
+    demand(state.same_bytes(&swept), || {
+        format!("a sweep after whole writes: {}", state.difference(&swept))
+    })
 }
 
 /// One more than the highest block whose decision is not EMPTY, or 0. In a run decided by Compare those are
@@ -705,6 +749,7 @@ pub fn run(
     check_bytes(&ground, &state)?;
     check_map(harness, rng, &ground, &state)?;
     check_highest(harness, &ground, &state)?;
+    check_sweep(harness, &state)?;
     let alone = last_decisions_alone(harness, rng, &ground, &state)?;
     demand(state.same_bytes(&alone), || {
         format!("the decisions that stand alone leave other bytes: {}", state.difference(&alone))

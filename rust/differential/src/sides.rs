@@ -1,8 +1,8 @@
 //! The three sides that are compared: the C interface, the safe wrapper, and the independent
 //! implementation. Each makes the same call and gives its answer as plain numbers.
 
-use crate::call::{Answer, Call, Numbers, BEGINNING, PAYLOAD};
-use thonxiliko::{BuildRefusal, Decision, Ending, Kind, PayloadRefusal, Refusal, Written};
+use crate::call::{Answer, Call, Numbers, Told, BEGINNING, PAYLOAD};
+use thonxiliko::{BuildRefusal, Decision, Ending, Kind, PayloadRefusal, Refusal, Stores, Written};
 use thonxiliko_sys as sys;
 
 /// A buffer as C lends it.
@@ -30,11 +30,16 @@ macro_rules! members {
     }};
 }
 
-/// A call over the C interface: buffers, then numbers, then buffers. Each buffer goes as its address
-/// and its length.
+/// A call over the C interface: buffers, then numbers, then buffers, and for decisions a number again.
+/// Each buffer goes as its address and its length.
 macro_rules! c {
     ($call:ident: $($first:ident)*; $($number:ident)*; $($then:ident)*) => {
-        sys::$call($($first.start, $first.length,)* $($number,)* $($then.start, $then.length),*)
+        c!($call: $($first)*; $($number)*; $($then)*;)
+    };
+    ($call:ident: $($first:ident)*; $($number:ident)*; $($then:ident)*; $($last:ident)*) => {
+        sys::$call(
+            $($first.start, $first.length,)* $($number,)* $($then.start, $then.length,)* $($last),*
+        )
     };
 }
 
@@ -43,7 +48,7 @@ macro_rules! c {
 /// # Safety
 /// Each buffer of at least one byte is readable and writable, and no two overlap.
 pub unsafe fn library(call: Call, lent: &[Lent], told: &Numbers) -> Answer {
-    let Numbers { n, block, kind, at, position } = *told;
+    let Numbers { n, block, kind, stores, at, position } = *told;
     match (call, lent) {
         (Call::Format, &[patch, full]) => members!(c!(thx_format: patch full;;), number),
         (Call::Compare, &[base, page, payload]) => {
@@ -59,7 +64,7 @@ pub unsafe fn library(call: Call, lent: &[Lent], told: &Numbers) -> Answer {
             members!(c!(thx_read: patch full; block; base page), number, kind, offset)
         }
         (Call::CarryOut, &[patch, full, payload, page]) => {
-            let a = c!(thx_carry_out: patch full; block kind; payload page);
+            let a = c!(thx_carry_out: patch full; block kind; payload page; stores);
             members!(a, number, kind, length)
         }
         (Call::Build, &[patch, full, map]) => {
@@ -71,7 +76,7 @@ pub unsafe fn library(call: Call, lent: &[Lent], told: &Numbers) -> Answer {
             members!(c!(thx_next: payload; at position;), number, found, at, position, value)
         }
         (Call::CarryOutMapped, &[patch, full, map, payload, page]) => {
-            let a = c!(thx_carry_out_mapped: patch full map; block kind; payload page);
+            let a = c!(thx_carry_out_mapped: patch full map; block kind; payload page; stores);
             members!(a, number, kind, length)
         }
         (Call::ReadMapped, &[patch, full, map, base, page]) => {
@@ -83,13 +88,14 @@ pub unsafe fn library(call: Call, lent: &[Lent], told: &Numbers) -> Answer {
             members!(c!(thx_cut_mapped: patch full map; block;), number)
         }
         (Call::Highest, &[patch]) => members!(c!(thx_highest: patch;;), number, blocks),
+        (Call::Sweep, &[patch, full]) => members!(c!(thx_sweep: patch full;;), number),
         _ => unreachable!("buffers of {}", call.name()),
     }
 }
 
 /// Makes the call on the independent implementation.
 pub fn independent(call: Call, buffers: &mut [&mut [u8]], told: &Numbers) -> Option<Answer> {
-    let Numbers { n, block, kind, at, position } = *told;
+    let Numbers { n, block, kind, stores, at, position } = *told;
     Some(match (call, buffers) {
         (Call::Format, [patch, full]) => members!(independent::format(patch, full), number),
         (Call::Compare, [base, page, payload]) => {
@@ -105,7 +111,7 @@ pub fn independent(call: Call, buffers: &mut [&mut [u8]], told: &Numbers) -> Opt
             members!(independent::read(patch, full, block, base, page), number, kind, offset)
         }
         (Call::CarryOut, [patch, full, payload, page]) => {
-            let a = independent::carry_out(patch, full, block, kind, payload, page);
+            let a = independent::carry_out(patch, full, block, kind, payload, page, stores);
             members!(a, number, kind, length)
         }
         (Call::Build, [patch, full, map]) => {
@@ -118,8 +124,12 @@ pub fn independent(call: Call, buffers: &mut [&mut [u8]], told: &Numbers) -> Opt
             members!(a, number, found, at, position, value)
         }
         (Call::CarryOutMapped, [patch, full, map, payload, page]) => {
-            let a = independent::carry_out_mapped(patch, full, map, block, kind, payload, page);
-            members!(a, number, kind, length)
+            members!(
+                independent::carry_out_mapped(patch, full, map, block, kind, payload, page, stores),
+                number,
+                kind,
+                length
+            )
         }
         (Call::ReadMapped, [patch, full, map, base, page]) => {
             let a = independent::read_mapped(patch, full, map, block, base, page);
@@ -130,6 +140,7 @@ pub fn independent(call: Call, buffers: &mut [&mut [u8]], told: &Numbers) -> Opt
             members!(independent::cut_mapped(patch, full, map, block), number)
         }
         (Call::Highest, [patch]) => members!(independent::highest(patch), number, blocks),
+        (Call::Sweep, [patch, full]) => members!(independent::sweep(patch, full), number),
         _ => unreachable!("buffers of {}", call.name()),
     })
 }
@@ -200,6 +211,15 @@ fn base_deciding(kind: u32, payload: &[u8], page: &[u8]) -> Option<Vec<u8>> {
     decides.then_some(base)
 }
 
+/// The wrapper has three numbers of stores, and none of those that C takes for all of them but one.
+fn stores(told: &Numbers) -> Stores {
+    match Told::of(told.stores) {
+        Told::None => Stores::None,
+        Told::One => Stores::One,
+        Told::All => Stores::All,
+    }
+}
+
 /// What the wrapper says of a decision that it carried out.
 fn written(a: Written) -> Answer {
     answer([0, a.kind.number().into(), a.length as i128])
@@ -233,7 +253,7 @@ fn step(payload: &[u8], stands: (u64, i32)) -> Option<Answer> {
 
 /// Makes the call through the safe wrapper.
 pub fn wrapper(call: Call, buffers: &mut [&mut [u8]], told: &Numbers) -> Option<Answer> {
-    let Numbers { n, block, kind, at, position } = *told;
+    let Numbers { n, block, kind, at, position, .. } = *told;
     let result = match (call, buffers) {
         (Call::Format, [patch, full]) => thonxiliko::format(patch, full).map(|()| answer([0])),
         (Call::Compare, [base, page, payload]) => {
@@ -262,7 +282,7 @@ pub fn wrapper(call: Call, buffers: &mut [&mut [u8]], told: &Numbers) -> Option<
             let base = base_deciding(kind, payload, page)?;
             let mut buffer = [UNUSED; PAYLOAD];
             thonxiliko::compare(&base, page, &mut buffer)
-                .and_then(|decision| thonxiliko::carry_out(patch, full, block, &decision))
+                .and_then(|made| thonxiliko::carry_out(patch, full, block, &made, stores(told)))
                 .map(written)
         }
         (Call::Build, [patch, full, map]) => Ok(match thonxiliko::build(patch, full, map) {
@@ -283,7 +303,9 @@ pub fn wrapper(call: Call, buffers: &mut [&mut [u8]], told: &Numbers) -> Option<
             let base = base_deciding(kind, payload, page)?;
             let mut buffer = [UNUSED; PAYLOAD];
             thonxiliko::compare(&base, page, &mut buffer)
-                .and_then(|made| thonxiliko::carry_out_mapped(patch, full, map, block, &made))
+                .and_then(|made| {
+                    thonxiliko::carry_out_mapped(patch, full, map, block, &made, stores(told))
+                })
                 .map(written)
         }
         (Call::ReadMapped, [patch, full, map, base, page]) => {
@@ -296,6 +318,7 @@ pub fn wrapper(call: Call, buffers: &mut [&mut [u8]], told: &Numbers) -> Option<
         (Call::Highest, [patch]) => {
             thonxiliko::highest(patch).map(|blocks| answer([0, blocks.into()]))
         }
+        (Call::Sweep, [patch, full]) => thonxiliko::sweep(patch, full).map(|()| answer([0])),
         _ => unreachable!("buffers of {}", call.name()),
     };
     Some(result.unwrap_or_else(refused))

@@ -2,14 +2,19 @@
 //! that the library passes, and the demand on runs notices programs that both sides agree about.
 
 use differential::call::{
-    Answer, Call, Input, Outcome, FULL_HEADER, MAX_BLOCKS, PAGE, PATCH_HEADER, PAYLOAD, SLOT,
+    Answer, Call, Input, Outcome, Told, FULL_HEADER, MAX_BLOCKS, PAGE, PATCH_HEADER, PAYLOAD, SLOT,
 };
 use differential::generate;
 use differential::harness::{independent_outcome, Counts, Harness, Mismatch, Side};
 use differential::maps::{self, Elsewhere};
 use differential::rng::Rng;
 use differential::runs::{self, Met};
-use differential::{cases, cuts, orders, payloads, sweep};
+use differential::{cases, cuts, extremes, orders, payloads};
+
+#[path = "can_fail/stops.rs"]
+mod stops;
+#[path = "can_fail/sweeps.rs"]
+mod sweeps;
 
 const SEED: u64 = 1;
 const MOST_CASES: u64 = 60_000;
@@ -18,19 +23,31 @@ fn random_input(case: u64) -> Input {
     generate::any_input(&mut Rng::for_case(SEED, "random", case))
 }
 
-/// The first mismatch that random inputs find between the library and a program.
-fn first_mismatch(expected: Side) -> Option<Mismatch> {
+/// The first mismatch that random inputs find between the library and a program. Only inputs of these calls
+/// are looked at: in all others the program is the independent implementation itself.
+fn first_mismatch(expected: Side, calls: &[Call]) -> Option<Mismatch> {
     let mut harness = Harness::new();
     harness.expected = expected;
     (0..MOST_CASES).find_map(|case| {
+        let input = random_input(case);
+        if !calls.contains(&input.call) {
+            return None;
+        }
         harness.start_case(case);
-        harness.check(&random_input(case)).err()
+        harness.check(&input).err()
     })
 }
 
 fn must_find(name: &str, wrong: Side) {
-    assert!(first_mismatch(wrong).is_some(), "{name} was not noticed");
+    must_find_in(&Call::ALL, name, wrong);
 }
+
+fn must_find_in(calls: &[Call], name: &str, wrong: Side) {
+    assert!(first_mismatch(wrong, calls).is_some(), "{name} was not noticed");
+}
+
+/// The calls that carry out a decision.
+const DECISIONS: [Call; 2] = [Call::CarryOut, Call::CarryOutMapped];
 
 // Programs that differ from the independent implementation in one thing.
 
@@ -128,7 +145,7 @@ fn unused_pairs_ignored(input: &Input) -> Outcome {
 /// The bits of some bytes: those of pairs 2 and 3, those of pairs 1 and 3, and the pairs that are 3.
 fn bits_of(bytes: &[u8]) -> [u64; 3] {
     let all = |bits: fn(u8) -> u8| bytes.iter().map(|b| bits(*b).count_ones() as u64).sum();
-    [all(|b| b / 2 & 0x55), all(|b| b & 0x55), all(|b| b / 2 & b & 0x55)]
+    [all(|b| (b / 2) & 0x55), all(|b| b & 0x55), all(|b| (b / 2) & b & 0x55)]
 }
 
 /// A Tally that does as it should up to the pairs. `count` takes the map's bytes and those after them.
@@ -218,14 +235,10 @@ const WRONG_TALLIES: [(&str, Side); 7] = [
 
 // The shortcuts that give a wrong page.
 
-fn carries_out(input: &Input) -> bool {
-    matches!(input.call, Call::CarryOut | Call::CarryOutMapped)
-}
-
 /// Alters what comes of a decision, with a map or without.
 fn altered_decision(input: &Input, alter: impl FnOnce(&mut Outcome)) -> Outcome {
     let mut outcome = independent_outcome(input);
-    if carries_out(input) {
+    if input.call.carries_out() {
         alter(&mut outcome);
     }
     outcome
@@ -1019,10 +1032,11 @@ fn takes_any_in<const CALL: usize>(input: &Input) -> Outcome {
 
 // Maps that are kept wrongly, and reads that go by something else.
 
-/// Alters what comes of a decision with a map that is accepted; gives the byte and the bits of its pair.
+/// Alters what comes of a whole write with a map that is accepted; gives the byte and the bits of its pair.
 fn altered_map(input: &Input, alter: impl FnOnce(&mut Outcome, usize, u32)) -> Outcome {
     altered(input, Call::CarryOutMapped, |outcome| {
-        if outcome.answer.number() == 0 {
+        let is_whole = Told::of(input.numbers.stores) == Told::All;
+        if outcome.answer.number() == 0 && is_whole {
             let block = input.numbers.block;
             alter(outcome, (block / 4) as usize, 2 * (block % 4) as u32);
         }
@@ -1540,22 +1554,27 @@ fn highest_looks_at_payloads(input: &Input) -> Outcome {
 #[test]
 fn a_number_that_is_never_given_is_noticed() {
     let (mut all, mut some) = (Counts::default(), Counts::default());
-    for input in (0..MOST_CASES).map(random_input) {
+    for input in (0..MOST_CASES / 2).map(random_input) {
         let answer = independent_outcome(&input).answer;
-        all.add(input.call, &answer);
-        if (input.call, answer.number()) != (Call::LookUp, 11) {
-            some.add(input.call, &answer);
+        all.add(input.call, &input.numbers, &answer);
+        let told_1 = input.call == Call::CarryOut && Told::of(input.numbers.stores) == Told::One;
+        let of_look_up = (input.call, answer.number()) == (Call::LookUp, 11);
+        let left_out = of_look_up || (told_1 && answer.number() == 8);
+        if !left_out {
+            some.add(input.call, &input.numbers, &answer);
         }
     }
     assert_eq!(all.unseen(), []);
-    assert_eq!(some.unseen(), [(Call::LookUp, 11)]);
+    // A decision must meet it also where it is told 1.
+    let missed = [(Call::CarryOut, Told::One, 8), (Call::LookUp, Told::All, 11)];
+    assert_eq!(some.unseen(), missed);
 }
 
 /// The right program passes, and so does an Apply like the wrong ones but without their fault.
 #[test]
 fn the_right_programs_pass() {
-    assert!(first_mismatch(independent_outcome).is_none());
-    assert!(first_mismatch(applies_rightly).is_none());
+    assert!(first_mismatch(independent_outcome, &Call::ALL).is_none());
+    assert!(first_mismatch(applies_rightly, &[Call::Apply]).is_none());
 }
 
 /// So does a program with a rule of its own about long jumps, if that is the right one, and a Tally by bits
@@ -1589,7 +1608,7 @@ fn small_mistakes_are_found() {
 #[test]
 fn wrong_tallies_are_found() {
     for (name, wrong) in WRONG_TALLIES {
-        must_find(name, wrong);
+        must_find_in(&[Call::Tally], name, wrong);
     }
 }
 
@@ -1603,7 +1622,7 @@ fn shortcuts_are_found() {
 /// The other shortcuts among them.
 #[test]
 fn wrong_decisions_are_found() {
-    WRONG_DECISIONS.iter().for_each(|(name, wrong)| must_find(name, *wrong));
+    WRONG_DECISIONS.iter().for_each(|(name, wrong)| must_find_in(&DECISIONS, name, *wrong));
 }
 
 const WRONG_OFFSETS: [(&str, Side); 8] = [
@@ -1707,9 +1726,24 @@ const WRONG_LONG_JUMPS: [(&str, Side); 14] = [
     ("any jump in carrying out with a map", takes_any_in::<{ Call::CarryOutMapped as usize }>),
 ];
 
+/// The calls that look at entries, in the order of the programs that are wrong in one of them alone.
+const READS_ENTRIES: [Call; 7] = [
+    Call::Apply,
+    Call::Next,
+    Call::Read,
+    Call::ReadMapped,
+    Call::Build,
+    Call::CarryOut,
+    Call::CarryOutMapped,
+];
+
 #[test]
 fn wrong_long_jumps_are_found() {
-    WRONG_LONG_JUMPS.iter().for_each(|(name, wrong)| must_find(name, *wrong));
+    let (in_all, in_one) = WRONG_LONG_JUMPS.split_at(7);
+    in_all.iter().for_each(|(name, wrong)| must_find_in(&READS_ENTRIES, name, *wrong));
+    for ((name, wrong), call) in in_one.iter().zip(READS_ENTRIES) {
+        must_find_in(&[call], name, *wrong);
+    }
 }
 
 /// Each of them contradicts a case that is written by hand; so does each wrong cut, each wrong highest
@@ -1765,22 +1799,26 @@ fn wrong_offsets_are_found() {
 
 #[test]
 fn wrong_maps_are_found() {
-    WRONG_MAPS.iter().for_each(|(name, wrong)| must_find(name, *wrong));
+    let calls = [Call::CarryOutMapped];
+    WRONG_MAPS.iter().for_each(|(name, wrong)| must_find_in(&calls, name, *wrong));
 }
 
 #[test]
 fn wrong_reads_by_a_map_are_found() {
-    WRONG_READS_BY_MAP.iter().for_each(|(name, wrong)| must_find(name, *wrong));
+    let calls = [Call::ReadMapped];
+    WRONG_READS_BY_MAP.iter().for_each(|(name, wrong)| must_find_in(&calls, name, *wrong));
 }
 
 #[test]
 fn wrong_cuts_are_found() {
-    WRONG_CUTS.iter().for_each(|(name, wrong)| must_find(name, *wrong));
+    let calls = [Call::Cut, Call::CutMapped];
+    WRONG_CUTS.iter().for_each(|(name, wrong)| must_find_in(&calls, name, *wrong));
 }
 
 #[test]
 fn wrong_highest_blocks_are_found() {
-    WRONG_HIGHEST.iter().for_each(|(name, wrong)| must_find(name, *wrong));
+    let calls = [Call::Highest];
+    WRONG_HIGHEST.iter().for_each(|(name, wrong)| must_find_in(&calls, name, *wrong));
 }
 
 /// The same wrong program on both sides, through every cut and every row of slots: only what is written
@@ -1834,7 +1872,7 @@ fn elsewhere_notices(wrong: Side) -> bool {
     let mut harness = Harness::new();
     harness.expected = wrong;
     harness.in_place_of_library = Some(wrong);
-    (0..60).any(|case| {
+    (0..150).any(|case| {
         let mut rng = Rng::for_case(SEED, "maps", case);
         maps::from_elsewhere(&mut harness, &mut rng, &mut Elsewhere::default()).is_err()
     })
@@ -1874,7 +1912,7 @@ fn stores_from_elsewhere_notice_wrong_maps() {
 
 #[test]
 fn wrong_readers_are_found() {
-    WRONG_READERS.iter().for_each(|(name, wrong)| must_find(name, *wrong));
+    WRONG_READERS.iter().for_each(|(name, wrong)| must_find_in(&[Call::Next], name, *wrong));
 }
 
 /// Short and longer payloads with a program in the place of both sides, or of one. The side that
@@ -2023,7 +2061,7 @@ fn wrong_kinds_are_noticed_by_numbers() {
         let mut harness = Harness::new();
         harness.expected = wrong;
         harness.in_place_of_library = Some(wrong);
-        sweep::numbers(&mut harness).err().map(|mismatch| mismatch.side)
+        extremes::numbers(&mut harness).err().map(|mismatch| mismatch.side)
     };
     assert_eq!(notices(independent_outcome), None);
     for wrong in [
@@ -2042,20 +2080,20 @@ fn wrong_kinds_are_noticed_by_numbers() {
 }
 
 /// The wrapper has no decision but Compare's. Random inputs have enough of those: it gives every number
-/// that it can give.
+/// that it can give, whatever is told of stores.
 #[test]
 fn the_wrapper_carries_out_decisions() {
     let mut harness = Harness::new();
     for case in 0..MOST_CASES / 4 {
         let input = random_input(case);
-        if carries_out(&input) {
+        if input.call.carries_out() {
             harness.start_case(case);
             harness.check(&input).expect("all sides agree");
         }
     }
     assert_eq!(harness.counts.unseen_by_wrapper(), []);
     // Without them that would be noticed.
-    assert_eq!(Counts::default().unseen_by_wrapper().len(), 13);
+    assert_eq!(Counts::default().unseen_by_wrapper().len(), 3 * 13);
 }
 
 /// A program on both sides that changes a byte and refuses: only the rule of answers can notice.

@@ -1,5 +1,5 @@
 //! Areas in sparse files that are mapped into memory. A place that is zero already is not written to, so
-//! that Format, small changes and cuts leave the holes of the files as they are.
+//! that Format, small changes, cuts and sweeps leave the holes of the files as they are.
 //!
 //! Holes are made by whoever makes the file. The library sees bytes and no files: it fills holes only
 //! where it has something to store, and it never punches one. A place that is cleared is zeros on disk.
@@ -12,7 +12,8 @@ use std::path::{Path, PathBuf};
 use differential::arena::Mapping;
 use thonxiliko::{
     build, carry_out, compare, cut, cut_mapped, format, full_area_len, highest, map_len,
-    patch_area_len, read, Kind, FULL_HEADER_SIZE, PAGE_SIZE, PATCH_HEADER_SIZE, PAYLOAD_SIZE,
+    patch_area_len, read, sweep, Kind, Stores, FULL_HEADER_SIZE, PAGE_SIZE, PATCH_HEADER_SIZE,
+    PAYLOAD_SIZE,
 };
 
 /// n and m: 4 MiB of slots and 64 MiB of places.
@@ -104,10 +105,19 @@ impl Areas {
 
     /// Writes a page over a base of zeros: Compare decides, and that is carried out.
     fn write(&mut self, block: u64, page: &[u8]) -> Kind {
+        self.write_told(Stores::All, block, page)
+    }
+
+    /// The same, told so many stores.
+    fn write_told(&mut self, stores: Stores, block: u64, page: &[u8]) -> Kind {
         let mut payload = [0; PAYLOAD_SIZE];
         let decision = compare(&[], page, &mut payload).expect("a sound page");
-        let written = carry_out(self.patch.bytes(), self.full.bytes(), block, &decision);
-        written.expect("a sound store").kind
+        let (patch, full) = (self.patch.bytes(), self.full.bytes());
+        carry_out(patch, full, block, &decision, stores).expect("a sound store").kind
+    }
+
+    fn sweep(&mut self) {
+        sweep(self.patch.bytes(), self.full.bytes()).expect("a sound store");
     }
 
     fn cut(&mut self, k: u64) {
@@ -275,4 +285,51 @@ fn a_cut_clears_used_places_and_leaves_holes() {
     assert!(areas.patch.bytes()[patch_area_len(1)..].iter().all(|byte| *byte == 0));
     hold_few("the full area after the cut", areas.full.taken());
     hold_few("the patch area after the cut", areas.patch.taken());
+}
+
+/// A sweep of areas that hold nothing, or pages in use alone, fills no hole.
+#[test]
+fn a_sweep_of_holes_takes_no_room() {
+    let mut areas = match Areas::with_headers("sweep-holes") {
+        Some(areas) => areas,
+        None => return,
+    };
+    let before = areas.taken();
+    areas.sweep();
+    assert_eq!(areas.taken(), before, "bytes on disk before and after the sweep");
+    for block in [0, BLOCKS - 1] {
+        assert_eq!(areas.write(block, &[9; PAGE_SIZE]), Kind::Full);
+    }
+    let before = areas.taken();
+    areas.sweep();
+    assert_eq!(areas.read(BLOCKS - 1), [9; PAGE_SIZE]);
+    assert_eq!(areas.taken(), before, "bytes on disk before and after the second sweep");
+}
+
+/// A sweep clears the pages that stops have left, wherever they are, and fills no hole but what shares a
+/// few blocks with them. The pages in use stay.
+#[test]
+fn a_sweep_clears_stray_pages_and_leaves_holes() {
+    let mut areas = match Areas::with_headers("sweep-used") {
+        Some(areas) => areas,
+        None => return,
+    };
+    for block in [0, BLOCKS / 2, BLOCKS - 1] {
+        assert_eq!(areas.write(block, &[9; PAGE_SIZE]), Kind::Full);
+    }
+    // One page loses its reference, another has none yet.
+    assert_eq!(areas.write_told(Stores::One, BLOCKS / 2, &one_byte(1)), Kind::Patch);
+    assert_eq!(areas.write_told(Stores::One, BLOCKS / 4, &[8; PAGE_SIZE]), Kind::Full);
+    let place = |block: u64| full_area_len(block)..full_area_len(block + 1);
+    assert_eq!(areas.full.bytes()[place(BLOCKS / 4)], [8; PAGE_SIZE]);
+    areas.sweep();
+    areas.build();
+    for block in [BLOCKS / 4, BLOCKS / 2] {
+        assert_eq!(areas.full.bytes()[place(block)], [0; PAGE_SIZE], "block {block}");
+    }
+    for block in [0, BLOCKS - 1] {
+        assert_eq!(areas.read(block), [9; PAGE_SIZE], "block {block}");
+    }
+    hold_few("the full area after the sweep", areas.full.taken());
+    hold_few("the patch area after the sweep", areas.patch.taken());
 }

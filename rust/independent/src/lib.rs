@@ -30,6 +30,9 @@ const EMPTY: u32 = 0;
 const PATCH: u32 = 1;
 const FULL_REF: u32 = 2;
 
+/// A number of stores to be told where all are wanted; any other but 0 and 1 would do.
+pub const ALL: u64 = u64::MAX;
+
 #[derive(Clone, Copy, Debug, Default, PartialEq, Eq)]
 pub struct Done {
     pub number: u32,
@@ -561,6 +564,55 @@ fn judge_decision(
     }
 }
 
+/// What a write is made of. No store is itself cut.
+#[derive(Clone, Copy)]
+enum Store {
+    /// The slot, all of it.
+    Slot,
+    /// The block's place in the full area: the page for FULL_REF, else zeros.
+    Place,
+}
+
+/// The stores of a write in their order: the page is there before a slot refers to it, and it goes only
+/// when none does any more. A block not below m has a slot alone.
+fn stores_in_order(kind: u32, has_place: bool) -> &'static [Store] {
+    match kind {
+        FULL_REF => &[Store::Place, Store::Slot],
+        _ if has_place => &[Store::Slot, Store::Place],
+        _ => &[Store::Slot],
+    }
+}
+
+/// Whether a number of stores is told that means all of them. 1 never does, not even where one is all
+/// that there is.
+fn is_told_all(stores: u64) -> bool {
+    !matches!(stores, 0 | 1)
+}
+
+/// Makes one store of a write. Nothing of the old block is looked at.
+fn make(
+    store: Store,
+    [patch, full]: [&mut [u8]; 2],
+    block: u64,
+    kind: u32,
+    [payload, page]: [&[u8]; 2],
+) {
+    match store {
+        Store::Slot => {
+            let start = slot_start(block);
+            patch[start..start + SLOT].copy_from_slice(&slot_with(kind, payload));
+        }
+        Store::Place => {
+            let start = place_start(block);
+            let place = &mut full[start..start + PAGE];
+            match kind {
+                FULL_REF => place.copy_from_slice(page),
+                _ => place.fill(0),
+            }
+        }
+    }
+}
+
 pub fn carry_out(
     patch: &mut [u8],
     full: &mut [u8],
@@ -568,22 +620,18 @@ pub fn carry_out(
     kind: u32,
     payload: &[u8],
     page: &[u8],
+    stores: u64,
 ) -> Written {
     let m = match judge_decision([patch, full], block, kind, [payload, page]) {
         Err(number) => return Written { number, kind: 0, length: 0 },
         Ok(m) => m,
     };
-    // Nothing of the old block is looked at.
-    let start = slot_start(block);
-    patch[start..start + SLOT].copy_from_slice(&slot_with(kind, payload));
-    if block < m {
-        let start = place_start(block);
-        let place = &mut full[start..start + PAGE];
-        match kind {
-            FULL_REF => place.copy_from_slice(page),
-            _ => place.fill(0),
-        }
+    let in_order = stores_in_order(kind, block < m);
+    let made = if is_told_all(stores) { in_order.len() } else { stores as usize };
+    for store in &in_order[..made] {
+        make(*store, [&mut *patch, &mut *full], block, kind, [payload, page]);
     }
+    // The same whatever was told.
     let length = if kind == PATCH { payload.len() as u32 } else { 0 };
     Written { number: DONE, kind, length }
 }
@@ -633,6 +681,7 @@ fn put_pair(map: &mut [u8], block: u64, pair: u8) {
     *byte = pairs[0] + 4 * pairs[1] + 16 * pairs[2] + 64 * pairs[3];
 }
 
+#[allow(clippy::too_many_arguments)] // those of the C interface
 pub fn carry_out_mapped(
     patch: &mut [u8],
     full: &mut [u8],
@@ -641,6 +690,7 @@ pub fn carry_out_mapped(
     kind: u32,
     payload: &[u8],
     page: &[u8],
+    stores: u64,
 ) -> Written {
     let refused = |number| Written { number, kind: 0, length: 0 };
     // What comes before the map's length; all else comes after it.
@@ -652,8 +702,8 @@ pub fn carry_out_mapped(
         Some((n, _)) if (map.len() as u64) < map_length(n) => return refused(SHORT_BUFFER),
         Some(_) => {}
     }
-    let written = carry_out(patch, full, block, kind, payload, page);
-    if written.number == DONE {
+    let written = carry_out(patch, full, block, kind, payload, page, stores);
+    if written.number == DONE && is_told_all(stores) {
         put_pair(map, block, pair_of_kind(kind));
     }
     written
@@ -857,4 +907,48 @@ pub fn highest(patch: &[u8]) -> Extent {
         }
     }
     Extent { number: DONE, blocks }
+}
+
+// ---------------------------------------------------------------------------------------------
+// After a stop
+// ---------------------------------------------------------------------------------------------
+
+/// Whether a block's place is to be cleared, or the block's fault. Payloads and places are not looked at.
+fn is_swept(patch: &[u8], m: u64, block: u64) -> Result<bool, u32> {
+    match sound_slot(slot_of(patch, block)) {
+        None => Err(BAD_SLOT),
+        Some((FULL_REF, _)) if block < m => Ok(false),
+        Some((FULL_REF, _)) => Err(NO_FULL_PAGE),
+        Some(_) => Ok(block < m),
+    }
+}
+
+/// The blocks whose places are to be cleared, or the fault of the lowest block that has one.
+fn blocks_to_sweep(patch: &[u8], full: &[u8]) -> Result<Vec<u64>, u32> {
+    let (n, m) = sizes_of(patch, full).ok_or(BAD_AREA_LENGTH)?;
+    judge_headers(patch, full)?;
+    let mut swept = Vec::new();
+    // All of them, also where there is no place.
+    for block in 0..n {
+        if is_swept(patch, m, block)? {
+            swept.push(block);
+        }
+    }
+    Ok(swept)
+}
+
+pub fn sweep(patch: &[u8], full: &mut [u8]) -> Done {
+    let swept = match blocks_to_sweep(patch, full) {
+        Err(number) => return Done { number },
+        Ok(swept) => swept,
+    };
+    for block in swept {
+        let start = place_start(block);
+        let place = &mut full[start..start + PAGE];
+        // Zeros are not written over: a sparse area keeps its holes.
+        if !all_zero(place) {
+            place.fill(0);
+        }
+    }
+    Done { number: DONE }
 }

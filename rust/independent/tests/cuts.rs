@@ -1,7 +1,9 @@
 //! What a cut leaves, and which block is the highest, worked by hand from the rules. Nothing is linked
 //! for these.
 
-use independent::{build, carry_out_mapped, cut, cut_mapped, format, highest, read, Done, Extent};
+use independent::{
+    build, carry_out_mapped, cut, cut_mapped, format, highest, read, Done, Extent, ALL,
+};
 
 const PAGE: usize = 8192;
 
@@ -34,7 +36,7 @@ impl Store {
 
     fn carry_out(&mut self, block: u64, (kind, payload, page): Decision) {
         let Store { patch, full, map } = self;
-        let written = carry_out_mapped(patch, full, map, block, kind, payload, page);
+        let written = carry_out_mapped(patch, full, map, block, kind, payload, page, ALL);
         assert_eq!(written.number, 0, "block {block}");
     }
 

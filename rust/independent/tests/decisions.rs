@@ -1,7 +1,7 @@
 //! What becomes of a block when a decision is carried out, worked by hand from the rules. Nothing is
 //! linked for these.
 
-use independent::{apply, build, carry_out, compare, format, read, Written};
+use independent::{apply, build, carry_out, compare, format, read, Written, ALL};
 
 const PAGE: usize = 8192;
 
@@ -29,7 +29,7 @@ impl Store {
 
     fn carry_out(&mut self, block: u64, kind: u32, payload: &[u8], page: &[u8]) -> [u32; 3] {
         let Written { number, kind, length } =
-            carry_out(&mut self.patch, &mut self.full, block, kind, payload, page);
+            carry_out(&mut self.patch, &mut self.full, block, kind, payload, page, ALL);
         [number, kind, length]
     }
 

@@ -2,7 +2,7 @@
 //! linked for these.
 
 use independent::{
-    build, carry_out, carry_out_mapped, format, read, read_mapped, Reading, Written,
+    build, carry_out, carry_out_mapped, format, read, read_mapped, Reading, Written, ALL,
 };
 
 const PAGE: usize = 8192;
@@ -35,7 +35,7 @@ impl Store {
 
     fn carry_out(&mut self, block: u64, (kind, payload, page): Decision) -> Written {
         let Store { patch, full, map } = self;
-        carry_out_mapped(patch, full, map, block, kind, payload, page)
+        carry_out_mapped(patch, full, map, block, kind, payload, page, ALL)
     }
 
     fn read(&self, map: &[u8], block: u64, base: &[u8]) -> (Reading, Vec<u8>) {
@@ -89,7 +89,7 @@ fn the_areas_are_those_without_a_map() {
         [(0, SMALL), (5, FULL), (5, SMALL), (6, SMALL), (4, (3, &[], &[])), (4, (1, &[0], &[]))]
     {
         let (kind, payload, page) = decision;
-        let plain = carry_out(&mut patch, &mut full, block, kind, payload, page);
+        let plain = carry_out(&mut patch, &mut full, block, kind, payload, page, ALL);
         assert_eq!(store.carry_out(block, decision), plain);
         assert_eq!((&store.patch, &store.full), (&patch, &full));
     }

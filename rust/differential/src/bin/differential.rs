@@ -4,11 +4,11 @@ use std::process::ExitCode;
 use std::time::{Instant, SystemTime, UNIX_EPOCH};
 
 use differential::generate;
-use differential::harness::{Counts, Harness, Mismatch};
+use differential::harness::{Counts, Harness, Mismatch, Unseen};
 use differential::maps::{self, Elsewhere};
 use differential::rng::Rng;
 use differential::runs;
-use differential::{cases, crash, cuts, huge, orders, payloads, sweep};
+use differential::{cases, crash, cuts, extremes, huge, orders, payloads, stops, sweeps};
 
 const HELP: &str = "\
 usage: differential [--quick | --long] [--seed N] [--part NAME [--case I]] [--trace]
@@ -20,8 +20,8 @@ independent implementation; compares every answer and every lent byte after ever
   --long        more than four million calls
   --seed N      replay with this seed (otherwise drawn from the clock, and printed)
   --part NAME   only one part: cases, orders, lengths, numbers, payloads, readers, pairs, maps, cuts,
-                random, runs, huge
-  --case I      only this case of the part, which is readers, maps, random or runs
+                sweeps, random, runs, stops, huge
+  --case I      only this case of the part, which is readers, maps, random, runs or stops
   --trace       print each input before the call, to find the one that crashed
 ";
 
@@ -39,7 +39,7 @@ struct Part {
 }
 
 /// The parts in the order of a whole run.
-const PARTS: [Part; 12] = [
+const PARTS: [Part; 14] = [
     Part { name: "cases", work: Work::Whole(hand_written), meets_all: true },
     Part { name: "orders", work: Work::Whole(every_order), meets_all: false },
     Part { name: "lengths", work: Work::Whole(lengths), meets_all: false },
@@ -57,6 +57,7 @@ const PARTS: [Part; 12] = [
         meets_all: false,
     },
     Part { name: "cuts", work: Work::Whole(every_cut), meets_all: false },
+    Part { name: "sweeps", work: Work::Whole(every_sweep), meets_all: false },
     Part {
         name: "random",
         work: Work::Drawn { quick: 60_000, long: 1_100_000, run: random },
@@ -65,6 +66,11 @@ const PARTS: [Part; 12] = [
     Part {
         name: "runs",
         work: Work::Drawn { quick: 130, long: 2_500, run: random_run },
+        meets_all: false,
+    },
+    Part {
+        name: "stops",
+        work: Work::Drawn { quick: 100, long: 2_000, run: stopped_run },
         meets_all: false,
     },
     Part { name: "huge", work: Work::Whole(largest), meets_all: false },
@@ -123,7 +129,7 @@ impl Options {
         let drawn = |part: &Part| matches!(part.work, Work::Drawn { .. });
         let one_drawn = PARTS.iter().filter(|part| self.wants(part)).all(drawn);
         if self.case.is_some() && !one_drawn {
-            return Err("--case goes with --part readers, maps, random or runs".to_string());
+            return Err("--case goes with --part readers, maps, random, runs or stops".to_string());
         }
         Ok(())
     }
@@ -139,6 +145,7 @@ struct Session {
     options: Options,
     harness: Harness,
     runs: runs::Met,
+    stops: stops::Met,
     elsewhere: Elsewhere,
     /// What each part met, in the part alone.
     met: Vec<(&'static Part, Counts)>,
@@ -216,19 +223,23 @@ impl Session {
             return holes;
         }
         for (part, counts) in self.met.iter().filter(|(part, _)| part.meets_all) {
-            for (call, number) in counts.unseen() {
-                holes.push(format!("{}: {} never gave {number}", part.name, call.name()));
-            }
-            for (call, number) in counts.unseen_by_wrapper() {
+            let never = |side: &str, (call, told, number): Unseen| {
                 let name = call.name();
-                holes.push(format!("{}: the wrapper's {name} never gave {number}", part.name));
-            }
+                format!("{}: {side}{name}, told {told:?}, never gave {number}", part.name)
+            };
+            holes.extend(counts.unseen().into_iter().map(|unseen| never("", unseen)));
+            let by_wrapper = counts.unseen_by_wrapper().into_iter();
+            holes.extend(by_wrapper.map(|unseen| never("the wrapper's ", unseen)));
         }
         if let (true, Some(hole)) = (self.ran("runs"), self.runs.hole()) {
             holes.push(format!("runs: {hole}"));
         }
-        if self.ran("maps") && self.elsewhere.accepted == 0 {
-            holes.push("maps: Build accepted no store".to_string());
+        if let (true, Some(hole)) = (self.ran("stops"), self.stops.hole()) {
+            holes.push(format!("stops: {hole}"));
+        }
+        let Elsewhere { accepted, stopped, .. } = self.elsewhere;
+        if self.ran("maps") && (accepted == 0 || stopped == 0) {
+            holes.push(format!("maps: {accepted} stores accepted, {stopped} stops"));
         }
         holes
     }
@@ -254,17 +265,47 @@ impl Session {
         );
     }
 
+    /// What the stops met.
+    fn print_stops(&self) {
+        let stops::Met { told: [none, one], new_pages, other_pages, .. } = self.stops;
+        let stops::Met { stray_pages, whole, mapped, unmapped, .. } = self.stops;
+        let stops::Met { went_on, cut_later, written_later, ended_there, .. } = self.stops;
+        println!(
+            "stops, EMPTY, PATCH and FULL_REF: {none:?} told 0, {one:?} told 1; {mapped} with a map, \
+             {unmapped} without"
+        );
+        println!(
+            "after a stop {went_on} runs went on, {cut_later} with a cut of the block, {written_later} \
+             with a write to it; {ended_there} ended there"
+        );
+        println!(
+            "told 1: {new_pages} pages without a reference, {other_pages} under an old one, \
+             {stray_pages} pages that lost theirs, {whole} without a place"
+        );
+        let stops::Met { runs_of_several, several, sweeps_between, .. } = self.stops;
+        println!(
+            "runs with several stops: {runs_of_several}, with {several} stops and {sweeps_between} \
+             sweeps before the last"
+        );
+    }
+
     /// Prints what was met and how it came out; true if all is well.
     fn report(&self, result: Result<(), Failure>) -> bool {
         let mut all = Counts::default();
         self.met.iter().for_each(|(_, counts)| all.add_all(counts));
         println!("\n{all}");
         if self.ran("maps") {
-            let Elsewhere { accepted, refused } = self.elsewhere;
-            println!("stores from elsewhere: Build accepted {accepted} and refused {refused}");
+            let Elsewhere { accepted, refused, stopped } = self.elsewhere;
+            println!(
+                "stores from elsewhere: Build accepted {accepted} and refused {refused}; {stopped} \
+                 decisions were stopped on them"
+            );
         }
         if self.ran("runs") {
             self.print_runs();
+        }
+        if self.ran("stops") {
+            self.print_stops();
         }
         let (compared, seed) = (all.total(), self.options.seed);
         if let Err(failure) = result {
@@ -309,16 +350,16 @@ fn every_order(session: &mut Session) -> Result<(), Mismatch> {
 fn lengths(session: &mut Session) -> Result<(), Mismatch> {
     let long = session.options.long;
     let fillers: &[u8] = if long { &[0x00, 0xA7, 0x01] } else { &[0x00] };
-    sweep::starting_points(&mut session.harness)?;
-    sweep::lengths(&mut session.harness, fillers)?;
+    extremes::starting_points(&mut session.harness)?;
+    extremes::lengths(&mut session.harness, fillers)?;
     let mut rng = Rng::for_case(session.options.seed, "lengths", 0);
-    sweep::many_lengths(&mut session.harness, &mut rng, if long { 2_000 } else { 200 })
+    extremes::many_lengths(&mut session.harness, &mut rng, if long { 2_000 } else { 200 })
 }
 
 fn numbers(session: &mut Session) -> Result<(), Mismatch> {
-    sweep::nothing_at_all(&mut session.harness)?;
-    sweep::places(&mut session.harness)?;
-    sweep::numbers(&mut session.harness)
+    extremes::nothing_at_all(&mut session.harness)?;
+    extremes::places(&mut session.harness)?;
+    extremes::numbers(&mut session.harness)
 }
 
 fn short_payloads(session: &mut Session) -> Result<(), Mismatch> {
@@ -343,6 +384,13 @@ fn every_cut(session: &mut Session) -> Result<(), Mismatch> {
     cuts::every_one(&mut session.harness)
 }
 
+fn every_sweep(session: &mut Session) -> Result<(), Mismatch> {
+    sweeps::every_row(&mut session.harness)?;
+    let mut rng = Rng::for_case(session.options.seed, "sweeps", 0);
+    let rounds = if session.options.long { 4_000 } else { 200 };
+    sweeps::from_elsewhere(&mut session.harness, &mut rng, rounds)
+}
+
 fn random(session: &mut Session, rng: &mut Rng) -> Result<(), Mismatch> {
     session.harness.check(&generate::any_input(rng)).map(|_| ())
 }
@@ -350,6 +398,10 @@ fn random(session: &mut Session, rng: &mut Rng) -> Result<(), Mismatch> {
 fn random_run(session: &mut Session, rng: &mut Rng) -> Result<(), Mismatch> {
     let operations = rng.between(10, 200);
     runs::run(&mut session.harness, rng, operations, &mut session.runs)
+}
+
+fn stopped_run(session: &mut Session, rng: &mut Rng) -> Result<(), Mismatch> {
+    stops::run(&mut session.harness, rng, &mut session.stops)
 }
 
 fn largest(session: &mut Session) -> Result<(), Mismatch> {
@@ -383,6 +435,7 @@ fn main() -> ExitCode {
         options,
         harness,
         runs: runs::Met::default(),
+        stops: stops::Met::default(),
         elsewhere: Elsewhere::default(),
         met: Vec::new(),
     };

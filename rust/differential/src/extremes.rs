@@ -1,8 +1,10 @@
 //! Every length from 0 to 1,024 for each buffer of each call, and numbers near 2^64; decisions of every
-//! kind, and kinds near 2^32.
+//! kind, kinds near 2^32, and any number of stores.
 
-use crate::call::{Answer, Call, Input, BEGINNING, PAGE, PATCH_HEADER, PAYLOAD, SLOT};
-use crate::generate::{Areas, POSITIONS, STRANGE_KINDS, STRANGE_NUMBERS};
+use crate::call::{
+    Answer, Call, Input, Told, ALL, BEGINNING, FULL_HEADER, PAGE, PATCH_HEADER, PAYLOAD, SLOT,
+};
+use crate::generate::{Areas, POSITIONS, STRANGE_KINDS, STRANGE_NUMBERS, STRANGE_STORES};
 use crate::harness::{Harness, Mismatch};
 use crate::rng::Rng;
 
@@ -13,8 +15,8 @@ fn store() -> Areas {
     let mut areas = Areas::fresh(2, Some(2));
     let Areas { patch, full } = &mut areas;
     // Byte 4,000 becomes 1.
-    independent::carry_out(patch, full, 0, 1, &[0xFF, 0xA0, 0x0F, 1], &[]);
-    independent::carry_out(patch, full, 1, 2, &[], &[7; PAGE]);
+    independent::carry_out(patch, full, 0, 1, &[0xFF, 0xA0, 0x0F, 1], &[], ALL);
+    independent::carry_out(patch, full, 1, 2, &[], &[7; PAGE], ALL);
     areas
 }
 
@@ -47,7 +49,15 @@ fn accepted(call: Call) -> Input {
         Call::Cut => Input::new(call, vec![patch, full]),
         Call::CutMapped => Input::new(call, vec![patch, full, vec![0b0110]]),
         Call::Highest => Input::new(call, vec![patch]),
+        // With a stray page, so that there is something to sweep.
+        Call::Sweep => Input::new(call, vec![patch, stray_page_0(full)]),
     }
+}
+
+/// The full area with a page in block 0's place, to which no slot refers.
+fn stray_page_0(mut full: Vec<u8>) -> Vec<u8> {
+    full[FULL_HEADER..FULL_HEADER + PAGE].fill(9);
+    full
 }
 
 /// The same with one block and without a full area, if the call is lent both areas. Two pages in the
@@ -65,38 +75,47 @@ fn without_full_area(call: Call) -> Option<Input> {
 /// The same decision of other kinds: PATCH, and FULL_REF where there is a place. Kind 3, which is refused,
 /// stands among them: whatever is beside it is not looked at.
 fn other_kinds(input: &Input) -> Vec<Input> {
-    let carries_out = matches!(input.call, Call::CarryOut | Call::CarryOutMapped);
     let kinds: &[u32] = match input.buffers.get(1) {
-        _ if !carries_out => &[],
+        _ if !input.call.carries_out() => &[],
         Some(full) if full.is_empty() => &[1],
         _ => &[1, 2, 3],
     };
     kinds.iter().map(|kind| input.clone().of_kind(*kind)).collect()
 }
 
-/// All inputs that the sweeps start from.
-fn starts() -> impl Iterator<Item = Input> {
-    let both = |call: Call| [Some(accepted(call)), without_full_area(call)];
-    Call::ALL.into_iter().flat_map(both).flatten().flat_map(|input| {
-        let others = other_kinds(&input);
-        std::iter::once(input).chain(others)
-    })
+/// Stops among the decisions: a patch told 1, and a full page told 0.
+fn stops() -> impl Iterator<Item = Input> {
+    let told = |call: Call| {
+        let input = accepted(call);
+        [input.clone().of_kind(1).storing(1), input.of_kind(2).storing(0)]
+    };
+    [Call::CarryOut, Call::CarryOutMapped].into_iter().flat_map(told)
 }
 
-/// Each of them is accepted, so that each refusal in the sweeps is due to what they change; kind 3 is
-/// refused for itself alone.
+/// All inputs whose lengths are changed.
+fn starts() -> impl Iterator<Item = Input> {
+    let both = |call: Call| [Some(accepted(call)), without_full_area(call)];
+    let whole = Call::ALL.into_iter().flat_map(both).flatten().flat_map(|input| {
+        let others = other_kinds(&input);
+        std::iter::once(input).chain(others)
+    });
+    whole.chain(stops())
+}
+
+/// Each of them is accepted, so that each later refusal is due to what is changed; kind 3 is refused for
+/// itself alone.
 pub fn starting_points(harness: &mut Harness) -> Result<(), Mismatch> {
     for input in starts() {
         let outcome = harness.check(&input)?;
         let accepted = match input.call {
             Call::Show => outcome.answer.0[1] > 0,
             Call::Next => outcome.answer.0[1] == 1,
-            Call::CarryOut | Call::CarryOutMapped if input.numbers.kind == 3 => {
+            call if call.carries_out() && input.numbers.kind == 3 => {
                 outcome.answer == Answer::of(&[6])
             }
             _ => outcome.answer.number() == 0,
         };
-        assert!(accepted, "the sweep starts from an accepted {input}");
+        assert!(accepted, "what is changed is an accepted {input}");
     }
     Ok(())
 }
@@ -146,11 +165,12 @@ pub fn nothing_at_all(harness: &mut Harness) -> Result<(), Mismatch> {
             for _ in 0..4 {
                 let mut input = Input::new(call, empty.clone()).told(number).at_block(number);
                 input.numbers.at = number;
-                harness.check(&input)?;
-                for other in [1, 2, 3, u32::MAX] {
-                    if matches!(call, Call::CarryOut | Call::CarryOutMapped) {
-                        harness.check(&input.clone().of_kind(other))?;
-                    }
+                if !call.carries_out() {
+                    harness.check(&input)?;
+                    continue;
+                }
+                for kind in [0, 1, 2, 3, u32::MAX] {
+                    harness.check(&input.clone().of_kind(kind).storing(number))?;
                 }
             }
         }
@@ -205,6 +225,58 @@ fn decisions(harness: &mut Harness, call: Call, blocks: &[u64]) -> Result<(), Mi
     Ok(())
 }
 
+/// What stands of a block: the first byte of its slot, the first of its place, and its pair.
+type Standing = [u8; 3];
+
+/// For each kind on a block: what stands after no store, after one and after all. Block 0 is PATCH with a
+/// stray page of nines, block 1 full of sevens; the page is of threes.
+const STORED: [(u32, u64, [Standing; 3]); 6] = [
+    (0, 0, [[1, 9, 2], [0, 9, 2], [0, 0, 0]]),
+    (1, 0, [[1, 9, 2], [1, 9, 2], [1, 0, 2]]),
+    (2, 0, [[1, 9, 2], [1, 3, 2], [2, 3, 1]]),
+    (0, 1, [[2, 7, 1], [0, 7, 1], [0, 0, 0]]),
+    (1, 1, [[2, 7, 1], [1, 7, 1], [1, 0, 2]]),
+    (2, 1, [[2, 7, 1], [2, 3, 1], [2, 3, 1]]),
+];
+
+/// What stands of a block; without a map there is no pair.
+fn standing(call: Call, buffers: &[Vec<u8>], block: u64) -> Vec<u8> {
+    let block = block as usize;
+    let mut stands =
+        vec![buffers[0][PATCH_HEADER + SLOT * block], buffers[1][FULL_HEADER + PAGE * block]];
+    if call == Call::CarryOutMapped {
+        stands.push(buffers[2][0] >> (2 * block) & 3);
+    }
+    stands
+}
+
+/// One decision told a number of stores: what stands afterwards, and the answer, which is always the same.
+fn check_stores(harness: &mut Harness, input: &Input, wanted: Standing) -> Result<(), Mismatch> {
+    let outcome = harness.check(input)?;
+    let found = standing(input.call, &outcome.buffers, input.numbers.block);
+    let kind = input.numbers.kind;
+    let answered = Answer::of(&[0, kind.into(), if kind == 1 { 2 } else { 0 }]);
+    if outcome.answer == answered && found == wanted[..found.len()] {
+        return Ok(());
+    }
+    let found = format!("answer {:?}, {found:?} stands, not {wanted:?}", outcome.answer.0);
+    Err(Mismatch { side: "by hand", input: input.to_string(), found })
+}
+
+/// Any number of stores: all but 0 and 1 mean all of them.
+pub fn stores(harness: &mut Harness) -> Result<(), Mismatch> {
+    for call in [Call::CarryOut, Call::CarryOutMapped] {
+        for (kind, block, stands) in STORED {
+            for stores in STRANGE_STORES.iter().chain(&STRANGE_NUMBERS).copied().chain(0..2) {
+                let mut input = accepted(call).at_block(block).of_kind(kind).storing(stores);
+                input.buffers[1] = stray_page_0(std::mem::take(&mut input.buffers[1]));
+                check_stores(harness, &input, stands[Told::of(stores) as usize])?;
+            }
+        }
+    }
+    Ok(())
+}
+
 /// Blocks and n near 2^64 and wherever a product could wrap, alone and together.
 pub fn numbers(harness: &mut Harness) -> Result<(), Mismatch> {
     let interesting: Vec<u64> = STRANGE_NUMBERS.iter().copied().chain(0..6).collect();
@@ -216,6 +288,7 @@ pub fn numbers(harness: &mut Harness) -> Result<(), Mismatch> {
     for call in [Call::CarryOut, Call::CarryOutMapped] {
         decisions(harness, call, &interesting)?;
     }
+    stores(harness)?;
     for n in &interesting {
         for length in [0, 1, 2, 32_767, 32_768] {
             let map = vec![0b1001; length];
