@@ -29,9 +29,9 @@ use Rattle.promises.specs.SweepTables.{sweep-table}
 use Rattle.promises.specs.SweptLaws as swept-laws
 use Rattle.promises.specs.Runs.{write}
 use Rattle.promises.specs.RunWords.{Areas, readAt, Lent, Operation, outcome, next, after, FreshAreas}
-use Rattle.promises.specs.MapWords.{Mapped, afterWith, buildInto, FreshWith, Long}
+use Rattle.promises.specs.MapWords.{Mapped, mapped, afterWith, buildInto, FreshWith, Long}
 use Rattle.promises.specs.DemandThree.{same-with-map, kept-is-built}
-use Rattle.promises.specs.StopWords.{told, stopped, sweeping, swept, AreaEvent, afterAll, Holds, ComesTo}
+use Rattle.promises.specs.StopWords.{told, stopped, stoppedWith, sweeping, swept, AreaEvent, afterAll, Holds, ComesTo}
 use Rattle.promises.specs.StopReads as stop-reads
 use Rattle.promises.specs.StopRunLaws as runs
 use Rattle.promises.specs.ToldLaws as told-laws
@@ -64,12 +64,17 @@ module _ (s : Areas) (w : Lent) where
   pub one-store-due : (w .decision .kind ≡ 2 → ⊥) → places pageSize (s .full) ≤ w .block → stopped pageSize s 1 w ≡ next pageSize s w
   one-store-due = stop-reads.one-due pageSize s w
 
-  -- told fewer, and then the same write told all, is the whole write
-  pub finish : (k : ℕ) → next pageSize (stopped pageSize s k w) w ≡ next pageSize s w
+  -- told fewer, and then the same write told all, is the whole write, in answer and areas
+  pub finish : (k : ℕ) → outcome pageSize (stopped pageSize s k w) w ≡ outcome pageSize s w
   finish k = runs.finish pageSize s k w
 
 -- with a lent map
 module _ (patch full map : List ℕ) (b : ℕ) (d : Decision) where
+  -- "with the same refusals and answer", 9 for a short map among them
+  pub same-answer-mapped : (k : ℕ) → carryNumbers (carryMappedTold pageSize patch full map b d k .areas)
+      ≡ carryNumbers (carryMappedOutcome pageSize patch full map b d .areas)
+  same-answer-mapped = told-laws.same-numbers-mapped pageSize patch full map b d
+
   -- "a lent map is updated only when told all", refused or not
   pub map-kept : (k : ℕ) → k ≤ 1 → carryMappedTold pageSize patch full map b d k .map ≡ map
   map-kept = told-laws.map-kept pageSize patch full map b d
@@ -80,6 +85,11 @@ module _ (patch full map : List ℕ) (b : ℕ) (d : Decision) where
   -- answer and areas are as without a map that fits
   pub same-areas : MapFits patch map → (k : ℕ) → carryMappedTold pageSize patch full map b d k .areas ≡ carryTold pageSize patch full b d k
   same-areas = mapped-as-told pageSize patch full map b d
+
+-- told fewer with a map, and then the same told all with what that left, is the whole write with the map
+pub finish-mapped : (x : Mapped) (k : ℕ) (w : Lent) → MapFits (x .areas .patch) (x .map) → k ≤ 1
+    → mapped pageSize (stoppedWith pageSize x k w) w ≡ mapped pageSize x w
+finish-mapped = runs.finish-mapped pageSize
 
 -- What a stop leaves, over any areas that the call accepts: "Read gives the block as before or its new page"
 

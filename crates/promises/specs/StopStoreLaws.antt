@@ -5,7 +5,7 @@ use mathlib.Core.Path.{_≡_, refl, sym, ap, _∙_, subst}
 use mathlib.Core.Bool.{Bool, true, false, cond, true≢false}
 use mathlib.Core.List.{List, [], _∷_}
 use lib.Dec.{eqb, ltb}
-use lib.ListN.{take}
+use lib.ListN.{length, take}
 use borrow.Author.Tests.{eq-eqb, ne-eqb, ltb-true, ltb-false, eqb-true, eqb-false}
 use Rattle.span.specs.Bytes.{zeros}
 use Rattle.span.specs.Laws.{same-true, same-false, same-is}
@@ -141,12 +141,19 @@ module _ (P : ℕ) (s : Areas) (k : ℕ) (w : Lent) where
     stop-other : (b : ℕ) → (b ≡ w .block → ⊥) → cellAt P (stopped P s k w) b ≡ cellAt P s b
     stop-other b n = rw (stop-stored .other-slots b n, stop-stored .frame .full-length, stop-stored .other-places b n)
 
-  stop-frame : frameOf (stopped P s k w) ≡ frameOf s
+  pub stop-frame : frameOf (stopped P s k w) ≡ frameOf s
   stop-frame = go (taken P s w) refl
     where
       go : (t : Bool) → taken P s w ≡ t → frameOf (stopped P s k w) ≡ frameOf s
       go true e = frame-is s (stopped P s k w) (stop-stored e .frame)
       go false e = ap frameOf (stop-refused e)
+
+  pub stop-length : length (stopped P s k w .patch) ≡ length (s .patch)
+  stop-length = go (taken P s w) refl
+    where
+      go : (t : Bool) → taken P s w ≡ t → length (stopped P s k w .patch) ≡ length (s .patch)
+      go true e = stop-stored e .frame .patch-length
+      go false e = ap (λ (t : Areas). length (t .patch)) (stop-refused e)
 
 -- A sweep
 

@@ -6,10 +6,12 @@ use mathlib.Core.List.{List, [], _∷_}
 use Rattle.slots.specs.Slots.{fullSlot}
 use Rattle.store.specs.Block.{slotOf}
 use Rattle.carrying.specs.CarryOut.{CarryOutcome, carryTold}
+use Rattle.carrying.specs.Mapped.{carryMappedTold}
 use Rattle.sweeping.specs.Sweep.{SweepOutcome, sweepOutcome}
 use Rattle.promises.specs.Runs.{run, write}
 use Rattle.promises.specs.Stops.{Event, whole, stop, sweep}
 use Rattle.promises.specs.RunWords.{Decision, Areas, Lent, Cut, Operation, outcome, cutting, doesBy}
+use Rattle.promises.specs.MapWords.{Mapped}
 
 -- Programs: a write that is "told how many of them to make", and a sweep. The right ones are `told P` and `sweeping P`; `StopsWrong` and
 -- `SweepsWrong` have others.
@@ -32,6 +34,12 @@ leftBy o = record { patch = o .patch; full = o .full }
 
 abbrev pub stopped : ℕ → Areas → ℕ → Lent → Areas
 stopped P s k w = leftBy (told P s w k)
+
+-- and with a lent map
+abbrev pub stoppedWith : ℕ → Mapped → ℕ → Lent → Mapped
+stoppedWith P x k w =
+    let o = carryMappedTold P (x .areas .patch) (x .areas .full) (x .map) (w .block) (w .decision) k in
+    record { areas = leftBy (o .areas); map = o .map }
 
 abbrev pub swept : ℕ → Areas → Areas
 swept P s = record { patch = s .patch; full = sweeping P s .full }

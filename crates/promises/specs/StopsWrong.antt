@@ -43,9 +43,9 @@ use Rattle.promises.specs.MapsWrong.{start, one-byte, one-kind, wrote}
 use Rattle.promises.specs.FreshLaws.{fresh-cell}
 use Rattle.promises.specs.RunLaws.{run-fits}
 use Rattle.promises.specs.StopWords.{ToldProgram, told, leftBy, stopped, swept, slot-stored}
-use Rattle.promises.specs.DemandStops.{same-answer, none-made, all-made, old-or-new, other-blocks, map-kept, whole-or-without}
+use Rattle.promises.specs.DemandStops.{same-answer, none-made, page-made, slot-made, all-made, old-or-new, other-blocks, map-kept, whole-or-without}
 use Rattle.promises.specs.Sample.{sample, sample-fresh, two-blocks, two-places, areas-fit, takes, page, one, two, many, two-fits}
-use Rattle.promises.specs.Sample.{stream-one, one-fits, many-fits, one-fit, many-fit, large-ones, to, puts, decides, reads, nothing-stands}
+use Rattle.promises.specs.Sample.{place-ones, stream-one, one-fits, many-fits, one-fit, many-fit, large-ones, to, puts, decides, reads, nothing-stands}
 
 -- "It is told how many of them to make, 0, 1 or, for any other number, all, with the same refusals and answer ... After a stop before, between
 -- or after these, Read gives the block as before or its new page, and other blocks as before": of the write told all no more is said than that
@@ -54,6 +54,9 @@ pub record StopsSafely (program : ToldProgram) : Type 0 where
   pub whole : CarriesOut (λ s w. program s w all)
   pub answer : (s : Areas) (w : Lent) (k : ℕ) → carryNumbers (program s w k) ≡ carryNumbers (program s w all)
   pub none : (s : Areas) (w : Lent) → leftBy (program s w 0) ≡ s
+  -- told 1: "page then slot for FULL_REF, slot then zeroed page place for the other kinds"
+  pub page-first : (s : Areas) (w : Lent) → w .decision .kind ≡ 2 → program s w 1 .patch ≡ s .patch
+  pub slot-first : (s : Areas) (w : Lent) → (w .decision .kind ≡ 2 → ⊥) → program s w 1 .full ≡ s .full
   pub any-other : (s : Areas) (w : Lent) (k : ℕ) → 1 < k → program s w k ≡ program s w all
   pub block : (s : Areas) (w : Lent) (k : ℕ) → program s w all .number ≡ 0 → (base page : List ℕ)
       → (readAt pageSize (leftBy (program s w k)) (w .block) base page ≡ readAt pageSize s (w .block) base page)
@@ -67,6 +70,8 @@ right-stops =
       whole = right-carries;
       answer = same-answer;
       none = none-made;
+      page-first = λ s w e. page-made s w e .0;
+      slot-first = λ s w n. slot-made s w n .1;
       any-other = all-made;
       block = λ s w k e base page. old-or-new s w e k base page;
       others = λ s w k c n base page. other-blocks s w k c n base page;
@@ -235,6 +240,23 @@ not-place-first claim =
 
     new : getD (readAt pageSize (next pageSize (after pageSize sample full-first) (to 0 one)) 0 [] two .page) 0 0 ≡ 7
     new = first _ _ (reads full-first 0 (lit< tt) one one-fits) ∙ one-first
+
+-- both stores made, though told 1
+unfoldable pub makesBoth : ToldProgram
+makesBoth s w k = cond (eqb k 1) (told pageSize s w all) (told pageSize s w k)
+
+pub not-makes-both : StopsSafely makesBoth → ⊥
+unfolding makesBoth run
+not-makes-both claim =
+    let small : decides [] one .kind ≡ 2 → ⊥ = λ k. true≢false (sym (eq-eqb (decides [] one .kind) 2 k) ∙ small-one) in
+    let e = claim .slot-first (after pageSize sample full-first) (to 0 one) small in
+    let old : placeOf pageSize (after pageSize sample full-first .full) 0 ≡ many 1 = rw (two-places full-first) at place-ones in
+    omega (
+      arith,
+      zeros-at pageSize 0,
+      many-first,
+      first _ _ (sym small-place ∙ ap (λ (f : List ℕ). placeOf pageSize f 0) e ∙ old),
+    )
 
 -- The lent map. "a lent map is updated only when told all"
 

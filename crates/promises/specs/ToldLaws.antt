@@ -6,12 +6,15 @@ use mathlib.Core.Bool.{Bool, true, false, cond}
 use mathlib.Core.Logic.{_⊎_, inl, inr, _↔_}
 use mathlib.Core.List.{List, []}
 use borrow.Author.Tests.{eq-eqb, ne-eqb, le-ltb}
+use Rattle.layout.specs.Refusals.{Row}
+use Rattle.blockmap.specs.Calls.{shortMap}
 use Rattle.store.specs.Block.{slotOf}
 use Rattle.carrying.specs.Puts.{Decision, putSlot, putPlace, put, puts, carried, all}
-use Rattle.carrying.specs.CarryOut.{carryNumbers, CarryOutcome}
-use Rattle.carrying.specs.Mapped.{carryMappedTold}
-use Rattle.carrying.specs.CarryLaws.{carried-is, carry-done, carry-not, map-done, map-not}
+use Rattle.carrying.specs.CarryOut.{carryNumbers, CarryOutcome, carryBy}
+use Rattle.carrying.specs.Mapped.{carryMappedTold, carryMappedOutcome}
+use Rattle.carrying.specs.CarryLaws.{carried-is, carry-number, carry-done, carry-not, map-done, map-not}
 use Rattle.carrying.specs.Told.{first-page, first-slot}
+use Rattle.promises.specs.Words.{blocks}
 use Rattle.promises.specs.StoreLaws.{told-number}
 use Rattle.promises.specs.RunWords.{Areas, readAt, Lent, outcome, next}
 use Rattle.promises.specs.StopWords.{told, stopped, Holds}
@@ -19,22 +22,29 @@ use Rattle.promises.specs.StopStore.{takesHold}
 use Rattle.promises.specs.StopStoreLaws.{stop-refused}
 use Rattle.promises.specs.StopReads.{holds-iff, not-held, stop-reads}
 
+-- "with the same refusals and answer", whatever buffer is lent beside the areas
+same-by : (P : ℕ) (buffers : List Row) (patch full : List ℕ) (b : ℕ) (d : Decision) (k : ℕ)
+    → carryNumbers (carryBy P buffers patch full b d k) ≡ carryNumbers (carryBy P buffers patch full b d all)
+same-by P buffers patch full b d k = go (carryBy P buffers patch full b d all .number) refl
+  where
+    number : carryBy P buffers patch full b d k .number ≡ carryBy P buffers patch full b d all .number
+    number = carry-number P buffers patch full b d k ∙ sym (carry-number P buffers patch full b d all)
+
+    go : (n : ℕ) → carryBy P buffers patch full b d all .number ≡ n
+        → carryNumbers (carryBy P buffers patch full b d k) ≡ carryNumbers (carryBy P buffers patch full b d all)
+    go zero e =
+        ap carryNumbers (carry-done P buffers patch full b d k (number ∙ e)) ∙ sym (ap carryNumbers (carry-done P buffers patch full b d all e))
+    go (suc n) e =
+        let x = carry-not P buffers patch full b d k (λ z. omega (arith, e, sym number ∙ z)) in
+        let y = carry-not P buffers patch full b d all (λ z. omega (arith, e, z)) in
+        ap carryNumbers x ∙ (λ i. record { number = number i; kind = 0; length = 0 }) ∙ sym (ap carryNumbers y)
+
 module _ (P : ℕ) (s : Areas) (w : Lent) where
-  -- the call's own number, by the whole one's
   number : (k : ℕ) → told P s w k .number ≡ outcome P s w .number
   number k = told-number P (s .patch) (s .full) (w .block) (w .decision) k
 
   pub same-numbers : (k : ℕ) → carryNumbers (told P s w k) ≡ carryNumbers (outcome P s w)
-  same-numbers k = go (outcome P s w .number) refl
-    where
-      go : (n : ℕ) → outcome P s w .number ≡ n → carryNumbers (told P s w k) ≡ carryNumbers (outcome P s w)
-      go zero e =
-          ap carryNumbers (carry-done P [] (s .patch) (s .full) (w .block) (w .decision) k (number k ∙ e))
-          ∙ sym (ap carryNumbers (carry-done P [] (s .patch) (s .full) (w .block) (w .decision) all e))
-      go (suc n) e =
-          let x = carry-not P [] (s .patch) (s .full) (w .block) (w .decision) k (λ z. omega (arith, e, sym (number k) ∙ z)) in
-          let y = carry-not P [] (s .patch) (s .full) (w .block) (w .decision) all (λ z. omega (arith, e, z)) in
-          ap carryNumbers x ∙ (λ i. record { number = number k i; kind = 0; length = 0 }) ∙ sym (ap carryNumbers y)
+  same-numbers k = same-by P [] (s .patch) (s .full) (w .block) (w .decision) k
 
   abbrev areas : CarryOutcome → Areas
   areas o = record { patch = o .patch; full = o .full }
@@ -107,6 +117,11 @@ module _ (P : ℕ) (s : Areas) (w : Lent) where
         go false e = inl (by false e)
 
 -- With a lent map
+
+pub same-numbers-mapped : (P : ℕ) (patch full map : List ℕ) (b : ℕ) (d : Decision) (k : ℕ)
+    → carryNumbers (carryMappedTold P patch full map b d k .areas) ≡ carryNumbers (carryMappedOutcome P patch full map b d .areas)
+unfolding carryMappedTold
+same-numbers-mapped P patch full map b d k = same-by P (shortMap map (blocks patch)) patch full b d k
 
 pub map-kept : (P : ℕ) (patch full map : List ℕ) (b : ℕ) (d : Decision) (k : ℕ) → k ≤ 1 → carryMappedTold P patch full map b d k .map ≡ map
 map-kept P patch full map b d k h = go (carryMappedTold P patch full map b d k .areas .number) refl
