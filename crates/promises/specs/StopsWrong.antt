@@ -54,9 +54,11 @@ pub record StopsSafely (program : ToldProgram) : Type 0 where
   pub whole : CarriesOut (λ s w. program s w all)
   pub answer : (s : Areas) (w : Lent) (k : ℕ) → carryNumbers (program s w k) ≡ carryNumbers (program s w all)
   pub none : (s : Areas) (w : Lent) → leftBy (program s w 0) ≡ s
-  -- told 1: "page then slot for FULL_REF, slot then zeroed page place for the other kinds"
-  pub page-first : (s : Areas) (w : Lent) → w .decision .kind ≡ 2 → program s w 1 .patch ≡ s .patch
-  pub slot-first : (s : Areas) (w : Lent) → (w .decision .kind ≡ 2 → ⊥) → program s w 1 .full ≡ s .full
+  -- told 1: "page then slot for FULL_REF, slot then zeroed page place for the other kinds". The first is made, and the second is not
+  pub page-first : (s : Areas) (w : Lent) → w .decision .kind ≡ 2
+      → (program s w 1 .patch ≡ s .patch) × (program s w 1 .full ≡ program s w all .full)
+  pub slot-first : (s : Areas) (w : Lent) → (w .decision .kind ≡ 2 → ⊥)
+      → (program s w 1 .patch ≡ program s w all .patch) × (program s w 1 .full ≡ s .full)
   pub any-other : (s : Areas) (w : Lent) (k : ℕ) → 1 < k → program s w k ≡ program s w all
   pub block : (s : Areas) (w : Lent) (k : ℕ) → program s w all .number ≡ 0 → (base page : List ℕ)
       → (readAt pageSize (leftBy (program s w k)) (w .block) base page ≡ readAt pageSize s (w .block) base page)
@@ -70,8 +72,8 @@ right-stops =
       whole = right-carries;
       answer = same-answer;
       none = none-made;
-      page-first = λ s w e. page-made s w e .0;
-      slot-first = λ s w n. slot-made s w n .1;
+      page-first = page-made;
+      slot-first = slot-made;
       any-other = all-made;
       block = λ s w k e base page. old-or-new s w e k base page;
       others = λ s w k c n base page. other-blocks s w k c n base page;
@@ -142,6 +144,10 @@ large-stored = carry-stored pageSize (sample .patch) (sample .full) 0 (decides [
 
 pub large-slot : slotOf (next pageSize sample (to 0 (many 1)) .patch) 0 ≡ fullSlot
 large-slot = large-stored .slot-is ∙ slot-anew (decides [] (many 1)) (slotOf (sample .patch) 0) ∙ rw large-ones (image-full _)
+
+pub large-place : placeOf pageSize (next pageSize sample (to 0 (many 1)) .full) 0 ≡ many 1
+unfolding run
+large-place = rw (two-places (puts 0 (many 1) ∷ [])) at place-ones
 
 fresh-place : placeOf pageSize (sample .full) 0 ≡ zeros pageSize
 unfolding run
@@ -249,13 +255,28 @@ pub not-makes-both : StopsSafely makesBoth → ⊥
 unfolding makesBoth run
 not-makes-both claim =
     let small : decides [] one .kind ≡ 2 → ⊥ = λ k. true≢false (sym (eq-eqb (decides [] one .kind) 2 k) ∙ small-one) in
-    let e = claim .slot-first (after pageSize sample full-first) (to 0 one) small in
-    let old : placeOf pageSize (after pageSize sample full-first .full) 0 ≡ many 1 = rw (two-places full-first) at place-ones in
+    let e = claim .slot-first (after pageSize sample full-first) (to 0 one) small .1 in
     omega (
       arith,
       zeros-at pageSize 0,
       many-first,
-      first _ _ (sym small-place ∙ ap (λ (f : List ℕ). placeOf pageSize f 0) e ∙ old),
+      first _ _ (sym small-place ∙ ap (λ (f : List ℕ). placeOf pageSize f 0) e ∙ large-place),
+    )
+
+-- no store made, though told 1
+unfoldable pub makesNone : ToldProgram
+makesNone s w k = told pageSize s w (cond (eqb k 1) 0 k)
+
+pub not-makes-none : StopsSafely makesNone → ⊥
+unfolding makesNone
+not-makes-none claim =
+    let e = claim .page-first sample (to 0 (many 1)) large-ones .1 in
+    let none : told pageSize sample (to 0 (many 1)) 0 .full ≡ sample .full = ap (λ (t : Areas). t .full) (none-made sample (to 0 (many 1))) in
+    omega (
+      arith,
+      zeros-at pageSize 0,
+      many-first,
+      first _ _ (sym fresh-place ∙ ap (λ (f : List ℕ). placeOf pageSize f 0) (sym none ∙ e) ∙ large-place),
     )
 
 -- The lent map. "a lent map is updated only when told all"

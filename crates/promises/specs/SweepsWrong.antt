@@ -40,9 +40,9 @@ use Rattle.promises.specs.SweptLaws.{refers-other, places-within, sweep-
 use Rattle.promises.specs.Runs.{run}
 use Rattle.promises.specs.RunWords.{Areas, next}
 use Rattle.promises.specs.StopWords.{SweepProgram, stopped, sweeping}
-use Rattle.promises.specs.StopsWrong.{large-stored, large-slot, many-first}
+use Rattle.promises.specs.StopsWrong.{large-stored, large-slot, large-place, many-first}
 use Rattle.promises.specs.DemandStops.{page-made, sweep-gives, sweeps, sweep-accepted}
-use Rattle.promises.specs.Sample.{sample, sample-fresh, two-blocks, two-places, areas-fit, many, large-ones, to, puts, place-ones}
+use Rattle.promises.specs.Sample.{sample, sample-fresh, two-blocks, two-places, areas-fit, many, large-ones, to, puts}
 
 -- "A sweep zeroes every place whose slot is not FULL_REF ... sweep gives 2, headers, then 6 or 8 at the lowest block, changing nothing"
 pub record SweepsClean (program : SweepProgram) : Type 0 where
@@ -67,10 +67,6 @@ zeroedIn keeps s = zeroedBut keeps pageSize (pagesIn pageSize (length (s .full))
 -- the sample with a full page at block 0
 abbrev holds : Areas
 holds = next pageSize sample (to 0 (many 1))
-
-holds-place : placeOf pageSize (next pageSize sample (to 0 (many 1)) .full) 0 ≡ many 1
-unfolding run
-holds-place = rw (two-places (puts 0 (many 1) ∷ [])) at place-ones
 
 one-place : 0 < places pageSize (next pageSize sample (to 0 (many 1)) .full)
 unfolding run
@@ -118,7 +114,7 @@ not-zeroes-all claim =
     places-within pageSize (holds .patch) (holds .full) (fits (holds .patch) (holds .full) (large-stored .frame) .lengths) in
     not-ones
     (sym (zeroed-cleared (λ b. false) pageSize (holds .full) (places pageSize (holds .full)) w 0 one-place refl)
-    ∙ ap (λ (f : List ℕ). placeOf pageSize f 0) (sym all) ∙ claim .cleans holds holds-accepted .kept 0 one-place large-slot ∙ holds-place)
+    ∙ ap (λ (f : List ℕ). placeOf pageSize f 0) (sym all) ∙ claim .cleans holds holds-accepted .kept 0 one-place large-slot ∙ large-place)
 
 -- Slots at m and above not checked
 
@@ -248,7 +244,7 @@ not-changes-first claim =
     not-ones
     (sym (zeroed-cleared (refers (broken .patch)) pageSize (broken .full) (places pageSize (broken .full)) w 0 one-place
     (refers-other (broken .patch) 0 (empty-not-full (slotOf (broken .patch) 0) empty)))
-    ∙ ap (λ (x : List ℕ). placeOf pageSize x 0) (claim .kept broken (λ z. omega (arith, six, z))) ∙ holds-place)
+    ∙ ap (λ (x : List ℕ). placeOf pageSize x 0) (claim .kept broken (λ z. omega (arith, six, z))) ∙ large-place)
 
 -- Refused with 10 where there is something to be swept
 
@@ -270,7 +266,7 @@ not-refuses-strays claim =
         let s : Areas = stopped pageSize sample 1 (to 0 (many 1)) in
         let made = page-made sample (to 0 (many 1)) large-ones in
         let empty : slotOf (s .patch) 0 ≡ emptySlot = ap (λ (x : List ℕ). slotOf x 0) (made .0) ∙ fresh-slot 0 (lit< tt) in
-        let page : placeOf pageSize (s .full) 0 ≡ many 1 = ap (λ (x : List ℕ). placeOf pageSize x 0) (made .1) ∙ holds-place in
+        let page : placeOf pageSize (s .full) 0 ≡ many 1 = ap (λ (x : List ℕ). placeOf pageSize x 0) (made .1) ∙ large-place in
         not-ones
         (sym (sweeps (s .patch) (s .full) stray-accepted .zeroed 0 (rw (made .1) one-place) (empty-not-full (slotOf (s .patch) 0) empty))
         ∙ ap (λ (x : List ℕ). placeOf pageSize x 0) (same-is _ _ e) ∙ page)
