@@ -11,9 +11,10 @@
 -- `next P s w` are those after the whole write, and `after P s os` after the run os. Any lists are areas, payloads and pages here, any number
 -- is a block, a kind or a number of stores.
 use Prim.Native.Nat.{ℕ, _≤_, _<_}
-use mathlib.Core.Path.{_≡_, sym, ap, _∙_}
+use mathlib.Core.Path.{_≡_, sym, ap, _∙_, subst}
 use mathlib.Core.Logic.{_⊎_, inl, inr, ⊎-elim, _↔_}
 use mathlib.Core.List.{List, [], _∷_, _++_}
+use lib.Dec.{lit≤}
 use Rattle.layout.specs.Sizes.{pageSize}
 use Rattle.reading.specs.Read.{readOutcome}
 use Rattle.carrying.specs.Puts.{Decision}
@@ -21,7 +22,7 @@ use Rattle.carrying.specs.CarryOut.{carryNumbers, carryTold}
 use Rattle.carrying.specs.Mapped.{carryMappedTold, carryMappedOutcome}
 use Rattle.carrying.specs.Told.{told-all, told-all-mapped}
 use Rattle.sweeping.specs.Sweep.{SweepOutcome, sweepOutcome}
-use Rattle.building.specs.Build.{buildOutcome, buildDone}
+use Rattle.building.specs.Build.{BuildOutcome, buildOutcome, buildDone}
 use Rattle.promises.specs.Words.{places, MapFits}
 use Rattle.promises.specs.CarryTables.{mapped-as-told}
 use Rattle.promises.specs.SweepWords.{SweepGives, SweptFrom}
@@ -29,11 +30,13 @@ use Rattle.promises.specs.SweepTables.{sweep-table}
 use Rattle.promises.specs.SweptLaws as swept-laws
 use Rattle.promises.specs.Runs.{write}
 use Rattle.promises.specs.RunWords.{Areas, readAt, Lent, Operation, outcome, next, after, FreshAreas}
-use Rattle.promises.specs.MapWords.{Mapped, mapped, afterWith, buildInto, FreshWith, Long}
+use Rattle.promises.specs.MapWords.{Mapped, mapped, afterWith, buildInto, readByMap, FreshWith, Long, Alike}
+use Rattle.promises.specs.MapStore.{with}
 use Rattle.promises.specs.DemandThree.{same-with-map, kept-is-built}
-use Rattle.promises.specs.StopWords.{told, stopped, stoppedWith, sweeping, swept, AreaEvent, afterAll, Holds, ComesTo}
+use Rattle.promises.specs.StopWords.{told, stopped, stoppedWith, sweeping, swept, AreaEvent, afterAll, afterAllWith, Holds, ComesTo}
 use Rattle.promises.specs.StopReads as stop-reads
 use Rattle.promises.specs.StopRunLaws as runs
+use Rattle.promises.specs.StopMapLaws as maps
 use Rattle.promises.specs.ToldLaws as told-laws
 
 -- How many stores are made
@@ -91,21 +94,21 @@ pub finish-mapped : (x : Mapped) (k : ℕ) (w : Lent) → MapFits (x .areas .pat
     → mapped pageSize (stoppedWith pageSize x k w) w ≡ mapped pageSize x w
 finish-mapped = runs.finish-mapped pageSize
 
--- What a stop leaves, over any areas that the call accepts: "Read gives the block as before or its new page"
+-- What a stop leaves, over any areas and whether or not the call was refused: "Read gives the block as before or its new page"
 
-module _ (s : Areas) (w : Lent) (done : outcome pageSize s w .number ≡ 0) (k : ℕ) (base page : List ℕ) where
+module _ (s : Areas) (w : Lent) (k : ℕ) (base page : List ℕ) where
   -- as before or as after the whole write, in every number and every byte, and which of the two
   pub new-page : Holds s k w → readAt pageSize (stopped pageSize s k w) (w .block) base page ≡ readAt pageSize (next pageSize s w) (w .block) base page
-  new-page = told-laws.reads-new pageSize s w done k base page
+  new-page = told-laws.reads-new pageSize s w k base page
 
   pub old-page : (Holds s k w → ⊥) → readAt pageSize (stopped pageSize s k w) (w .block) base page ≡ readAt pageSize s (w .block) base page
-  old-page = told-laws.reads-old pageSize s w done k base page
+  old-page = told-laws.reads-old pageSize s w k base page
 
   pub old-or-new : (readAt pageSize (stopped pageSize s k w) (w .block) base page ≡ readAt pageSize s (w .block) base page)
       ⊎ (readAt pageSize (stopped pageSize s k w) (w .block) base page ≡ readAt pageSize (next pageSize s w) (w .block) base page)
-  old-or-new = told-laws.reads-either pageSize s w done k base page
+  old-or-new = told-laws.reads-either pageSize s w k base page
 
--- "and other blocks as before", whether or not the call was refused
+-- "and other blocks as before"
 pub other-blocks : (s : Areas) (w : Lent) (k c : ℕ) → (c ≡ w .block → ⊥) → (base page : List ℕ)
     → readAt pageSize (stopped pageSize s k w) c base page ≡ readAt pageSize s c base page
 other-blocks s w k c n base page = stop-reads.stop-others pageSize s k w c n base page
@@ -180,12 +183,41 @@ module _ (s : Areas) (fresh : FreshAreas pageSize s) (es : List AreaEvent) (os :
 pub comes-exist : (s : Areas) (es : List AreaEvent) → (os : List Operation) × ComesTo pageSize s es os
 comes-exist = runs.comes-exist pageSize
 
--- "A lent map is built anew after a sweep": Build accepts the swept areas, and leaves in the zero map that the run began with just the map that
--- the same run, with each write whole that took hold and lent to every operation, keeps
-pub map-anew : (x : Mapped) → FreshWith pageSize x → Long (x .areas) (x .map) → (es : List AreaEvent) (os : List Operation)
-    → ComesTo pageSize (x .areas) es os
-    → buildInto pageSize (swept pageSize (afterAll pageSize (x .areas) es)) (x .map) ≡ buildDone (afterWith pageSize x os .map)
-map-anew x fresh long es os c =
-    ap (λ (t : Areas). buildInto pageSize t (x .map))
-    (sweep-leaves (x .areas) (fresh .fresh) es os c .1 ∙ sym (same-with-map x fresh os long .1))
-    ∙ kept-is-built x fresh os long
+-- "A lent map is built anew after a sweep". The operations and the stopped writes are lent a map here; both areas are as without it
+module _ (x : Mapped) (fresh : FreshWith pageSize x) (long : Long (x .areas) (x .map)) (es : List AreaEvent) (os : List Operation)
+    (comes : ComesTo pageSize (x .areas) es os) where
+  abbrev pub clean : Areas
+  clean = swept pageSize (afterAllWith pageSize x es .areas)
+
+  pub areas-with-map : afterAllWith pageSize x es .areas ≡ afterAll pageSize (x .areas) es
+  areas-with-map = maps.all-with pageSize x long es
+
+  pub clean-is : clean ≡ after pageSize (x .areas) os
+  clean-is = ap (swept pageSize) areas-with-map ∙ sweep-leaves (x .areas) (fresh .fresh) es os comes .1
+
+  -- Build accepts the swept areas, and leaves in the zero map that the run began with just the map that the same run, with each write whole
+  -- that took hold and lent to every operation, keeps
+  pub map-anew : buildInto pageSize clean (x .map) ≡ buildDone (afterWith pageSize x os .map)
+  map-anew =
+      ap (λ (t : Areas). buildInto pageSize t (x .map)) (clean-is ∙ sym (same-with-map x fresh os long .1)) ∙ kept-is-built x fresh os long
+
+  -- and in any other that is long enough, whatever is in it, in the bytes that count
+  module _ (map : List ℕ) (room : Long (x .areas) map) where
+    pub any-map-anew : (buildInto pageSize clean map .number ≡ 0) × Alike (with clean (buildInto pageSize clean map .map)) (afterWith pageSize x os)
+    any-map-anew =
+        subst (λ (t : Areas). (buildInto pageSize t map .number ≡ 0) × Alike (with t (buildInto pageSize t map .map)) (afterWith pageSize x os))
+        (sym clean-is) (
+          ap (λ (o : BuildOutcome). o .number) (maps.builds-anew pageSize (lit≤ tt) x fresh long os map room),
+          maps.alike-anew pageSize (lit≤ tt) x fresh long os map room,
+        )
+
+    -- so each block reads by it as in that run, whole
+    pub reads-by-map-anew : (b : ℕ) (base page : List ℕ)
+        → readByMap pageSize (with clean (buildInto pageSize clean map .map)) b base page ≡ readAt pageSize (after pageSize (x .areas) os) b base page
+    reads-by-map-anew b base page =
+        ap (λ (t : Areas). readByMap pageSize (with t (buildInto pageSize t map .map)) b base page) clean-is
+        ∙ maps.reads-anew pageSize (lit≤ tt) x fresh long os map room b base page
+
+  -- the map that the stops have left is one of these
+  pub left-map-long : Long (x .areas) (afterAllWith pageSize x es .map)
+  left-map-long = rw (maps.all-length pageSize x es) long

@@ -53,6 +53,7 @@ pub mod SlotLaws
 pub mod SpellingLaws
 pub mod StandingLaws
 pub mod StopReads
+pub mod StopMapLaws
 pub mod StopRunLaws
 pub mod StopStore
 pub mod StopStoreLaws

@@ -1,5 +1,4 @@
--- Runs from fresh areas with stopped writes and sweeps among their operations, over any page size to 65,536, from what is proved of stops in
--- general.
+-- Runs from fresh areas with stopped writes and sweeps among their operations, over any page size, from what is proved of stops in general.
 use Prim.Native.Nat.{ℕ, zero, suc, _≤_}
 use native.Mathlib.Omega.{arith}
 use mathlib.Core.Path.{_≡_, refl, sym, ap, _∙_, subst}
@@ -47,7 +46,7 @@ module _ (P : ℕ) where
   comes-are (lost {s} {k} {w} n c) = rw (not-held s k w n) (comes-are c)
   comes-are (tidied c) = comes-are c
 
-  -- there is one such list for every list of events
+  -- there is such a list for every list of events
   pub comes-exist : (s : Areas) (es : List AreaEvent) → (os : List Operation) × ComesTo P s es os
   comes-exist s [] = ([], nothing)
   comes-exist s (whole o ∷ es) = let r = comes-exist _ es in (o ∷ r .0, made (r .1))

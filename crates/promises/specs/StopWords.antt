@@ -11,7 +11,7 @@ use Rattle.sweeping.specs.Sweep.{SweepOutcome, sweepOutcome}
 use Rattle.promises.specs.Runs.{run, write}
 use Rattle.promises.specs.Stops.{Event, whole, stop, sweep}
 use Rattle.promises.specs.RunWords.{Decision, Areas, Lent, Cut, Operation, outcome, cutting, doesBy}
-use Rattle.promises.specs.MapWords.{Mapped}
+use Rattle.promises.specs.MapWords.{Mapped, mapped, cutMapped, doesWithBy}
 
 -- Programs: a write that is "told how many of them to make", and a sweep. The right ones are `told P` and `sweeping P`; `StopsWrong` and
 -- `SweepsWrong` have others.
@@ -56,6 +56,15 @@ happens P s sweep = swept P s
 
 abbrev pub afterAll : ℕ → Areas → List AreaEvent → Areas
 afterAll P s es = run (happens P) s es
+
+-- the same with a map that each operation and each stopped write is lent; a sweep is lent none
+abbrev pub happensWith : ℕ → Mapped → AreaEvent → Mapped
+happensWith P x (whole o) = doesWithBy (mapped P) (cutMapped P) x o
+happensWith P x (stop k w) = stoppedWith P x k w
+happensWith P x sweep = record { areas = swept P (x .areas); map = x .map }
+
+abbrev pub afterAllWith : ℕ → Mapped → List AreaEvent → Mapped
+afterAllWith P x es = run (happensWith P) x es
 
 -- "Which of the two is told by what was stored": a write on a block whose slot was `slot` takes hold if it was told all, or told 1 and the
 -- store that it made was the slot, or the page under a slot that was FULL_REF already

@@ -23,8 +23,9 @@ use Rattle.carrying.specs.CarryOut.{CarryOutcome, carryNumbers}
 use Rattle.carrying.specs.Mapped.{MappedCarry, carryMappedTold}
 use Rattle.carrying.specs.CarryLaws.{map-done}
 use Rattle.blockmap.specs.Pairs.{pairAt}
+use Rattle.blockmap.specs.SetPair.{PairSet}
 use Rattle.blockmap.specs.Pack.{pairOf, byteOf, withPair, setPair}
-use Rattle.promises.specs.Words.{PagesFit, FrameFits, SameFrame}
+use Rattle.promises.specs.Words.{PagesFit, FrameFits, SameFrame, PairFor}
 use Rattle.promises.specs.FrameLaws.{lengths-moved, headers-moved}
 use Rattle.promises.specs.SlotLaws.{image-full}
 use Rattle.promises.specs.ReadLaws.{reads-full}
@@ -43,7 +44,9 @@ use Rattle.promises.specs.MapsWrong.{start, one-byte, one-kind, wrote}
 use Rattle.promises.specs.FreshLaws.{fresh-cell}
 use Rattle.promises.specs.RunLaws.{run-fits}
 use Rattle.promises.specs.StopWords.{ToldProgram, told, leftBy, stopped, swept, slot-stored}
-use Rattle.promises.specs.DemandStops.{same-answer, none-made, page-made, slot-made, all-made, old-or-new, other-blocks, map-kept, whole-or-without}
+use Rattle.promises.specs.DemandStops.{same-answer, none-made, page-made, slot-made, all-made, old-or-new, other-blocks, whole-or-without}
+use Rattle.promises.specs.DemandStops.{same-answer-mapped, map-kept, map-updated}
+use Rattle.promises.specs.DemandTwo.{keeps-map}
 use Rattle.promises.specs.Sample.{sample, sample-fresh, two-blocks, two-places, areas-fit, takes, page, one, two, many, two-fits}
 use Rattle.promises.specs.Sample.{place-ones, stream-one, one-fits, many-fits, one-fit, many-fit, large-ones, to, puts, decides, reads, nothing-stands}
 
@@ -60,7 +63,7 @@ pub record StopsSafely (program : ToldProgram) : Type 0 where
   pub slot-first : (s : Areas) (w : Lent) → (w .decision .kind ≡ 2 → ⊥)
       → (program s w 1 .patch ≡ program s w all .patch) × (program s w 1 .full ≡ s .full)
   pub any-other : (s : Areas) (w : Lent) (k : ℕ) → 1 < k → program s w k ≡ program s w all
-  pub block : (s : Areas) (w : Lent) (k : ℕ) → program s w all .number ≡ 0 → (base page : List ℕ)
+  pub block : (s : Areas) (w : Lent) (k : ℕ) (base page : List ℕ)
       → (readAt pageSize (leftBy (program s w k)) (w .block) base page ≡ readAt pageSize s (w .block) base page)
       ⊎ (readAt pageSize (leftBy (program s w k)) (w .block) base page ≡ readAt pageSize (leftBy (program s w all)) (w .block) base page)
   pub others : (s : Areas) (w : Lent) (k c : ℕ) → (c ≡ w .block → ⊥) → (base page : List ℕ)
@@ -75,7 +78,7 @@ right-stops =
       page-first = page-made;
       slot-first = slot-made;
       any-other = all-made;
-      block = λ s w k e base page. old-or-new s w e k base page;
+      block = old-or-new;
       others = λ s w k c n base page. other-blocks s w k c n base page;
     }
 
@@ -175,7 +178,7 @@ pub not-slot-first : StopsSafely slotFirst → ⊥
 unfolding slotFirst run
 not-slot-first claim =
     ⊎-elim (λ e. omega (arith, wrong, old-first, first-read e)) (λ e. omega (arith, wrong, new-first, first-read e))
-    (claim .block sample (to 0 (many 1)) 1 large-done two two)
+    (claim .block sample (to 0 (many 1)) 1 two two)
   where
     stops : leftBy (slotFirst sample (to 0 (many 1)) 1) ≡ record { patch = next pageSize sample (to 0 (many 1)) .patch; full = sample .full }
     stops = rw (eq-eqb (outcome pageSize sample (to 0 (many 1)) .number) 0 large-done)
@@ -218,7 +221,7 @@ pub not-place-first : StopsSafely placeFirst → ⊥
 unfolding placeFirst run
 not-place-first claim =
     ⊎-elim (λ e. omega (arith, wrong, old, first-read e)) (λ e. omega (arith, wrong, new, first-read e))
-    (claim .block (after pageSize sample full-first) (to 0 one) 1 small-done [] two)
+    (claim .block (after pageSize sample full-first) (to 0 one) 1 [] two)
   where
     stops : leftBy (placeFirst (after pageSize sample full-first) (to 0 one) 1)
         ≡ record {
@@ -287,24 +290,47 @@ ToldMapped = Mapped → Lent → ℕ → MappedCarry
 abbrev pub toldMapped : ToldMapped
 toldMapped x w k = carryMappedTold pageSize (x .areas .patch) (x .areas .full) (x .map) (w .block) (w .decision) k
 
-abbrev pub KeepsMaps : ToldMapped → Type 0
-KeepsMaps program = (x : Mapped) (w : Lent) (k : ℕ) → k ≤ 1 → program x w k .map ≡ x .map
+pub record KeepsMaps (program : ToldMapped) : Type 0 where
+  pub kept : (x : Mapped) (w : Lent) (k : ℕ) → k ≤ 1 → program x w k .map ≡ x .map
+  pub any-other : (x : Mapped) (w : Lent) (k : ℕ) → 1 < k → program x w k ≡ program x w all
+  pub answer : (x : Mapped) (w : Lent) (k : ℕ) → carryNumbers (program x w k .areas) ≡ carryNumbers (program x w all .areas)
+  -- told all and accepted, the block's own pair is that of its kind, and nothing else of the map changes
+  pub pair : (x : Mapped) (w : Lent) → program x w all .areas .number ≡ 0
+      → (v : ℕ) × PairFor (program x w all .areas .kind) v × PairSet (x .map) (w .block) v (program x w all .map)
 
 pub right-keeps-maps : KeepsMaps toldMapped
-right-keeps-maps x w k h = map-kept (x .areas .patch) (x .areas .full) (x .map) (w .block) (w .decision) k h
+right-keeps-maps =
+    record {
+      kept = λ x w k h. map-kept (x .areas .patch) (x .areas .full) (x .map) (w .block) (w .decision) k h;
+      any-other = λ x w k h. map-updated (x .areas .patch) (x .areas .full) (x .map) (w .block) (w .decision) k h;
+      answer = λ x w k. same-answer-mapped (x .areas .patch) (x .areas .full) (x .map) (w .block) (w .decision) k;
+      pair = λ x w e. keeps-map (x .areas .patch) (x .areas .full) (x .map) (w .block) (w .decision) e;
+    }
+
+-- `one` at block 0 sets the first pair to 2
+one-set : mapped pageSize start (to 0 one) .map ≡ 2 ∷ []
+unfolding run setPair withPair byteOf pairOf
+one-set =
+    ap (λ (o : MappedCarry). o .map) (wrote [] 0 0 (lit< tt)) ∙ ap (λ (k : ℕ). setPair (0 ∷ []) 0 (pairOf k)) (one-kind [] 0 (lit< tt))
+
+not-set : _≡_ {A = List ℕ} (2 ∷ []) (0 ∷ []) → ⊥
+not-set e = let z : _≡_ {A = ℕ} 2 0 = ap (λ (l : List ℕ). getD l 0 0) e in omega arith
 
 -- the pair set with the first store
 unfoldable pub setsEarly : ToldMapped
 setsEarly x w k = record { areas = toldMapped x w k .areas; map = cond (eqb k 0) (x .map) (toldMapped x w all .map) }
 
 pub not-sets-early : KeepsMaps setsEarly → ⊥
-unfolding setsEarly run setPair withPair byteOf pairOf
-not-sets-early claim =
-    let e = claim start (to 0 one) 1 (lit≤ tt) in
-    let set : mapped pageSize start (to 0 one) .map ≡ 2 ∷ [] =
-    ap (λ (o : MappedCarry). o .map) (wrote [] 0 0 (lit< tt)) ∙ ap (λ (k : ℕ). setPair (0 ∷ []) 0 (pairOf k)) (one-kind [] 0 (lit< tt)) in
-    let z : _≡_ {A = ℕ} 2 0 = ap (λ (l : List ℕ). getD l 0 0) (sym set ∙ e) in
-    omega arith
+unfolding setsEarly run
+not-sets-early claim = not-set (sym one-set ∙ claim .kept start (to 0 one) 1 (lit≤ tt))
+
+-- the pair set only by the number 2, where any number above 1 is all
+unfoldable pub setsAtTwo : ToldMapped
+setsAtTwo x w k = record { areas = toldMapped x w k .areas; map = cond (eqb k 2) (toldMapped x w k .map) (x .map) }
+
+pub not-sets-at-two : KeepsMaps setsAtTwo → ⊥
+unfolding setsAtTwo run
+not-sets-at-two claim = not-set (sym one-set ∙ sym (ap (λ (o : MappedCarry). o .map) (claim .any-other start (to 0 one) 3 (lit< tt))))
 
 -- A caller who reads by a map from before a stop. Block 0 holds a full page, and its pair is 1. A write of `one` is stopped after its slot and
 -- swept, and Read gives `one`; by the old pair the block reads as zeros. So a map is built anew after a sweep

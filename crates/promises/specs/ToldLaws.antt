@@ -9,6 +9,7 @@ use borrow.Author.Tests.{eq-eqb, ne-eqb, le-ltb}
 use Rattle.layout.specs.Refusals.{Row}
 use Rattle.blockmap.specs.Calls.{shortMap}
 use Rattle.store.specs.Block.{slotOf}
+use Rattle.reading.specs.Read.{ReadOutcome}
 use Rattle.carrying.specs.Puts.{Decision, putSlot, putPlace, put, puts, carried, all}
 use Rattle.carrying.specs.CarryOut.{carryNumbers, CarryOutcome, carryBy}
 use Rattle.carrying.specs.Mapped.{carryMappedTold, carryMappedOutcome}
@@ -87,18 +88,28 @@ module _ (P : ℕ) (s : Areas) (w : Lent) where
           (ap (λ (t : Areas). t .patch) x ∙ sym (ap (λ (t : Areas). t .patch) y), ap (λ (t : Areas). t .full) x)
       go (suc n) e = (ap (λ (t : Areas). t .patch) (unmade e 1 ∙ sym (unmade e all)), ap (λ (t : Areas). t .full) (unmade e 1))
 
-  -- How the block reads after it
+  -- How the block reads after it, accepted and refused
 
-  module _ (done : outcome P s w .number ≡ 0) (k : ℕ) (base page : List ℕ) where
+  module _ (k : ℕ) (base page : List ℕ) where
     iff : (takesHold k (w .decision) (slotOf (s .patch) (w .block)) ≡ true) ↔ Holds s k w
     iff = holds-iff k (w .decision) (slotOf (s .patch) (w .block))
+
+    abbrev read : Areas → ReadOutcome
+    read t = readAt P t (w .block) base page
 
     by : (t : Bool) → takesHold k (w .decision) (slotOf (s .patch) (w .block)) ≡ t
         → readAt P (stopped P s k w) (w .block) base page
         ≡ cond t (readAt P (next P s w) (w .block) base page) (readAt P s (w .block) base page)
-    by t e =
-        stop-reads P s w (eq-eqb (outcome P s w .number) 0 done) base page k
-        ∙ ap (λ (u : Bool). cond u (readAt P (next P s w) (w .block) base page) (readAt P s (w .block) base page)) e
+    by t e = go (outcome P s w .number) refl
+      where
+        same : {n : ℕ} → outcome P s w .number ≡ suc n → (u : Bool) → read (stopped P s k w) ≡ cond u (read (next P s w)) (read s)
+        same r true = ap read (unmade r k ∙ sym (unmade r all))
+        same r false = ap read (unmade r k)
+
+        go : (n : ℕ) → outcome P s w .number ≡ n → read (stopped P s k w) ≡ cond t (read (next P s w)) (read s)
+        go zero done =
+            stop-reads P s w (eq-eqb (outcome P s w .number) 0 done) base page k ∙ ap (λ (u : Bool). cond u (read (next P s w)) (read s)) e
+        go (suc n) r = same r t
 
     pub reads-new : Holds s k w → readAt P (stopped P s k w) (w .block) base page ≡ readAt P (next P s w) (w .block) base page
     reads-new h = by true (iff .1 h)
