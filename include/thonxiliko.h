@@ -216,7 +216,8 @@
  * from fresh areas, and that others came after it or none. After the sweep both areas are, byte for
  * byte, those of the run with that write whole, or those of the run without it. Without it, if it
  * was told 0, or told 1 with FULL_REF on a block whose slot was not FULL_REF; else with it. So
- * after a trip: sweep, build the map, and write again what may be missing.
+ * after a trip: sweep, build the map, and write again what may be missing; on files with a sync
+ * before the sweep and after it, as below.
  *
  *   - BUILD THE MAP ANEW AFTER A SWEEP. The write that was stopped has not set its pair. Where a
  *     FULL_REF block was to become PATCH, was told 1 and was swept, its pair is still 1, its place
@@ -234,6 +235,10 @@
  *       1. told 1, then sync the area that it wrote: for FULL_REF the full area, else the patch
  *          area;
  *       2. the same told all, then sync both areas. Only then comes the next write.
+ *
+ *     AFTER A KILL SYNC THE PATCH AREA BEFORE THE SWEEP, and the full area after it. A slot that
+ *     the dead process stored may not be on disk yet. If the zeros of the sweep get there first and
+ *     the power goes, the disk has FULL_REF over zeros, which no call notices.
  *
  *     A write told 1 and then the same told all are together the whole write. This trusts that what
  *     was synced is on disk, and that a disk writes 512 bytes, a slot, whole or not at all. A page

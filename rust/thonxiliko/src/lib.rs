@@ -204,7 +204,9 @@ impl Pair {
 /// Told [`Stores::One`] and then, the same, [`Stores::All`], a write is whole. That is the way to make a
 /// stop safe where the areas are mapped files: what is stored first need not be on disk first. Between
 /// the two calls sync the area that was written, the full area for [`Kind::Full`], else the patch area,
-/// and afterwards the other one.
+/// and afterwards the other one. After a kill sync the patch area before the [`sweep`], and the full
+/// area after it: a slot that the dead process stored may be in memory only, and the zeros of the sweep
+/// must not be on disk before it.
 #[derive(Clone, Copy, Debug, PartialEq, Eq, Hash)]
 pub enum Stores {
     /// None: nothing changes.
