@@ -9,7 +9,8 @@ use std::path::{Path, PathBuf};
 
 use crate::decided::{Decided, Files};
 use crate::folder::{
-    copy, make_like, must_be_empty, relation_file, same_bytes, Listing, RelationFile,
+    copy, make_like, must_be_empty, must_be_folder, relation_file, same_bytes, Listing,
+    RelationFile,
 };
 use crate::progress::Progress;
 use crate::segment::{Areas, Counts, Day};
@@ -73,6 +74,8 @@ impl Folders<'_> {
 
     /// Decides what every changed segment would take. Nothing is stored.
     pub fn decide(&self, progress: &mut Progress) -> Outcome<Vec<DecidedSegment>> {
+        must_be_folder(self.base)?;
+        self.noon.map_or(Ok(()), must_be_folder)?;
         let mut segments = Vec::new();
         let mut pages = 0;
         for path in Listing::of(self.changed)?.files {
