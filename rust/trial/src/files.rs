@@ -150,6 +150,20 @@ impl AreaFiles {
         build(self.patch.bytes(), self.full.bytes(), &mut map)
     }
 
+    fn list(&self, path: &Path) -> Outcome<()> {
+        self.check()?;
+        for block in 0..self.blocks() {
+            let kind = match self.kind(block)? {
+                Kind::Empty => "EMPTY",
+                Kind::Patch => "PATCH",
+                Kind::Full => "full",
+            };
+            let place = if self.place(block).is_some() { "place" } else { "-" };
+            println!("{} {block} {kind} {place}", path.display());
+        }
+        Ok(())
+    }
+
     /// The blocks whose place holds something though their slots do not refer to it. Any other fault is an
     /// error.
     fn stray_blocks(&self) -> Outcome<Vec<u64>> {
@@ -186,20 +200,6 @@ impl AreaFiles {
     }
 }
 
-/// Does something with the area files of each kept segment, and names the segment if that fails.
-fn with_segments(
-    kept: &Path,
-    mut act: impl FnMut(&Path, AreaFiles) -> Outcome<()>,
-) -> Outcome<usize> {
-    let segments = kept_segments(kept)?;
-    for path in &segments {
-        AreaFiles::open(kept, path)
-            .and_then(|files| act(path, files))
-            .map_err(|problem| format!("{}: {problem}", path.display()))?;
-    }
-    Ok(segments.len())
-}
-
 /// Sweeps one kept segment, in which a write was stopped, and tells what was removed. The others are left
 /// alone: a stray page there may be one whose slot was lost.
 pub fn sweep_file(kept: &Path, path: &Path) -> Outcome<()> {
@@ -217,19 +217,11 @@ pub fn sweep_file(kept: &Path, path: &Path) -> Outcome<()> {
 /// Lists every block of every kept segment: its file, its number, its kind, and whether it has a place in
 /// the full area. Build must accept each segment.
 pub fn list(kept: &Path) -> Outcome<()> {
-    with_segments(kept, |path, files| {
-        files.check()?;
-        for block in 0..files.blocks() {
-            let kind = match files.kind(block)? {
-                Kind::Empty => "EMPTY",
-                Kind::Patch => "PATCH",
-                Kind::Full => "full",
-            };
-            let place = if files.place(block).is_some() { "place" } else { "-" };
-            println!("{} {block} {kind} {place}", path.display());
-        }
-        Ok(())
-    })?;
+    for path in kept_segments(kept)? {
+        AreaFiles::open(kept, &path)
+            .and_then(|files| files.list(&path))
+            .map_err(|problem| format!("{}: {problem}", path.display()))?;
+    }
     Ok(())
 }
 

@@ -430,6 +430,20 @@ mod tests {
         );
     }
 
+    /// Over a base that is not there every page would be new, and at a noon that is not there none.
+    #[test]
+    fn a_mistyped_folder_is_refused() {
+        let place = Place::new("mistyped");
+        folders(&place);
+        let at = |name: &str| place.0.join(name);
+        let (base, none, changed) = (at("base"), at("none"), at("new"));
+        for (base, noon) in [(&none, None), (&base, Some(none.as_path()))] {
+            let folders = Folders { base, noon, changed: &changed };
+            let problem = folders.decide(&mut Progress::new(false)).err().expect("refused");
+            assert_eq!(problem.to_string(), format!("{}: this is no folder", none.display()));
+        }
+    }
+
     /// Yesterday segment 11 was changed, and today it is as in the base again: stored into yesterday's
     /// folder, yesterday's pages would come back. So would a file of yesterday's in a rebuilt folder.
     #[test]
