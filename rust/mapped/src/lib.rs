@@ -21,6 +21,7 @@ extern "C" {
         offset: c_long,
     ) -> *mut c_void;
     fn msync(addr: *mut c_void, length: usize, flags: c_int) -> c_int;
+    fn flock(fd: c_int, operation: c_int) -> c_int;
     fn munmap(addr: *mut c_void, length: usize) -> c_int;
     fn raise(signal: c_int) -> c_int;
 }
@@ -30,50 +31,59 @@ const PROT_READ: c_int = 1;
 const PROT_WRITE: c_int = 2;
 const MAP_SHARED: c_int = 0x01;
 const MS_SYNC: c_int = 4;
+const LOCK_EX: c_int = 2;
+const LOCK_NB: c_int = 4;
+const LOCK_UN: c_int = 8;
 
 /// The signal that no process can catch or put off.
 pub const SIGKILL: c_int = 9;
 
-/// One area in a file, mapped as a whole. As long as it stands nobody else may write to the file or cut
+/// One area in a file, mapped as a whole. As long as it stands the file is locked: there is no second area
+/// of it, here or in another process. Whoever does not ask for the lock must not write to the file or cut
 /// it. An absent area has no file and no bytes.
 pub struct Area {
     start: *mut u8,
     length: usize,
+    /// Held for its lock.
+    file: Option<File>,
 }
 
 impl Area {
     /// A new file of so many zeros, which is one hole.
     pub fn create(path: &Path, length: usize) -> io::Result<Area> {
         let file = OpenOptions::new().read(true).write(true).create_new(true).open(path)?;
+        lock(&file)?;
         file.set_len(length as u64)?;
-        Area::of(&file, length)
+        Area::of(file, length)
     }
 
-    /// A file that is there, with all its bytes.
+    /// A file that is there, with all its bytes. It is refused while there is another area of the file.
     pub fn open(path: &Path) -> io::Result<Area> {
         let file = OpenOptions::new().read(true).write(true).open(path)?;
+        lock(&file)?;
         let length = usize::try_from(file.metadata()?.len())
             .map_err(|_| io::Error::new(io::ErrorKind::Other, "more bytes than can be mapped"))?;
-        Area::of(&file, length)
+        Area::of(file, length)
     }
 
-    /// A file if it is there, else an absent area.
+    /// A file if it is there, else an absent area. A file that cannot be looked at is not absent.
     pub fn open_or_absent(path: &Path) -> io::Result<Area> {
-        if path.exists() {
-            Area::open(path)
-        } else {
-            Ok(Area::absent())
+        match Area::open(path) {
+            Err(error) if error.kind() == io::ErrorKind::NotFound => Ok(Area::absent()),
+            opened => opened,
         }
     }
 
     pub fn absent() -> Area {
-        Area { start: ptr::NonNull::dangling().as_ptr(), length: 0 }
+        Area { start: ptr::NonNull::dangling().as_ptr(), length: 0, file: None }
     }
 
-    /// The file stays mapped when its handle is gone.
-    fn of(file: &File, length: usize) -> io::Result<Area> {
+    /// Maps a file that is locked.
+    fn of(file: File, length: usize) -> io::Result<Area> {
         if length == 0 {
-            return Ok(Area::absent()); // nothing cannot be mapped
+            let mut area = Area::absent(); // nothing cannot be mapped
+            area.file = Some(file);
+            return Ok(area);
         }
         let access = PROT_READ | PROT_WRITE;
         // SAFETY: a new mapping, of bytes that the file has, at an address of the system's choice.
@@ -82,7 +92,7 @@ impl Area {
         if start as isize == -1 {
             return Err(io::Error::last_os_error());
         }
-        Ok(Area { start: start.cast(), length })
+        Ok(Area { start: start.cast(), length, file: Some(file) })
     }
 
     pub fn bytes(&self) -> &[u8] {
@@ -114,7 +124,25 @@ impl Drop for Area {
             // SAFETY: mapped with this length; no slice of it is alive.
             unsafe { munmap(self.start.cast(), self.length) };
         }
+        if let Some(file) = &self.file {
+            // By hand: a child that is just being started may have the handle too.
+            // SAFETY: a handle that is open.
+            unsafe { flock(file.as_raw_fd(), LOCK_UN) };
+        }
     }
+}
+
+/// Locks a file for one area, without waiting. The lock goes with the process, however it ends.
+fn lock(file: &File) -> io::Result<()> {
+    // SAFETY: a handle that is open.
+    if unsafe { flock(file.as_raw_fd(), LOCK_EX | LOCK_NB) } == 0 {
+        return Ok(());
+    }
+    let error = io::Error::last_os_error();
+    if error.kind() == io::ErrorKind::WouldBlock {
+        return Err(io::Error::new(error.kind(), "there is another area of this file"));
+    }
+    Err(error)
 }
 
 /// Ends this process on the spot, as a kill from elsewhere would: nothing is flushed, dropped or undone.
@@ -145,5 +173,34 @@ mod tests {
         assert_eq!(again.bytes()[9_999], 7);
         assert_eq!(Area::open_or_absent(&path).expect("no file").bytes(), []);
         assert!(Area::absent().sync().is_ok());
+    }
+
+    /// Two areas of one file would be two names for the same bytes, both of which may be written.
+    #[test]
+    fn a_file_has_one_area_at_a_time() {
+        for length in [0, 10_000] {
+            let name = format!("mapped-lock-{}-{length}", std::process::id());
+            let path = std::env::temp_dir().join(name);
+            let area = Area::create(&path, length).expect("a new file");
+            for second in [Area::open(&path), Area::open_or_absent(&path)] {
+                let kind = second.err().map(|error| error.kind());
+                assert_eq!(kind, Some(io::ErrorKind::WouldBlock), "{length} bytes");
+            }
+            drop(area);
+            let second = Area::open(&path).expect("nobody else has it");
+            assert!(Area::open(&path).is_err());
+            drop(second);
+            fs::remove_file(&path).expect("removed");
+        }
+    }
+
+    /// What cannot be looked at is not taken for absent.
+    #[test]
+    fn only_a_missing_file_is_absent() {
+        let path = std::env::temp_dir().join(format!("mapped-file-{}", std::process::id()));
+        fs::write(&path, [1]).expect("a file");
+        assert!(Area::open_or_absent(&path.join("below")).is_err());
+        fs::remove_file(&path).expect("removed");
+        assert!(Area::open_or_absent(&path).is_ok());
     }
 }

@@ -6,11 +6,11 @@ use std::path::Path;
 
 use mapped::{end_now, Area};
 use thonxiliko::{
-    build, carry_out, compare, judge, map_len, read, sweep, Decision, Kind, Stores,
-    FULL_HEADER_SIZE, PAGE_SIZE, PATCH_HEADER_SIZE, PAYLOAD_SIZE, SLOT_SIZE,
+    build, carry_out, compare, judge, map_len, read, sweep, BuildRefusal, Decision, Kind, Refusal,
+    Stores, FULL_HEADER_SIZE, PAGE_SIZE, PATCH_HEADER_SIZE, PAYLOAD_SIZE, SLOT_SIZE,
 };
 
-use crate::folder::page_of;
+use crate::folder::{must_be_folder, page_of, page_there};
 use crate::kept::{area_paths, kept_segments};
 use crate::Outcome;
 
@@ -24,16 +24,27 @@ pub struct Block<'p> {
 }
 
 impl Block<'_> {
+    /// The page in the base, which may have no such file or page; but it must be there itself.
     fn base_page(&self) -> Outcome<Vec<u8>> {
+        must_be_folder(self.base)?;
         page_of(&self.base.join(self.path), self.number)
     }
 
-    /// Writes a page of a file, zeros if the file has no such page. Told fewer stores than all, this
-    /// process ends right after them, as it would if the machine tripped there.
+    /// A page of a file that must have it, unless it is the block's own in the base: zeros are that, too.
+    fn page_from(&self, from: &Path, page: u64) -> Outcome<Vec<u8>> {
+        if page != self.number || from != self.base.join(self.path) {
+            return page_there(from, page);
+        }
+        let mut page = self.base_page()?;
+        page.resize(PAGE_SIZE, 0);
+        Ok(page)
+    }
+
+    /// Writes a page of a file. Told fewer stores than all, this process ends right after them, as it
+    /// would if the machine tripped there.
     pub fn write(&self, from: &Path, page: u64, stores: Stores) -> Outcome<()> {
         let mut files = AreaFiles::open(self.kept, self.path)?;
-        let (base, mut page) = (self.base_page()?, page_of(from, page)?);
-        page.resize(PAGE_SIZE, 0);
+        let (base, page) = (self.base_page()?, self.page_from(from, page)?);
         let mut payload = [0; PAYLOAD_SIZE];
         let decision = compare(&base, &page, &mut payload)?;
         let (held, takes) = (files.kind(self.number)?, decision.kind());
@@ -84,8 +95,11 @@ pub struct AreaFiles {
 impl AreaFiles {
     pub fn open(kept: &Path, path: &Path) -> Outcome<AreaFiles> {
         let (patch, full) = area_paths(kept, path);
-        let patch = Area::open(&patch).map_err(|error| format!("{}: {error}", patch.display()))?;
-        Ok(AreaFiles { patch, full: Area::open_or_absent(&full)? })
+        let named = |path: &Path, error| format!("{}: {error}", path.display());
+        Ok(AreaFiles {
+            patch: Area::open(&patch).map_err(|error: io::Error| named(&patch, error))?,
+            full: Area::open_or_absent(&full).map_err(|error| named(&full, error))?,
+        })
     }
 
     fn blocks(&self) -> u64 {
@@ -131,15 +145,39 @@ impl AreaFiles {
     }
 
     /// Checks every block, as Build does.
-    fn check(&self) -> Outcome<()> {
+    fn check(&self) -> Result<(), BuildRefusal> {
         let mut map = vec![0; map_len(self.blocks())];
-        Ok(build(self.patch.bytes(), self.full.bytes(), &mut map)?)
+        build(self.patch.bytes(), self.full.bytes(), &mut map)
     }
 
-    /// The blocks whose place holds something though their slots do not refer to it.
-    fn stray_blocks(&self) -> Outcome<Vec<u64>> {
-        let mut stray = Vec::new();
+    fn list(&self, path: &Path) -> Outcome<()> {
+        self.check()?;
         for block in 0..self.blocks() {
+            let kind = match self.kind(block)? {
+                Kind::Empty => "EMPTY",
+                Kind::Patch => "PATCH",
+                Kind::Full => "full",
+            };
+            let place = if self.place(block).is_some() { "place" } else { "-" };
+            println!("{} {block} {kind} {place}", path.display());
+        }
+        Ok(())
+    }
+
+    /// The blocks whose place holds something though their slots do not refer to it. Any other fault is an
+    /// error.
+    fn stray_blocks(&self) -> Outcome<Vec<u64>> {
+        match self.check() {
+            Ok(()) => return Ok(Vec::new()),
+            Err(fault) if fault.refusal == Refusal::StrayPage => {}
+            Err(fault) => return Err(fault.into()),
+        }
+        let mut stray = Vec::new();
+        let mut page = vec![0; PAGE_SIZE];
+        for block in 0..self.blocks() {
+            // Build stops at the first stray page: what is at fault behind it shows here.
+            self.read(block, &[], &mut page)
+                .map_err(|problem| format!("block {block}: {problem}"))?;
             let place = self.place(block).unwrap_or(&[]);
             if self.kind(block)? != Kind::Full && place.iter().any(|byte| *byte != 0) {
                 stray.push(block);
@@ -149,8 +187,12 @@ impl AreaFiles {
     }
 
     /// Sweeps, and gives the blocks from whose places a page was removed. Then Build must accept the areas.
+    /// With any other fault than stray pages nothing is changed.
     fn sweep(&mut self) -> Outcome<Vec<u64>> {
         let stray = self.stray_blocks()?;
+        // A killed process may have left a slot that is not on disk. It must be there before its page
+        // goes, or after a power cut the old FULL_REF slot is over zeros.
+        self.patch.sync()?;
         sweep(self.patch.bytes(), self.full.bytes_mut())?;
         self.full.sync()?;
         self.check()?;
@@ -158,50 +200,28 @@ impl AreaFiles {
     }
 }
 
-/// Does something with the area files of each kept segment, and names the segment if that fails.
-fn with_segments(
-    kept: &Path,
-    mut act: impl FnMut(&Path, AreaFiles) -> Outcome<()>,
-) -> Outcome<usize> {
-    let segments = kept_segments(kept)?;
-    for path in &segments {
-        AreaFiles::open(kept, path)
-            .and_then(|files| act(path, files))
-            .map_err(|problem| format!("{}: {problem}", path.display()))?;
+/// Sweeps one kept segment, in which a write was stopped, and tells what was removed. The others are left
+/// alone: a stray page there may be one whose slot was lost.
+pub fn sweep_file(kept: &Path, path: &Path) -> Outcome<()> {
+    let name = path.display();
+    let removed = AreaFiles::open(kept, path)
+        .and_then(|mut files| files.sweep())
+        .map_err(|problem| format!("{name}: {problem}"))?;
+    for block in &removed {
+        println!("{name}, block {block}: a page without a slot, removed");
     }
-    Ok(segments.len())
-}
-
-/// Sweeps every kept segment, and tells what was removed.
-pub fn sweep_all(kept: &Path) -> Outcome<()> {
-    let mut removed = 0;
-    let segments = with_segments(kept, |path, mut files| {
-        for block in files.sweep()? {
-            println!("{}, block {block}: a page without a slot, removed", path.display());
-            removed += 1;
-        }
-        Ok(())
-    })?;
-    println!("segments swept: {segments}, pages removed: {removed}; Build accepts each segment");
+    println!("{name}: swept, pages removed: {}; Build accepts it", removed.len());
     Ok(())
 }
 
 /// Lists every block of every kept segment: its file, its number, its kind, and whether it has a place in
 /// the full area. Build must accept each segment.
 pub fn list(kept: &Path) -> Outcome<()> {
-    with_segments(kept, |path, files| {
-        files.check()?;
-        for block in 0..files.blocks() {
-            let kind = match files.kind(block)? {
-                Kind::Empty => "EMPTY",
-                Kind::Patch => "PATCH",
-                Kind::Full => "full",
-            };
-            let place = if files.place(block).is_some() { "place" } else { "-" };
-            println!("{} {block} {kind} {place}", path.display());
-        }
-        Ok(())
-    })?;
+    for path in kept_segments(kept)? {
+        AreaFiles::open(kept, &path)
+            .and_then(|files| files.list(&path))
+            .map_err(|problem| format!("{}: {problem}", path.display()))?;
+    }
     Ok(())
 }
 
@@ -246,6 +266,10 @@ mod tests {
             let mut payload = [0; PAYLOAD_SIZE];
             let decision = compare(&[], page, &mut payload).expect("a page");
             self.files().write_safely(block, &decision).expect("a sound store");
+        }
+
+        fn refused_sweep(&self) -> String {
+            sweep_file(&self.0, FILE.as_ref()).expect_err("refused").to_string()
         }
 
         /// The bytes of both files.
@@ -296,7 +320,7 @@ mod tests {
         assert_eq!(tripped.files().sweep().expect("swept"), [0, 2]);
         assert!(tripped.bytes() == wanted.bytes());
         assert_eq!(tripped.files().sweep().expect("swept"), []);
-        assert!(sweep_all(&tripped.0).is_ok() && list(&tripped.0).is_ok());
+        assert!(sweep_file(&tripped.0, FILE.as_ref()).is_ok() && list(&tripped.0).is_ok());
     }
 
     /// What cannot be swept is left, and the tool says why.
@@ -306,9 +330,77 @@ mod tests {
         kept.write_told(1, &SEVENS, Stores::One);
         kept.files().patch.bytes_mut()[PATCH_HEADER_SIZE + 3 * SLOT_SIZE] = 2; // it has no place
         let before = kept.bytes();
-        let problem = sweep_all(&kept.0).expect_err("refused").to_string();
-        assert_eq!(problem, "base/1/11: refused 8: the full area has no place for the block");
+        assert_eq!(
+            kept.refused_sweep(),
+            "base/1/11: block 3: refused 8: the full area has no place for the block"
+        );
         assert!(kept.bytes() == before);
         assert!(kept.files().kind(4).is_err());
+    }
+
+    /// A payload that is not sound is no matter to the library's sweep. Here nothing is swept then, be it
+    /// before the stray page, where Build sees it, or behind it.
+    #[test]
+    fn an_unsound_payload_keeps_from_sweeping() {
+        for (block, problem) in [
+            (0, "base/1/11: refused 7: the payload is not sound (block 0, offset 2)"),
+            (2, "base/1/11: block 2: refused 7: the payload is not sound (offset 2)"),
+        ] {
+            let kept = Kept::new("payload");
+            kept.write_told(1, &SEVENS, Stores::One);
+            kept.write_safely(block, &small());
+            let at = PATCH_HEADER_SIZE + SLOT_SIZE * block as usize;
+            kept.files().patch.bytes_mut()[at + 2] += 1; // a jump too many behind its one entry
+            let before = kept.bytes();
+            assert_eq!(kept.refused_sweep(), problem);
+            assert!(kept.bytes() == before);
+        }
+    }
+
+    /// Only the named segment is swept: elsewhere no stop is known, and the page may have lost its slot.
+    #[test]
+    fn other_segments_are_not_swept() {
+        let kept = Kept::new("others");
+        kept.write_told(1, &SEVENS, Stores::One);
+        let (patch, full) = area_paths(&kept.0, Path::new(FILE));
+        let other = area_paths(&kept.0, Path::new("base/1/12"));
+        fs::copy(patch, &other.0).expect("copied");
+        fs::copy(full, &other.1).expect("copied");
+        let before = fs::read(&other.1).expect("a file");
+        sweep_file(&kept.0, FILE.as_ref()).expect("swept");
+        assert!(kept.files().check().is_ok());
+        assert!(fs::read(&other.1).expect("a file") == before);
+        assert!(sweep_file(&kept.0, "base/1/13".as_ref()).is_err());
+    }
+
+    /// A mistyped name is not taken for zeros. What the base does not have is zeros, for the block's own
+    /// page too, but for no other.
+    #[test]
+    fn a_mistyped_base_or_page_is_refused() {
+        let kept = Kept::new("mistyped");
+        let (base, from, to) = (kept.0.join("b"), kept.0.join("from"), kept.0.join("to"));
+        fs::create_dir_all(&base).expect("a folder");
+        fs::write(&from, SEVENS).expect("a file");
+        let block = Block { base: &base, kept: &kept.0, path: FILE.as_ref(), number: 1 };
+        block.write(&from, 0, Stores::All).expect("written");
+        let before = kept.bytes();
+
+        for wrong in [kept.0.join("none"), from.clone()] {
+            let elsewhere = Block { base: &wrong, ..block };
+            let problem = format!("{}: this is no folder", wrong.display());
+            let written = elsewhere.write(&from, 0, Stores::All);
+            assert_eq!(written.expect_err("no base").to_string(), problem);
+            assert_eq!(elsewhere.read(&to).expect_err("no base").to_string(), problem);
+        }
+        let own = base.join(FILE);
+        for (file, page) in [(&kept.0.join("none"), 0), (&from, 1), (&own, 0)] {
+            let problem = block.write(file, page, Stores::All).expect_err("no page").to_string();
+            let wanted = format!("the file is not there, or has no page {page}");
+            assert_eq!(problem, format!("{}: {wanted}", file.display()));
+        }
+        assert!(kept.bytes() == before && !to.exists());
+        block.write(&own, 1, Stores::All).expect("as in the base");
+        block.read(&to).expect("read");
+        assert!(fs::read(&to).expect("a page") == [0; PAGE_SIZE]);
     }
 }

@@ -2,7 +2,7 @@
 
 use std::collections::BTreeSet;
 use std::fs::{self, File};
-use std::io::{BufReader, Read, Seek, SeekFrom};
+use std::io::{BufReader, ErrorKind, Read, Seek, SeekFrom};
 use std::path::{Path, PathBuf};
 
 use thonxiliko::PAGE_SIZE;
@@ -91,10 +91,13 @@ pub struct Pages {
 
 impl Pages {
     pub fn open(path: &Path) -> Outcome<Pages> {
-        if !path.exists() {
-            return Ok(Pages { file: None, count: 0 });
-        }
-        let file = File::open(path)?;
+        let file = match File::open(path) {
+            Ok(file) => file,
+            Err(error) if error.kind() == ErrorKind::NotFound => {
+                return Ok(Pages { file: None, count: 0 });
+            }
+            Err(error) => return Err(format!("{}: {error}", path.display()).into()),
+        };
         let length = file.metadata()?.len();
         if length % PAGE_SIZE as u64 != 0 {
             return Err(format!("{}: {length} bytes are no whole pages", path.display()).into());
@@ -133,6 +136,24 @@ pub fn page_of(path: &Path, number: u64) -> Outcome<Vec<u8>> {
         pages.next_page(&mut page)?;
     }
     Ok(page)
+}
+
+/// One page that a file must have.
+pub fn page_there(path: &Path, number: u64) -> Outcome<Vec<u8>> {
+    let page = page_of(path, number)?;
+    if page.is_empty() {
+        let path = path.display();
+        return Err(format!("{path}: the file is not there, or has no page {number}").into());
+    }
+    Ok(page)
+}
+
+/// Refuses what is no folder: every file of it would be taken for one that is not there.
+pub fn must_be_folder(folder: &Path) -> Outcome<()> {
+    if !folder.is_dir() {
+        return Err(format!("{}: this is no folder", folder.display()).into());
+    }
+    Ok(())
 }
 
 pub fn same_bytes(one: &Path, other: &Path) -> Outcome<bool> {

@@ -9,7 +9,8 @@ use std::path::{Path, PathBuf};
 
 use crate::decided::{Decided, Files};
 use crate::folder::{
-    copy, make_like, must_be_empty, relation_file, same_bytes, Listing, RelationFile,
+    copy, make_like, must_be_empty, must_be_folder, relation_file, same_bytes, Listing,
+    RelationFile,
 };
 use crate::progress::Progress;
 use crate::segment::{Areas, Counts, Day};
@@ -73,6 +74,8 @@ impl Folders<'_> {
 
     /// Decides what every changed segment would take. Nothing is stored.
     pub fn decide(&self, progress: &mut Progress) -> Outcome<Vec<DecidedSegment>> {
+        must_be_folder(self.base)?;
+        self.noon.map_or(Ok(()), must_be_folder)?;
         let mut segments = Vec::new();
         let mut pages = 0;
         for path in Listing::of(self.changed)?.files {
@@ -425,6 +428,20 @@ mod tests {
             problem.expect("noticed").to_string(),
             "base/1/10: changed, and nothing was decided"
         );
+    }
+
+    /// Over a base that is not there every page would be new, and at a noon that is not there none.
+    #[test]
+    fn a_mistyped_folder_is_refused() {
+        let place = Place::new("mistyped");
+        folders(&place);
+        let at = |name: &str| place.0.join(name);
+        let (base, none, changed) = (at("base"), at("none"), at("new"));
+        for (base, noon) in [(&none, None), (&base, Some(none.as_path()))] {
+            let folders = Folders { base, noon, changed: &changed };
+            let problem = folders.decide(&mut Progress::new(false)).err().expect("refused");
+            assert_eq!(problem.to_string(), format!("{}: this is no folder", none.display()));
+        }
     }
 
     /// Yesterday segment 11 was changed, and today it is as in the base again: stored into yesterday's

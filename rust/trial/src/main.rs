@@ -35,7 +35,7 @@ usage: trial decide BASE CHANGED [--names FILE] [--live]
        trial blocks KEPT
        trial write BASE KEPT FILE BLOCK FROM PAGE [--stores 0 | --stores 1]
        trial read BASE KEPT FILE BLOCK TO
-       trial sweep KEPT
+       trial sweep KEPT FILE
 
   decide   tells what the changed blocks of CHANGED would take: nothing, a patch or a full page;
            nothing is stored
@@ -45,11 +45,14 @@ usage: trial decide BASE CHANGED [--names FILE] [--live]
   compare  says whether both folders hold the same files with the same bytes
   blocks   checks KEPT and lists its blocks: file, number, kind, and whether it has a place for a page
   write    makes the page PAGE of the file FROM that of BLOCK of FILE in KEPT: the area files are mapped,
-           and the first store is on disk before the second one is made
+           and the first store is on disk before the second one is made. FROM must have the page; only
+           if it is FILE in BASE, and PAGE is BLOCK, a page that is not there is zeros
   read     reads BLOCK of FILE from KEPT over BASE, into the file TO
-  sweep    clears up in KEPT after a write that was stopped: pages to which no slot refers are removed,
-           and KEPT is checked. Do not sweep where no write was stopped: a page whose slot was lost
-           would be removed too
+           BASE of write and read must be a folder; what FILE does not have there is zeros
+  sweep    clears up after a write to FILE in KEPT that was stopped: pages of FILE to which no slot
+           refers are removed. FILE is checked before, and left as it is if it has any other fault, and
+           after it. Do not sweep where no write was stopped: a page whose slot was lost would be
+           removed too
 
   --noon FOLDER what CHANGED was like at noon: its pages are stored first, then those of CHANGED;
                 a file that CHANGED has shorter is cut in between
@@ -111,7 +114,7 @@ fn run_on_blocks(words: &[&str], stores: Stores) -> Outcome<()> {
         ["read", base, kept, path, number, to] => {
             block(base, kept, path, number)?.read(to.as_ref())
         }
-        ["sweep", kept] => files::sweep_all(kept.as_ref()),
+        ["sweep", kept, path] => files::sweep_file(kept.as_ref(), path.as_ref()),
         _ => Err("see 'trial --help'".into()),
     }
 }

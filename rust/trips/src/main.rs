@@ -55,6 +55,8 @@ fn go_on(folder: &Path, run: &Run, step: usize) -> Outcome {
 
 fn sweep_files(folder: &Path) -> Outcome {
     let Files { patch, mut full } = Files::open(folder)?;
+    // A slot of the process that ended must be on disk before its page goes.
+    patch.sync()?;
     Ok(sweep(patch.bytes(), full.bytes_mut())?)
 }
 

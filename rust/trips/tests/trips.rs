@@ -14,7 +14,7 @@ use thonxiliko::{
     build, format, judge, map_len, read, sweep, Kind, PayloadRefusal, Stores, PAGE_SIZE,
     PATCH_HEADER_SIZE, SLOT_SIZE,
 };
-use trips::files::{full_path, patch_path};
+use trips::files::{full_path, patch_path, Files};
 use trips::run::{Run, Step, Write};
 
 /// A folder of its own, removed in the end.
@@ -247,4 +247,20 @@ fn other_rules_are_found_out() {
         sweep(&left.patch, &mut left.full).expect("a sound store");
         assert!(left == trip.swept);
     }
+}
+
+/// While one process has the files, another one does not sweep them; a process that was killed does not
+/// have them any more.
+#[test]
+fn files_in_use_are_not_swept() {
+    let folder = Folder::new("in-use");
+    let word = folder.0.to_str().expect("a path in Unicode");
+    assert_eq!(trip(&["stop", word, "1", "0", "1"]).signal(), Some(mapped::SIGKILL));
+    let left = Areas::in_folder(&folder.0);
+    let files = Files::open(&folder.0).expect("files that nobody has");
+    assert_eq!(trip(&["sweep", word]).code(), Some(2));
+    assert!(Areas::in_folder(&folder.0) == left);
+    drop(files);
+    assert!(trip(&["sweep", word]).success());
+    assert!(Areas::in_folder(&folder.0) != left);
 }
