@@ -30,7 +30,7 @@ module _ (P b : ℕ) (d : Decision) (patch full : List ℕ) where
 
   -- none
   pub none-told : (stores : ℕ) → stores ≡ 0 → Made P b d (take stores (order (d .kind))) patch full patch full
-  unfolding puts take
+  unfolding puts
   none-told stores e = rw e (record { patch-bytes = refl; full-bytes = refl })
 
   module _ (t : Bool) (first : t ≡ eqb (d .kind) fullKind) (p f : List ℕ) (made : Made P b d (cond t place slot ∷ []) patch full p f) where
@@ -40,7 +40,6 @@ module _ (P b : ℕ) (d : Decision) (patch full : List ℕ) where
 
     -- the first
     pub one-told : (stores : ℕ) → stores ≡ 1 → Made P b d (take stores (order (d .kind))) patch full p f
-    unfolding take
     one-told stores e = rw (e, order-is) (go t made)
       where
         go : (t : Bool) → Made P b d (cond t place slot ∷ []) patch full p f

@@ -57,8 +57,8 @@ const FULL_ROOM: usize = Layout::FULL_HEAD + 2 * Layout::PAGE + 1;
 // Room for two bytes more than the map of nine blocks has.
 const MAP_ROOM: usize = 5;
 
-// Room for the cases.
-const TEXT_ROOM: usize = 131072;
+// Room for the cases, a third more than they take. What did not fit would be missing in the output.
+const TEXT_ROOM: usize = 98304;
 
 // show | name | patch | full | block. The full area is not lent.
 fn show(line: &[u8], patch: &[u8]) {

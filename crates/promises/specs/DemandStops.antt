@@ -31,7 +31,8 @@ use Rattle.promises.specs.SweptLaws as swept-laws
 use Rattle.promises.specs.Runs.{write}
 use Rattle.promises.specs.RunWords.{Areas, readAt, Lent, Operation, outcome, next, after, FreshAreas}
 use Rattle.promises.specs.MapWords.{Mapped, mapped, afterWith, buildInto, readByMap, FreshWith, Long, Alike}
-use Rattle.promises.specs.MapStore.{with}
+use Rattle.promises.specs.MapStore.{with, laid}
+use Rattle.promises.specs.MapRunLaws.{builds-laid, reads-laid, alike-laid}
 use Rattle.promises.specs.DemandThree.{same-with-map, kept-is-built}
 use Rattle.promises.specs.StopWords.{told, stopped, stoppedWith, sweeping, swept, AreaEvent, afterAll, afterAllWith, Holds, ComesTo}
 use Rattle.promises.specs.StopReads as stop-reads
@@ -203,12 +204,15 @@ module _ (x : Mapped) (fresh : FreshWith pageSize x) (long : Long (x .areas) (x 
 
   -- and in any other that is long enough, whatever is in it, in the bytes that count
   module _ (map : List ℕ) (room : Long (x .areas) map) where
+    built : buildInto pageSize (after pageSize (x .areas) os) map ≡ buildDone (laid (after pageSize (x .areas) os) map)
+    built = builds-laid pageSize x fresh long (lit≤ tt) os map room
+
     pub any-map-anew : (buildInto pageSize clean map .number ≡ 0) × Alike (with clean (buildInto pageSize clean map .map)) (afterWith pageSize x os)
     any-map-anew =
         subst (λ (t : Areas). (buildInto pageSize t map .number ≡ 0) × Alike (with t (buildInto pageSize t map .map)) (afterWith pageSize x os))
         (sym clean-is) (
-          ap (λ (o : BuildOutcome). o .number) (maps.builds-anew pageSize (lit≤ tt) x fresh long os map room),
-          maps.alike-anew pageSize (lit≤ tt) x fresh long os map room,
+          ap (λ (o : BuildOutcome). o .number) built,
+          rw built (alike-laid pageSize x fresh long (lit≤ tt) os map room),
         )
 
     -- so each block reads by it as in that run, whole
@@ -216,7 +220,8 @@ module _ (x : Mapped) (fresh : FreshWith pageSize x) (long : Long (x .areas) (x 
         → readByMap pageSize (with clean (buildInto pageSize clean map .map)) b base page ≡ readAt pageSize (after pageSize (x .areas) os) b base page
     reads-by-map-anew b base page =
         ap (λ (t : Areas). readByMap pageSize (with t (buildInto pageSize t map .map)) b base page) clean-is
-        ∙ maps.reads-anew pageSize (lit≤ tt) x fresh long os map room b base page
+        ∙ ap (λ (o : BuildOutcome). readByMap pageSize (with (after pageSize (x .areas) os) (o .map)) b base page) built
+        ∙ reads-laid pageSize x fresh long (lit≤ tt) os map room b base page
 
   -- the map that the stops have left is one of these
   pub left-map-long : Long (x .areas) (afterAllWith pageSize x es .map)

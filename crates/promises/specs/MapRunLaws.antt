@@ -118,9 +118,29 @@ module _ (P : ℕ) (x : Mapped) (h : FreshWith P x) where
     part-is os = rw (run-is os) (laid-part (after P (x .areas) os) (x .map) (long-after os))
 
     module _ (small : P ≤ 65536) (os : List Operation) where
-      -- Build accepts, and leaves in the map as it was lent at first what was kept in it
+      -- Into any map that is long enough, whatever is in it: Build accepts, and a read by what it leaves is Read
+      module _ (map : List ℕ) (room : Long (x .areas) map) where
+        abbrev end : Areas
+        end = after P (x .areas) os
+
+        room-after : Long end map
+        room-after = rw (same-room os) room
+
+        pub builds-laid : buildInto P end map ≡ buildDone (laid end map)
+        builds-laid = build-accepts P (x .areas) (h .fresh) small os map room-after
+
+        pub reads-laid : (b : ℕ) (base page : List ℕ) → readByMap P (with end (laid end map)) b base page ≡ readAt P end b base page
+        reads-laid b base page =
+            map-reads-as-read P (end .patch) (end .full) map (ap (λ (o : BuildOutcome). o .number) builds-laid) (laid end map)
+            (laid-part end map room-after) b base page
+
+        -- the bytes that count are those of the map that the run keeps
+        pub alike-laid : Alike (with end (laid end map)) (afterWith P x os)
+        alike-laid = rw (run-is os) (record { areas = refl; pairs = laid-part end map room-after ∙ sym (laid-part end (x .map) (long-after os)) })
+
+      -- in the map as it was lent at first it leaves what was kept in it
       pub built-at-end : buildInto P (afterWith P x os .areas) (x .map) ≡ buildDone (afterWith P x os .map)
-      built-at-end = rw (run-is os) (build-accepts P (x .areas) (h .fresh) small os (x .map) (long-after os))
+      built-at-end = rw (run-is os) (builds-laid (x .map) long)
 
       -- and changes nothing of the kept one
       pub built-changes-nothing : buildInto P (afterWith P x os .areas) (afterWith P x os .map) ≡ buildDone (afterWith P x os .map)
@@ -132,11 +152,7 @@ module _ (P : ℕ) (x : Mapped) (h : FreshWith P x) where
 
       pub reads-by-map : (b : ℕ) (base page : List ℕ)
           → readByMap P (afterWith P x os) b base page ≡ readAt P (after P (x .areas) os) b base page
-      reads-by-map b base page =
-          rw (run-is os)
-          (map-reads-as-read P (after P (x .areas) os .patch) (after P (x .areas) os .full) (x .map)
-          (ap (λ (o : BuildOutcome). o .number) (build-accepts P (x .areas) (h .fresh) small os (x .map) (long-after os)))
-          (laid (after P (x .areas) os) (x .map)) (laid-part (after P (x .areas) os) (x .map) (long-after os)) b base page)
+      reads-by-map b base page = rw (run-is os) (reads-laid (x .map) long b base page)
 
       -- so a block at which a write stands reads by the map as the decision says, whoever made it
       pub reads-given-by-map : (b : ℕ) → b < blocks (x .areas .patch) → (w : Lent) → lastTo b (acceptedWith P x os) ≡ some (write w)

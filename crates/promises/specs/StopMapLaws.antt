@@ -1,5 +1,5 @@
--- A lent map among stopped writes and sweeps: both areas are as without it, and Build makes it anew after a sweep.
-use Prim.Native.Nat.{ℕ, zero, suc, _≤_}
+-- A map that is lent to operations and stopped writes: both areas are as without it, and it keeps its length.
+use Prim.Native.Nat.{ℕ, zero, suc}
 use mathlib.Core.Path.{_≡_, refl, sym, ap, _∙_}
 use mathlib.Core.Bool.{Bool, true, false, cond}
 use mathlib.Core.List.{List, [], _∷_}
@@ -14,19 +14,14 @@ use Rattle.carrying.specs.Puts.{Decision, all, toldAll}
 use Rattle.carrying.specs.Mapped.{carryMappedRows, carryMappedTold}
 use Rattle.cutting.specs.Cut.{CutOutcome}
 use Rattle.cutting.specs.Mapped.{cutMappedRows, cutMappedOutcome}
-use Rattle.building.specs.Build.{BuildOutcome, buildDone}
 use Rattle.promises.specs.CarryTables.{mapped-as-told}
 use Rattle.promises.specs.CutTables.{mapped-as-cut}
 use Rattle.promises.specs.Runs.{run, write, wipe}
 use Rattle.promises.specs.Stops.{whole, stop, sweep}
-use Rattle.promises.specs.RunWords.{Areas, readAt, Operation, after}
+use Rattle.promises.specs.RunWords.{Areas}
 use Rattle.promises.specs.RunStoreLaws.{store-laws}
-use Rattle.promises.specs.RunLaws.{kept, build-accepts}
-use Rattle.promises.specs.MapWords.{Mapped, mapRoom, Long, FreshWith, Alike, buildInto, readByMap, afterWith}
-use Rattle.promises.specs.MapStore.{with, laid}
+use Rattle.promises.specs.MapWords.{Mapped, mapRoom, Long}
 use Rattle.promises.specs.MapStoreLaws.{room-kept}
-use Rattle.promises.specs.MapRunLaws.{laid-part, run-is}
-use Rattle.promises.specs.MapReading.{map-reads-as-read}
 use Rattle.promises.specs.StopWords.{leftBy, AreaEvent, happens, happensWith, afterAll, afterAllWith}
 use Rattle.promises.specs.StopStoreLaws.{stop-length}
 
@@ -86,31 +81,3 @@ module _ (P : ℕ) where
   unfolding run
   all-length x [] = refl
   all-length x (e ∷ es) = all-length (happensWith P x e) es ∙ length-same x e
-
-  -- Build of the areas of a run, into any map that is long enough
-
-  module _ (small : P ≤ 65536) (x : Mapped) (h : FreshWith P x) (long : Long (x .areas) (x .map)) (os : List Operation) where
-    abbrev end : Areas
-    end = after P (x .areas) os
-
-    long-after : (map : List ℕ) → Long (x .areas) map → Long end map
-    long-after map l =
-        let same : mapRoom end ≡ mapRoom (x .areas) = ap (λ (n : ℕ). mapBytes (blocksIn n)) (kept P (x .areas) (h .fresh) os .patch-length) in
-        rw same l
-
-    module _ (map : List ℕ) (l : Long (x .areas) map) where
-      pub builds-anew : buildInto P end map ≡ buildDone (laid end map)
-      builds-anew = build-accepts P (x .areas) (h .fresh) small os map (long-after map l)
-
-      -- the bytes that count are those of the map that the run keeps
-      pub alike-anew : Alike (with end (buildInto P end map .map)) (afterWith P x os)
-      alike-anew =
-          rw (builds-anew, run-is P x h long os)
-          (record { areas = refl; pairs = laid-part end map (long-after map l) ∙ sym (laid-part end (x .map) (long-after (x .map) long)) })
-
-      pub reads-anew : (b : ℕ) (base page : List ℕ)
-          → readByMap P (with end (buildInto P end map .map)) b base page ≡ readAt P end b base page
-      reads-anew b base page =
-          rw builds-anew
-          (map-reads-as-read P (end .patch) (end .full) map (ap (λ (o : BuildOutcome). o .number) builds-anew)
-          (laid end map) (laid-part end map (long-after map l)) b base page)

@@ -21,7 +21,8 @@ use Rattle.promises.specs.MapWords.{Mapped, mapped}
 use Rattle.promises.specs.RunStore.{store}
 use Rattle.promises.specs.RunStoreLaws.{taken-frame, accepted-write, good-frame, store-laws}
 use Rattle.promises.specs.RunLaws.{fresh}
-use Rattle.promises.specs.StopWords.{leftBy, stopped, stoppedWith, sweeping, swept, AreaEvent, afterAll, Holds, ComesTo, nothing, made, held, lost, tidied}
+use Rattle.promises.specs.StopWords.{leftBy, stopped, stoppedWith, sweeping, swept, AreaEvent, afterAll, Holds}
+use Rattle.promises.specs.StopWords.{ComesTo, nothing, made, held, lost, tidied}
 use Rattle.promises.specs.StopStore.{takesHold, stopping}
 use Rattle.promises.specs.StopStoreLaws.{stop-refused, stop-frame, stop-length, sweep-taken, stop-laws}
 use Rattle.promises.specs.StopReads.{holds-iff, not-held}

@@ -164,7 +164,9 @@ slotFirst s w k = firstMade true s w k
 old-first : getD (readAt pageSize sample 0 two two .page) 0 0 ≡ 7
 unfolding run
 old-first =
-    first _ _ (ap (λ (o : ReadOutcome). o .page) (nothing-stands 0 (lit< tt) two two over-two) ∙ base-some pageSize two (λ z. omega (arith, z, two-fits .page-length)))
+    first _ _
+    (ap (λ (o : ReadOutcome). o .page) (nothing-stands 0 (lit< tt) two two over-two)
+    ∙ base-some pageSize two (λ z. omega (arith, z, two-fits .page-length)))
     ∙ two-first
 
 new-first : getD (readAt pageSize (next pageSize sample (to 0 (many 1))) 0 two two .page) 0 0 ≡ 1

@@ -152,7 +152,8 @@ unfolding belowM rowsFrom
 bare-passes =
     let none : firstOf (ordered (sweepGroups pageSize (bare .patch) [])) ≡ 0 =
     frame-rows pageSize (bare .patch) [] ∙ frame-number pageSize (bare .patch) [] ∙ areas-zero pageSize (bare .patch) [] bare-fits in
-    let rows : firstOf (ordered (sweepGroups pageSize (bare .patch) []) ++ rowsFrom (slotFaults pageSize (bare .patch) []) 0 (pagesIn pageSize (length {A = ℕ} []))) ≡ 0 =
+    let m : ℕ = pagesIn pageSize (length {A = ℕ} []) in
+    let rows : firstOf (ordered (sweepGroups pageSize (bare .patch) []) ++ rowsFrom (slotFaults pageSize (bare .patch) []) 0 m) ≡ 0 =
     rw no-places (ap firstOf (append-nil (ordered (sweepGroups pageSize (bare .patch) []))) ∙ none) in
     ap (λ (o : SweepOutcome). o .number) (decided-done _ _ _ rows)
 

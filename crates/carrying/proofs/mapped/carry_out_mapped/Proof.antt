@@ -47,7 +47,8 @@ returns c =
     let d = c .before .before .before .before .before .before .before in
     let a = d .before .before .before .before .before .before .before .before .before .before .args in
     mapped-refused pageSize _ (a .patch .now) (a .full .now) (a .map .now) (a .block)
-    (record { kind = a .kind; payload = a .payload .now; page = a .page .now }) (a .stores) _ _ _ (long d) (d .carry-with .ensures) _ (c .before .refusal .given .1)
+    (record { kind = a .kind; payload = a .payload .now; page = a .page .now })
+    (a .stores) _ _ _ (long d) (d .carry-with .ensures) _ (c .before .refusal .given .1)
 
 same-length-3 : tie.Need-same-length-3
 same-length-3 c = search needs
