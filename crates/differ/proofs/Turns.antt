@@ -1,5 +1,5 @@
 -- A turn of each loop of differ.
-use Prim.Native.Nat.{ℕ, _+_, _-_, _≤_, _<_, min}
+use Prim.Native.Nat.{ℕ, _+_, _-_, _*_, _≤_, _<_, min}
 use native.Mathlib.Omega.{arith}
 use native.Mathlib.Decide.{decLt}
 use mathlib.Core.Path.{_≡_, refl, sym, ap, _∙_}
@@ -9,8 +9,8 @@ use mathlib.Core.List.{List}
 use lib.Dec.{eqb}
 use lib.ListN.{length, getD}
 use mir.Val.{boolByte}
-use borrow.Author.Tests.{eqb-true}
-use Rattle.differ.specs.Differ.{Same, nextDiff, differsAt, diffsIn}
+use borrow.Author.Tests.{eqb-true, eqb-false}
+use Rattle.differ.specs.Differ.{Same, nextDiff, differsAt, diffsIn, stride, NextChunk}
 use Rattle.differ.specs.DifferLaws.{next-skip, diffs-next}
 
 -- no byte is passed yet
@@ -41,6 +41,63 @@ seen-same a b at i false s h = go (eqb (getD a (at + i) 0) (getD b (at + i) 0)) 
     go : (t : Bool) → eqb (getD a (at + i) 0) (getD b (at + i) 0) ≡ t → not t ≡ false → Same a b at (at + (i + 1))
     go true e k = rw q at (same-next a b at (at + i) (s refl) (eqb-true (getD a (at + i) 0) (getD b (at + i) 0) e))
     go false e k = absurd (true≢false k)
+
+-- and it has seen a byte that differs
+pub seen-unlike : (a b : List ℕ) (at i : ℕ) (seen : Bool) → (seen ≡ true → Same a b at (at + i) → ⊥)
+    → (seen || not (eqb (getD a (at + i) 0) (getD b (at + i) 0))) ≡ true → Same a b at (at + (i + 1)) → ⊥
+unfolding Same
+seen-unlike a b at i true u h s = u refl (λ j k m. s j k (omega arith))
+seen-unlike a b at i false u h s = go (eqb (getD a (at + i) 0) (getD b (at + i) 0)) refl h
+  where
+    go : (t : Bool) → eqb (getD a (at + i) 0) (getD b (at + i) 0) ≡ t → not t ≡ true → ⊥
+    go true e k = true≢false (sym k)
+    go false e k = eqb-false (getD a (at + i) 0) (getD b (at + i) 0) e (s (at + i) (omega arith) (omega arith))
+
+-- how far the grid is passed: whole steps, with equal bytes
+pub record Stepped (a b : List ℕ) (from end at : ℕ) : Type 0 where
+  pub steps : ℕ
+  pub on : at ≡ from + steps * stride
+  pub within : at ≤ end
+  pub alike : Same a b from at
+
+pub stepped-none : (a b : List ℕ) (from end : ℕ) → from ≤ end → Stepped a b from end from
+stepped-none a b from end h = record { steps = 0; on = omega arith; within = h; alike = same-none a b from from (omega arith) }
+
+module _ (a b : List ℕ) (from end at : ℕ) (p : Stepped a b from end at) where
+  -- a step more
+  pub stepped-more : at + stride ≤ end → Same a b at (at + stride) → Stepped a b from end (at + stride)
+  unfolding Same
+  stepped-more h s = record {
+    steps = p .steps + 1;
+    on = omega (arith, p .on);
+    within = h;
+    alike =
+        λ i k m.
+        elim (decLt i at) [
+          | yes l ↦ p .alike i k l
+          | no l ↦ s i (omega arith) m
+        ];
+  }
+
+  -- where it stops
+  pub stepped-all : end ≡ min (length a) (length b) → (at + stride ≤ end → Same a b at (at + stride) → ⊥) → NextChunk a b from at
+  stepped-all e d = record {
+    steps = p .steps;
+    on = p .on;
+    within = λ h. (omega (arith, p .within), omega (arith, p .within));
+    alike = p .alike;
+    differ = λ h k s. d (omega arith) s;
+  }
+
+-- a place that neither list reaches
+pub stepped-past : (a b : List ℕ) (from : ℕ) → min (length a) (length b) ≤ from → NextChunk a b from from
+stepped-past a b from h = record {
+  steps = 0;
+  on = omega arith;
+  within = λ k. absurd (omega arith);
+  alike = same-none a b from from (omega arith);
+  differ = λ k l s. omega arith;
+}
 
 -- equal bytes are passed over
 pub skipped : (a b : List ℕ) (from at to : ℕ) → at ≤ to → to ≤ length a → to ≤ length b → nextDiff a b from ≡ nextDiff a b at → Same a b at to

@@ -1,5 +1,5 @@
 -- Where two lists differ next, and in how many places.
-use Prim.Native.Nat.{ℕ, zero, suc, _+_, _≤_, _<_}
+use Prim.Native.Nat.{ℕ, zero, suc, _+_, _*_, _≤_, _<_}
 use mathlib.Core.Path.{_≡_}
 use mathlib.Core.Bool.{true, false, cond, _&&_}
 use mathlib.Core.List.{List, [], _∷_}
@@ -10,6 +10,10 @@ use Rattle.differ.specs.declared.Cluster.{Cluster}
 -- in how many places the code counts differences at one go
 abbrev pub chunk : ℕ
 chunk = 64
+
+-- how far the places of a grid stand from each other
+abbrev pub stride : ℕ
+stride = 128
 
 -- how many bytes two lists have in common from their start on
 unfoldable pub agree : List ℕ → List ℕ → ℕ
@@ -51,3 +55,11 @@ pub record Skipped (a b : List ℕ) (from end r : ℕ) : Type 0 where
   pub on : from ≤ r
   pub within : r ≤ end
   pub ahead : nextDiff a b from ≡ nextDiff a b r
+
+-- the first place on the grid from `from` on whose bytes up to the next place differ, or that has no next place in a or b
+pub record NextChunk (a b : List ℕ) (from r : ℕ) : Type 0 where
+  pub steps : ℕ
+  pub on : r ≡ from + steps * stride
+  pub within : from < r → (r ≤ length a) × (r ≤ length b)
+  pub alike : Same a b from r
+  pub differ : r + stride ≤ length a → r + stride ≤ length b → Same a b r (r + stride) → ⊥

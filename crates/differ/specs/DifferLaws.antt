@@ -13,7 +13,7 @@ use lib.Seq.{getD-drop}
 use borrow.Author.Tests.{eq-eqb, ne-eqb, eqb-true, eqb-false, leb-true, le-leb, lt-leb}
 use Rattle.span.specs.Bytes.{same}
 use Rattle.span.specs.Laws.{ext, same-true, same-false}
-use Rattle.differ.specs.Differ.{chunk, agree, nextDiff, Same, differsAt, diffsIn, afterLast, clusterAt}
+use Rattle.differ.specs.Differ.{chunk, agree, nextDiff, Same, differsAt, diffsIn, afterLast, clusterAt, NextChunk}
 use Rattle.differ.specs.declared.Cluster.{Cluster}
 
 -- what the next difference is, said of places and not by a walk
@@ -138,6 +138,39 @@ pub next-here : (a b : List ℕ) (r : ℕ) → (r < length a → r < length b �
 unfolding Same
 next-here a b r d =
     next-is a b r r (record { on = omega arith; within = λ h. absurd (omega arith); alike = λ i h k. absurd (omega arith); differ = d })
+
+-- The next chunk on the grid: no difference is passed on the way to it, and there is no second such place
+
+pub chunk-on : (a b : List ℕ) (from r : ℕ) → NextChunk a b from r → from ≤ r
+chunk-on a b from r c = omega (arith, c .on)
+
+pub chunk-ahead : (a b : List ℕ) (from r : ℕ) → NextChunk a b from r → nextDiff a b from ≡ nextDiff a b r
+chunk-ahead a b from r c =
+    elim (decLt from r) [
+      | yes h ↦ next-skip a b from r (omega arith) (c .within h .0) (c .within h .1) (c .alike)
+      | no h ↦
+          let q : from ≡ r = omega (arith, c .on) in
+          ap (λ (i : ℕ). nextDiff a b i) q
+    ]
+
+-- of two such places none comes first
+chunk-first : (a b : List ℕ) (from r s : ℕ) → NextChunk a b from r → NextChunk a b from s → r < s → ⊥
+unfolding Same
+chunk-first a b from r s p q h =
+    let k : p .steps + 1 ≤ q .steps = omega (arith, p .on, q .on) in
+    let w : (s ≤ length a) × (s ≤ length b) = q .within (omega (arith, p .on)) in
+    p .differ (omega (arith, p .on, q .on)) (omega (arith, p .on, q .on)) (λ i l m. q .alike i (omega (arith, p .on)) (omega (arith, p .on, q .on)))
+
+pub chunk-one : (a b : List ℕ) (from r s : ℕ) → NextChunk a b from r → NextChunk a b from s → r ≡ s
+chunk-one a b from r s p q =
+    elim (decLt r s) [
+      | yes h ↦ absurd (chunk-first a b from r s p q h)
+      | no h ↦
+          elim (decLt s r) [
+            | yes k ↦ absurd (chunk-first a b from s r q p k)
+            | no k ↦ omega arith
+          ]
+    ]
 
 -- The laws of that number
 

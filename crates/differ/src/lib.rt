@@ -2,11 +2,11 @@
 // wide instructions: no loop leaves early at a byte, but `next_byte`, which looks at fewer than eight, and `after_last`, which looks
 // at one chunk.
 ghost use mathlib.Core.Path.{_≡_};
-ghost use mathlib.Core.Bool.{false};
+ghost use mathlib.Core.Bool.{true, false};
 ghost use Prim.Native.Nat.{_+_, _-_, _≤_, min};
 ghost use lib.ListN.{length};
 ghost use Rattle.span.specs.Bytes.{part as partOf, same as sameBytes};
-ghost use Rattle.differ.specs.Differ.{chunk, nextDiff, diffsIn, Same, Skipped, afterLast, clusterAt};
+ghost use Rattle.differ.specs.Differ.{chunk, stride, nextDiff, diffsIn, Same, Skipped, NextChunk, afterLast, clusterAt};
 
 // Differences that stand close together: how many they are, and the place after the last of them.
 pub struct Cluster {
@@ -14,7 +14,20 @@ pub struct Cluster {
     pub next: usize,
 }
 
-// How many bytes are compared at one go where pages are alike, and next to a difference.
+// The grid on which two pages are compared.
+pub struct Grid;
+
+impl Grid {
+    // How many bytes are compared at one go: eight registers of 16 bytes, or four of 32.
+    pub const STRIDE: usize = 128;
+
+    // The code's number is the definitions'.
+    pub fn agrees()
+        ensures { λ _. do ⌜ (← ⟦Grid::STRIDE⟧ .entry) ≡ stride ⌝ }
+    {}
+}
+
+// How many bytes are compared at one go next to a difference.
 const CHUNK: usize = 64;
 
 const WORD: usize = 8;
@@ -22,7 +35,8 @@ const WORD: usize = 8;
 // Whether two parts of the same place and length differ somewhere.
 fn differs(a: &[u8], b: &[u8], at: usize, count: usize) -> bool
     requires { ⌜ (at + count ≤ length (now a)) × (at + count ≤ length (now b)) ⌝ }
-    ensures { λ r. ⌜ (r ≡ false → Same (now (a .entry)) (now (b .entry)) at (at + count)) ⌝ }
+    ensures { λ r. ⌜ (r ≡ false → Same (now (a .entry)) (now (b .entry)) at (at + count))
+        × (r ≡ true → Same (now (a .entry)) (now (b .entry)) at (at + count) → ⊥) ⌝ }
 {
     let mut seen = false;
     let mut i = 0;
@@ -44,6 +58,24 @@ fn skip_equal(a: &[u8], b: &[u8], from: usize, end: usize, width: usize) -> usiz
             return at;
         }
         at += width;
+    }
+    at
+}
+
+// The first place on the grid from `from` on whose bytes up to the next place differ, or that has no next place.
+pub fn next_chunk(a: &[u8], b: &[u8], from: usize) -> usize
+    ensures { λ r. ⌜ NextChunk (now (a .entry)) (now (b .entry)) from r ⌝ }
+{
+    let end = span::shorter(a.len(), b.len());
+    if end <= from {
+        return from;
+    }
+    let mut at = from;
+    while Grid::STRIDE <= end - at {
+        if differs(a, b, at, Grid::STRIDE) {
+            return at;
+        }
+        at += Grid::STRIDE;
     }
     at
 }

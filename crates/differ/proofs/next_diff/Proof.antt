@@ -60,7 +60,7 @@ returns-5 c =
     let a = c .before .before .before .before .before .before .before .before .before .before .before .before .before .args in
     let wide = c .before .before .skip-equal .ensures in
     let near = c .before .skip-equal2 .ensures in
-    let word = c .before .before .before .before .differs .ensures (c .before .before .before .if4 .left) in
+    let word = c .before .before .before .before .differs .ensures .0 (c .before .before .before .if4 .left) in
     c .next-byte3 .ensures
     ∙ sym (next-skip (a .a .now) (a .b .now) (a .from) (a .from + 8) (omega arith) (omega arith) (omega arith) word ∙ wide .ahead ∙ near .ahead)
 

@@ -38,7 +38,7 @@ loop-again c =
       search needs,
       search needs,
       skipped (a .a .now) (a .b .now) (a .from) (l .at) (l .at + a .width) (omega arith) (omega arith) (omega arith) (l .inv .2)
-          (c .before .differs .ensures (c .if1 .left)),
+          (c .before .differs .ensures .0 (c .if1 .left)),
     )
 
 returns-2 : tie.Need-returns-2 Inv-loop μ-loop
