@@ -1,4 +1,4 @@
--- What the writer leaves in its room, and what one turn of its loop gives, over plain lists.
+-- What the writer leaves in its room, over plain lists.
 use Prim.Native.Nat.{ℕ, zero, suc, _+_, _-_, _/_, _%_, _≤_, _<_}
 use native.Mathlib.Omega.{arith}
 use native.Mathlib.Decide.{decLt}
@@ -19,9 +19,9 @@ use Rattle.span.specs.Laws.{splice-more, splice-length, splice-none}
 use Rattle.differ.specs.Differ.{nextDiff}
 use Rattle.layout.specs.Numbers.{le}
 use Rattle.writer.specs.Differences.{Change, spelled, coded, written}
-use Rattle.writer.specs.Steps.{before, rest, Counted, Numbers, Differs}
+use Rattle.writer.specs.Steps.{rest, Stored, Numbers, Differs}
 use Rattle.writer.specs.declared.Difference.{Difference}
-use Rattle.writer.proofs.Counting.{width-is, rest-ends, rest-more, counted-none, counted-more, counted-all}
+use Rattle.writer.proofs.Counting.{rest-ends, rest-more}
 
 -- The signed last position
 
@@ -93,30 +93,22 @@ store-more (y ∷ ys) room w k e =
     ∙ store-more ys room (w ++ (y ∷ [])) (suc k) (omega arith)
     ∙ ap (λ (l : List ℕ). stored room l) (append-assoc w (y ∷ []) ys)
 
--- The loop: what is known after the differences before `next`.
-pub record Written (base page room₀ room : List ℕ) (next used count : ℕ) : Type 0 where
-  pub spelt : List ℕ
-  pub counted : Counted base page next used count
-  pub size : used ≡ length spelt
-  pub kept : length room ≡ length room₀
-  pub stream : written base page ≡ spelt ++ coded next (rest base page next)
-  pub bytes : room ≡ stored room₀ spelt
+-- What is stored
 
-pub written-none : (base page room : List ℕ) → Written base page room room 0 0 0
+pub stored-none : (base page room : List ℕ) → Stored base page room room 0 0
 unfolding written
-written-none base page room = record {
+stored-none base page room = record {
   spelt = [];
-  counted = counted-none base page;
   size = refl;
   kept = refl;
   stream = refl;
   bytes = sym (ap (λ (l : List ℕ). splice room 0 l) (take-nil (length room)) ∙ splice-none room 0 (omega arith));
 }
 
-module _ (base page room₀ room : List ℕ) (next used count : ℕ) (w : Written base page room₀ room next used count) where
+module _ (base page room₀ room : List ℕ) (next used : ℕ) (w : Stored base page room₀ room next used) where
   -- there is no room left: the rest is only counted
-  pub written-full : (d : Difference) → length room ≤ used → Numbers base page d → Differs base page room₀ d room
-  written-full d h n = record {
+  pub stored-full : (d : Difference) → length room ≤ used → Numbers base page d → Differs base page room₀ d room
+  stored-full d h n = record {
     numbers = n;
     bytes =
         w .bytes
@@ -127,10 +119,11 @@ module _ (base page room₀ room : List ℕ) (next used count : ℕ) (w : Writte
   }
 
   module _ (at : ℕ) (e : at ≡ nextDiff base page next) where
-    pub written-more : (used′ : ℕ) (room′ : List ℕ) → at < length base → at < length page → Put room used (spelled (at - next) (getD page at 0)) used′ room′
-        → Written base page room₀ room′ (at + 1) used′ (count + 1)
+    -- a difference more
+    pub stored-more : (used′ : ℕ) (room′ : List ℕ) → at < length base → at < length page → Put room used (spelled (at - next) (getD page at 0)) used′ room′
+        → Stored base page room₀ room′ (at + 1) used′
     unfolding coded
-    written-more used′ room′ l m p =
+    stored-more used′ room′ l m p =
         let s : List ℕ = spelled (at - next) (getD page at 0) in
         let r : rest base page next ≡ record { place = at; value = getD page at 0 } ∷ rest base page (at + 1) = rest-more base page next at e l m in
         let x : length (w .spelt ++ s) ≡ length (w .spelt) + length s = length-append (w .spelt) s in
@@ -140,7 +133,6 @@ module _ (base page room₀ room : List ℕ) (next used count : ℕ) (w : Writte
         let z : length room′ ≡ length (sets room used s) = ap (λ (l : List ℕ). length l) (p .bytes) in
         record {
           spelt = w .spelt ++ s;
-          counted = counted-more base page next used count (w .counted) at e used′ l m (omega (arith, p .next, width-is (at - next) (getD page at 0)));
           size = omega (arith, w .size, p .next);
           kept = omega (arith, w .kept);
           stream =
@@ -150,13 +142,10 @@ module _ (base page room₀ room : List ℕ) (next used count : ℕ) (w : Writte
           bytes = b;
         }
 
-    pub written-all : (d : Difference) → (length base ≤ at) ⊎ (length page ≤ at) → (d .length ≡ used) × (d .entries ≡ count) × (d .last ≡ before next)
-        → Differs base page room₀ d room
+    -- no difference more
+    pub stored-all : (d : Difference) → (length base ≤ at) ⊎ (length page ≤ at) → Numbers base page d → Differs base page room₀ d room
     unfolding coded
-    written-all d k f =
+    stored-all d k n =
         let r : rest base page next ≡ [] = rest-ends base page next at e k in
         let s : written base page ≡ w .spelt = w .stream ∙ ap (λ (ds : List Change). w .spelt ++ coded next ds) r ∙ append-nil (w .spelt) in
-        record {
-          numbers = counted-all base page next used count (w .counted) at e d k f;
-          bytes = w .bytes ∙ ap (λ (l : List ℕ). stored room₀ l) (sym s);
-        }
+        record { numbers = n; bytes = w .bytes ∙ ap (λ (l : List ℕ). stored room₀ l) (sym s) }

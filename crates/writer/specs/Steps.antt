@@ -1,13 +1,15 @@
 -- What the pieces of the writer owe their callers.
 use Prim.Native.Nat.{ℕ, _+_, _*_, _≤_}
 use mathlib.Core.Path.{_≡_}
-use mathlib.Core.List.{List}
+use mathlib.Core.List.{List, _++_}
 use lib.ListN.{length, drop, take, length as lengthOf}
 use lib.IntN.{ℤ, subℕ}
 use Rattle.span.specs.Bytes.{part, splice}
 use Rattle.writer.specs.Differences.{Change, diffs, spelled, coded, written, lastPlace}
 use Rattle.payload.specs.Entries.{start}
+use Rattle.differ.specs.Differ.{nextDiff}
 use Rattle.writer.specs.declared.Difference.{Difference}
+use Rattle.writer.specs.declared.Spelled.{Spelled}
 use Rattle.payload.specs.Steps.{farthest}
 
 -- The writer
@@ -36,6 +38,26 @@ pub record Counted (base page : List ℕ) (next used count : ℕ) : Type 0 where
   pub size : lengthOf (written base page) ≡ used + lengthOf (coded next (rest base page next))
   pub many : lengthOf (diffs 0 base page) ≡ count + lengthOf (rest base page next)
   pub final : lastPlace start (diffs 0 base page) ≡ lastPlace (before next) (rest base page next)
+
+-- what the room has after the differences before `next`: their entries, `used` bytes of the stream, as far as there is room for them
+pub record Stored (base page room₀ room : List ℕ) (next used : ℕ) : Type 0 where
+  pub spelt : List ℕ
+  pub size : used ≡ lengthOf spelt
+  pub kept : lengthOf room ≡ lengthOf room₀
+  pub stream : written base page ≡ spelt ++ coded next (rest base page next)
+  pub bytes : room ≡ splice room₀ 0 (take (lengthOf room₀) spelt)
+
+-- every difference before `at` is counted
+pub record Reached (base page : List ℕ) (at : ℕ) (s : Spelled) : Type 0 where
+  pub counted : Counted base page (s .next) (s .used) (s .entries)
+  pub on : s .next ≤ at
+  pub ahead : nextDiff base page (s .next) ≡ nextDiff base page at
+
+-- and what was stored before the differences from s to r is stored after them, whatever the room was at first
+abbrev pub Spells : List ℕ → List ℕ → List ℕ → Spelled → List ℕ → Spelled → Type 0
+Spells base page room s after r =
+    (lengthOf after ≡ lengthOf room)
+    × ((room₀ : List ℕ) → Stored base page room₀ room (s .next) (s .used) → Stored base page room₀ after (r .next) (r .used))
 
 -- the numbers of the writer's stream of two pages
 pub record Numbers (base page : List ℕ) (d : Difference) : Type 0 where

@@ -1,11 +1,12 @@
 // The writer's stream of two pages.
 use payload::Code;
 ghost use mathlib.Core.Path.{_≡_};
-ghost use Prim.Native.Nat.{_*_, _≤_};
-ghost use lib.ListN.{length as lengthOf};
+ghost use Prim.Native.Nat.{_+_, _-_, _*_, _≤_, _<_};
+ghost use lib.ListN.{length as lengthOf, getD};
 ghost use Rattle.writer.specs.Differences.{spelled};
 ghost use Rattle.payload.specs.Steps.{farthest};
-ghost use Rattle.writer.specs.Steps.{before, near, widthOf, Counted, Numbers, Differs};
+ghost use Rattle.writer.specs.Steps.{before as placeBefore, near, widthOf, Counted, Numbers, Differs, Reached, Spells};
+ghost use Rattle.writer.specs.Words.{wordBytes, numeral};
 ghost use Rattle.span.specs.Bytes.{Put};
 
 // The writer's stream of two pages: its length, its number of entries, and the last differing position.
@@ -13,6 +14,13 @@ pub struct Difference {
     pub length: usize,
     pub entries: usize,
     pub last: i32,
+}
+
+// What is known after some differences: how many bytes and entries they take, and the place after the last of them.
+struct Spelled {
+    used: usize,
+    entries: usize,
+    next: usize,
 }
 
 // Stores an entry as far as there is room, and answers the place after it, room or not.
@@ -45,7 +53,7 @@ fn entry_width(jump: usize) -> usize
 // What is known where the last difference before `next` was the last of all.
 fn found(length: usize, entries: usize, next: usize) -> Difference
     requires { ⌜ next ≤ farthest ⌝ }
-    ensures { λ r. ⌜ (r .length ≡ length) × (r .entries ≡ entries) × (r .last ≡ before next) ⌝ }
+    ensures { λ r. ⌜ (r .length ≡ length) × (r .entries ≡ entries) × (r .last ≡ placeBefore next) ⌝ }
 {
     Difference {
         length: length,
@@ -78,34 +86,71 @@ fn count_rest(base: &[u8], page: &[u8], from: usize, length: usize, entries: usi
     }
 }
 
-// One pass over both pages. Equal bytes go by in `next_diff`.
-fn encode(base: &[u8], page: &[u8], room: &mut [u8]) -> Difference
-    requires { ⌜ lengthOf (now page) ≤ farthest ⌝ }
-    ensures { λ r. ⌜ Differs (now (base .entry)) (now (page .entry)) (now (room .entry)) r (now (room .exit)) ⌝ }
+// Two bytes as a number, the first in its lowest bits; then four, then eight. The compiler makes one load of eight bytes of it.
+fn two(s: &[u8], at: usize) -> u64
+    requires { ⌜ at + 2 ≤ lengthOf (now s) ⌝ }
+    ensures { λ r. ⌜ r ≡ numeral (now (s .entry)) at 2 ⌝ }
 {
-    let mut next = 0;
-    let mut used = 0;
-    let mut entries = 0;
-    loop {
-        if room.len() <= used {
-            return count_rest(base, page, next, used, entries);
-        }
-        let at = differ::next_diff(base, page, next);
-        if base.len() <= at {
-            return found(used, entries, next);
-        }
-        if page.len() <= at {
-            return found(used, entries, next);
-        }
-        used = put_entry(room, used, at - next, page[at]);
-        entries += 1;
-        next = at + 1;
+    wide(s[at]) | (wide(s[at + 1]) << 8)
+}
+
+fn four(s: &[u8], at: usize) -> u64
+    requires { ⌜ at + 4 ≤ lengthOf (now s) ⌝ }
+    ensures { λ r. ⌜ r ≡ numeral (now (s .entry)) at 4 ⌝ }
+{
+    two(s, at) | (two(s, at + 2) << 16)
+}
+
+fn word(s: &[u8], at: usize) -> u64
+    requires { ⌜ at + wordBytes ≤ lengthOf (now s) ⌝ }
+    ensures { λ r. ⌜ r ≡ numeral (now (s .entry)) at wordBytes ⌝ }
+{
+    four(s, at) | (four(s, at + 4) << 32)
+}
+
+fn wide(byte: u8) -> u64
+    ensures { λ r. ⌜ r ≡ byte ⌝ }
+{
+    byte as u64
+}
+
+// The entry of the difference at `at`, and what is known after it.
+fn spell_one(page: &[u8], at: usize, room: &mut [u8], before: Spelled) -> Spelled
+    requires { ⌜ (at < lengthOf (now page)) × (at < farthest) × (before .next ≤ at) × (before .entries ≤ at) × (before .used ≤ 2 * farthest) ⌝ }
+    ensures { λ r. ⌜ Put (now (room .entry)) (before .used) (spelled (at - before .next) (getD (now (page .entry)) at 0)) (r .used) (now (room .exit))
+        × (r .entries ≡ before .entries + 1) × (r .next ≡ at + 1) ⌝ }
+{
+    Spelled {
+        used: put_entry(room, before.used, at - before.next, page[at]),
+        entries: before.entries + 1,
+        next: at + 1,
     }
+}
+
+// The entries of the differences in one word: of the bits in which both words differ the lowest tells the next byte.
+fn spell_word(base: &[u8], page: &[u8], at: usize, room: &mut [u8], before: Spelled) -> Spelled
+    requires { ⌜ (at + wordBytes ≤ lengthOf (now base)) × (at + wordBytes ≤ lengthOf (now page)) × (lengthOf (now page) ≤ farthest)
+        × Reached (now base) (now page) at before ⌝ }
+    ensures { λ r. ⌜ Reached (now (base .entry)) (now (page .entry)) (at + wordBytes) r
+        × Spells (now (base .entry)) (now (page .entry)) (now (room .entry)) before (now (room .exit)) r ⌝ }
+{
+    let mut s = before;
+    let mut from = at;
+    let mut left = word(base, at) ^ word(page, at);
+    while left != 0 {
+        let alike = (u64::trailing_zeros(left) / 8) as usize;
+        s = spell_one(page, from + alike, room, s);
+        from += alike + 1;
+        left = (left >> (8 * alike)) >> 8;
+    }
+    s
 }
 
 // The writer's stream of a page against its base. It is stored as far as there is room, and its numbers are those of the whole.
 pub fn stream_of(base: &[u8], page: &[u8], room: &mut [u8]) -> Difference
     ensures { λ r. ⌜ Differs (now (base .entry)) (near (now (page .entry))) (now (room .entry)) r (now (room .exit)) ⌝ }
 {
-    encode(base, span::part(page, 0, Code::REACH), room)
+    let mut s = Spelled { used: 0, entries: 0, next: 0 };
+    s = spell_word(base, page, 0, room, s);
+    found(s.used, s.entries, s.next)
 }
