@@ -1,21 +1,24 @@
 -- How far the writer has come: one difference more, equal bytes more, and the end, over plain lists.
-use Prim.Native.Nat.{ℕ, _+_, _-_, _*_, _/_, _^_, _≤_, _<_}
+use Prim.Native.Nat.{ℕ, _+_, _-_, _*_, _/_, _^_, _≤_, _<_, min}
 use native.Mathlib.Omega.{arith}
+use native.Mathlib.Decide.{decLt}
 use mathlib.Core.Path.{_≡_, refl, sym, ap, _∙_, subst}
+use mathlib.Core.Logic.{_⊎_, inl, inr}
 use mathlib.Core.List.{List}
 use lib.ListN.{length, getD}
 use lib.Count.{trailingZeros}
 use lib.Seq.{sets, length-sets}
 use Rattle.span.specs.Bytes.{Put}
-use Rattle.differ.specs.Differ.{nextDiff, Same}
-use Rattle.differ.specs.DifferLaws.{next-skip, next-at}
+use Rattle.differ.specs.Differ.{nextDiff, Same, NextChunk}
+use Rattle.differ.specs.DifferLaws.{next-skip, next-at, chunk-on, chunk-ahead}
 use Rattle.writer.specs.Differences.{spelled}
-use Rattle.writer.specs.Steps.{widthOf, Counted, Stored, Reached, Spells}
+use Rattle.writer.specs.Steps.{before, Counted, Numbers, Differs, Stored, Reached, Spells}
 use Rattle.writer.specs.Words.{wordBytes, unlike, FirstIn}
 use Rattle.writer.specs.WordLaws.{Bytes, unlike-none, first-in, first-next}
+use Rattle.writer.specs.declared.Difference.{Difference}
 use Rattle.writer.specs.declared.Spelled.{Spelled}
-use Rattle.writer.proofs.Counting.{width-is, counted-none, counted-more}
-use Rattle.writer.proofs.Writing.{stored-more}
+use Rattle.writer.proofs.Counting.{width-is, counted-none, counted-more, counted-all}
+use Rattle.writer.proofs.Writing.{stored-more, stored-all}
 
 -- nothing yet
 pub reached-none : (base page : List ℕ) → Reached base page 0 (record { used = 0; entries = 0; next = 0 })
@@ -23,6 +26,10 @@ reached-none base page = record { counted = counted-none base page; on = omega a
 
 pub spells-none : (base page room : List ℕ) (s : Spelled) → Spells base page room s room s
 spells-none base page room s = (refl, λ room₀ w. w)
+
+pub spells-then : (base page first : List ℕ) (old : Spelled) (room : List ℕ) (s : Spelled) (after : List ℕ) (r : Spelled) → Spells base page first old room s
+    → Spells base page room s after r → Spells base page first old after r
+spells-then base page first old room s after r f g = (g .0 ∙ f .0, λ room₀ w. g .1 room₀ (f .1 room₀ w))
 
 -- what an entry more is
 abbrev pub One : List ℕ → List ℕ → ℕ → Spelled → List ℕ → Spelled → Type 0
@@ -37,6 +44,15 @@ module _ (base page : List ℕ) (from : ℕ) (s : Spelled) (w : Reached base pag
     on = omega (arith, w .on);
     ahead = w .ahead ∙ next-skip base page from to h l m e;
   }
+
+  -- an equal byte
+  pub reached-alike : from < length base → from < length page → getD base from 0 ≡ getD page from 0 → Reached base page (from + 1) s
+  unfolding Same
+  reached-alike l m e =
+      reached-on (from + 1) (omega arith) (omega arith) (omega arith)
+      (λ i h k.
+      let q : i ≡ from = omega arith in
+      ap (λ (j : ℕ). getD base j 0) q ∙ e ∙ ap (λ (j : ℕ). getD page j 0) (sym q))
 
   module _ (at : ℕ) (e : at ≡ nextDiff base page from) (l : at < length base) (m : at < length page) where
     next-is : at ≡ nextDiff base page (s .next)
@@ -57,8 +73,8 @@ module _ (base page : List ℕ) (from : ℕ) (s : Spelled) (w : Reached base pag
             ahead = ap (λ (k : ℕ). nextDiff base page k) (o .2);
           }
 
-      pub spells-one : (before : Spelled) (first : List ℕ) → Spells base page first before room s → Spells base page first before after r
-      spells-one before first f =
+      pub spells-one : (old : Spelled) (first : List ℕ) → Spells base page first old room s → Spells base page first old after r
+      spells-one old first f =
           let q : at + 1 ≡ r .next = sym (o .2) in
           let ys : List ℕ = spelled (at - s .next) (getD page at 0) in
           let b : length after ≡ length (sets room (s .used) ys) = ap (λ (l : List ℕ). length l) (o .0 .bytes) in (
@@ -67,6 +83,50 @@ module _ (base page : List ℕ) (from : ℕ) (s : Spelled) (w : Reached base pag
                 subst (λ (k : ℕ). Stored base page room₀ after k (r .used)) q
                 (stored-more base page room₀ room (s .next) (s .used) (f .1 room₀ g) at next-is (r .used) after l m (o .0)),
           )
+
+-- equal chunks
+chunk-within : (base page : List ℕ) (from r end : ℕ) → from ≤ end → end ≡ min (length base) (length page) → NextChunk base page from r → r ≤ end
+chunk-within base page from r end h e c =
+    elim (decLt from r) [
+      | yes k ↦
+          let w : (r ≤ length base) × (r ≤ length page) = c .within k in
+          omega arith
+      | no k ↦ omega (arith, c .on)
+    ]
+
+pub record Chunk (base page : List ℕ) (from end r : ℕ) (s : Spelled) : Type 0 where
+  pub on : from ≤ r
+  pub within : r ≤ end
+  pub reached : Reached base page r s
+
+pub chunk-reached : (base page : List ℕ) (from end r : ℕ) (s : Spelled) → from ≤ end → end ≡ min (length base) (length page) → Reached base page from s
+    → NextChunk base page from r → Chunk base page from end r s
+chunk-reached base page from end r s h e w c = record {
+  on = chunk-on base page from r c;
+  within = chunk-within base page from r end h e c;
+  reached = record {
+    counted = w .counted;
+    on = omega (arith, w .on, chunk-on base page from r c);
+    ahead = w .ahead ∙ chunk-ahead base page from r c;
+  };
+}
+
+-- the end: there is no difference more
+module _ (base page : List ℕ) (end : ℕ) (s : Spelled) (w : Reached base page end s) (e : end ≡ min (length base) (length page)) (d : Difference)
+    (f : (d .length ≡ s .used) × (d .entries ≡ s .entries) × (d .last ≡ before (s .next))) where
+  over : (length base ≤ nextDiff base page (s .next)) ⊎ (length page ≤ nextDiff base page (s .next))
+  over =
+      let n : end ≤ nextDiff base page end = next-at base page end .on in
+      elim (decLt (length base) (length page)) [
+        | yes h ↦ inl (omega (arith, w .ahead))
+        | no h ↦ inr (omega (arith, w .ahead))
+      ]
+
+  pub reached-all : Numbers base page d
+  reached-all = counted-all base page (s .next) (s .used) (s .entries) (w .counted) (nextDiff base page (s .next)) refl d over f
+
+  pub spelled-all : (room₀ room : List ℕ) → Stored base page room₀ room (s .next) (s .used) → Differs base page room₀ d room
+  spelled-all room₀ room g = stored-all base page room₀ room (s .next) (s .used) g (nextDiff base page (s .next)) refl d over reached-all
 
 -- A word: what the bits in which both words differ still tell, before `end`
 

@@ -1,8 +1,10 @@
 // The writer's stream of two pages.
+use differ::Grid;
 use payload::Code;
 ghost use mathlib.Core.Path.{_≡_};
 ghost use Prim.Native.Nat.{_+_, _-_, _*_, _≤_, _<_};
 ghost use lib.ListN.{length as lengthOf, getD};
+ghost use Rattle.differ.specs.Differ.{stride};
 ghost use Rattle.writer.specs.Differences.{spelled};
 ghost use Rattle.payload.specs.Steps.{farthest};
 ghost use Rattle.writer.specs.Steps.{before as placeBefore, near, widthOf, Counted, Numbers, Differs, Reached, Spells};
@@ -15,6 +17,9 @@ pub struct Difference {
     pub entries: usize,
     pub last: i32,
 }
+
+// How many bytes are compared at one go where a chunk differs: as many as a register of every machine has.
+const WORD: usize = 8;
 
 // What is known after some differences: how many bytes and entries they take, and the place after the last of them.
 struct Spelled {
@@ -146,11 +151,86 @@ fn spell_word(base: &[u8], page: &[u8], at: usize, room: &mut [u8], before: Spel
     s
 }
 
+// The entries of the differences in one chunk of the grid, a word after the other.
+fn spell_chunk(base: &[u8], page: &[u8], at: usize, room: &mut [u8], before: Spelled) -> Spelled
+    requires { ⌜ (at + stride ≤ lengthOf (now base)) × (at + stride ≤ lengthOf (now page)) × (lengthOf (now page) ≤ farthest)
+        × Reached (now base) (now page) at before ⌝ }
+    ensures { λ r. ⌜ Reached (now (base .entry)) (now (page .entry)) (at + stride) r
+        × Spells (now (base .entry)) (now (page .entry)) (now (room .entry)) before (now (room .exit)) r ⌝ }
+{
+    let mut s = before;
+    let mut done = 0;
+    while done < Grid::STRIDE {
+        s = spell_word(base, page, at + done, room, s);
+        done += WORD;
+    }
+    s
+}
+
+// The entry of one byte, if it differs.
+fn spell_byte(base: &[u8], page: &[u8], at: usize, room: &mut [u8], before: Spelled) -> Spelled
+    requires { ⌜ (at < lengthOf (now base)) × (at < lengthOf (now page)) × (lengthOf (now page) ≤ farthest) × Reached (now base) (now page) at before ⌝ }
+    ensures { λ r. ⌜ Reached (now (base .entry)) (now (page .entry)) (at + 1) r
+        × Spells (now (base .entry)) (now (page .entry)) (now (room .entry)) before (now (room .exit)) r ⌝ }
+{
+    if base[at] == page[at] {
+        return before;
+    }
+    spell_one(page, at, room, before)
+}
+
+// The entries of the differences before `end`, byte by byte: for the last bytes of a page, which fill no chunk.
+fn spell_tail(
+    base: &[u8],
+    page: &[u8],
+    from: usize,
+    end: usize,
+    room: &mut [u8],
+    before: Spelled,
+) -> Spelled
+    requires { ⌜ (from ≤ end) × (end ≤ lengthOf (now base)) × (end ≤ lengthOf (now page)) × (lengthOf (now page) ≤ farthest)
+        × Reached (now base) (now page) from before ⌝ }
+    ensures { λ r. ⌜ Reached (now (base .entry)) (now (page .entry)) end r
+        × Spells (now (base .entry)) (now (page .entry)) (now (room .entry)) before (now (room .exit)) r ⌝ }
+{
+    let mut s = before;
+    let mut at = from;
+    while at < end {
+        s = spell_byte(base, page, at, room, s);
+        at += 1;
+    }
+    s
+}
+
+// One pass over both pages on the grid. Equal chunks go by in `next_chunk`; once the room is full, the rest is only counted.
+fn encode(base: &[u8], page: &[u8], room: &mut [u8]) -> Difference
+    requires { ⌜ lengthOf (now page) ≤ farthest ⌝ }
+    ensures { λ r. ⌜ Differs (now (base .entry)) (now (page .entry)) (now (room .entry)) r (now (room .exit)) ⌝ }
+{
+    let end = span::shorter(base.len(), page.len());
+    let mut s = Spelled {
+        used: 0,
+        entries: 0,
+        next: 0,
+    };
+    let mut at = 0;
+    loop {
+        at = differ::next_chunk(base, page, at);
+        if end - at < Grid::STRIDE {
+            s = spell_tail(base, page, at, end, room, s);
+            return found(s.used, s.entries, s.next);
+        }
+        if room.len() <= s.used {
+            return count_rest(base, page, s.next, s.used, s.entries);
+        }
+        s = spell_chunk(base, page, at, room, s);
+        at += Grid::STRIDE;
+    }
+}
+
 // The writer's stream of a page against its base. It is stored as far as there is room, and its numbers are those of the whole.
 pub fn stream_of(base: &[u8], page: &[u8], room: &mut [u8]) -> Difference
     ensures { λ r. ⌜ Differs (now (base .entry)) (near (now (page .entry))) (now (room .entry)) r (now (room .exit)) ⌝ }
 {
-    let mut s = Spelled { used: 0, entries: 0, next: 0 };
-    s = spell_word(base, page, 0, room, s);
-    found(s.used, s.entries, s.next)
+    encode(base, span::part(page, 0, Code::REACH), room)
 }

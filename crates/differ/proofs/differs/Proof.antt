@@ -16,12 +16,11 @@ abbrev μ-loop : tie.MeasureT-loop
 μ-loop a b at count seen₀ i₀ seen i = count - i
 
 loop-holds : tie.Need-loop-holds Inv-loop μ-loop
-loop-holds c =
-    (
-      search needs,
-      λ e. same-none (c .args .a .now) (c .args .b .now) (c .args .at) (c .args .at + 0) (omega arith),
-      λ e. absurd (false≢true e),
-    )
+loop-holds c = (
+  search needs,
+  λ e. same-none (c .args .a .now) (c .args .b .now) (c .args .at) (c .args .at + 0) (omega arith),
+  λ e. absurd (false≢true e),
+)
 
 add-seen : tie.Need-add-seen Inv-loop μ-loop
 add-seen c = search needs
@@ -44,8 +43,7 @@ loop-less c = search needs
 loop-again : tie.Need-loop-again Inv-loop μ-loop
 loop-again c =
     let a = c .before .before .before .before .args in
-    let l = c .before .before .before .loop in
-    (
+    let l = c .before .before .before .loop in (
       search needs,
       seen-same (a .a .now) (a .b .now) (a .at) (l .i) (l .seen) (l .inv .1),
       seen-unlike (a .a .now) (a .b .now) (a .at) (l .i) (l .seen) (l .inv .2),

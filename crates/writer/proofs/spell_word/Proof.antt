@@ -41,8 +41,13 @@ cast-alike c =
     let l = c .before .loop in
     let wb : Bytes (a .base .now) = λ i. c .before .before .before .before .before .before .shared-slice-known .given i .fits in
     let wp : Bytes (a .page .now) = λ i. c .before .before .before .before .before .shared-slice-known2 .given i .fits in
-    omega (arith, c .before .before .before .before .before .before .before .pre .1, c .before .before .before .before .before .before .before .pre .2, next-within (a .base .now) (a .page .now) wb wp (l .from) (a .at + wordBytes) (l .left) (c .before .before .before .before .before .before .before .pre .0) (c .before .before .before .before .before .before .before .pre .1) (l .inv .1)
-    (l .inv .2) (l .s) (l .inv .3) (omega arith) (c .loop-test .taken))
+    omega (
+      arith,
+      c .before .before .before .before .before .before .before .pre .1,
+      c .before .before .before .before .before .before .before .pre .2,
+      next-within (a .base .now) (a .page .now) wb wp (l .from) (a .at + wordBytes) (l .left) (c .before .before .before .before .before .before .before .pre .0) (c .before .before .before .before .before .before .before .pre .1) (l .inv .1)
+          (l .inv .2) (l .s) (l .inv .3) (omega arith) (c .loop-test .taken),
+    )
 
 add-spell-one : tie.Need-add-spell-one Inv-loop μ-loop
 add-spell-one c =
@@ -50,8 +55,13 @@ add-spell-one c =
     let l = c .before .loop in
     let wb : Bytes (a .base .now) = λ i. c .before .before .before .before .before .before .shared-slice-known .given i .fits in
     let wp : Bytes (a .page .now) = λ i. c .before .before .before .before .before .shared-slice-known2 .given i .fits in
-    omega (arith, c .before .before .before .before .before .before .before .pre .1, c .before .before .before .before .before .before .before .pre .2, next-within (a .base .now) (a .page .now) wb wp (l .from) (a .at + wordBytes) (l .left) (c .before .before .before .before .before .before .before .pre .0) (c .before .before .before .before .before .before .before .pre .1) (l .inv .1)
-    (l .inv .2) (l .s) (l .inv .3) (omega arith) (c .loop-test .taken))
+    omega (
+      arith,
+      c .before .before .before .before .before .before .before .pre .1,
+      c .before .before .before .before .before .before .before .pre .2,
+      next-within (a .base .now) (a .page .now) wb wp (l .from) (a .at + wordBytes) (l .left) (c .before .before .before .before .before .before .before .pre .0) (c .before .before .before .before .before .before .before .pre .1) (l .inv .1)
+          (l .inv .2) (l .s) (l .inv .3) (omega arith) (c .loop-test .taken),
+    )
 
 spell-one-requires : tie.Need-spell-one-requires Inv-loop μ-loop
 spell-one-requires c κs =
@@ -76,8 +86,13 @@ add-from c =
     let l = c .before .before .before .before .before .loop in
     let wb : Bytes (a .base .now) = λ i. c .before .before .before .before .before .before .before .before .before .before .shared-slice-known .given i .fits in
     let wp : Bytes (a .page .now) = λ i. c .before .before .before .before .before .before .before .before .before .shared-slice-known2 .given i .fits in
-    omega (arith, c .before .before .before .before .before .before .before .before .before .before .before .pre .1, c .before .before .before .before .before .before .before .before .before .before .before .pre .2, next-within (a .base .now) (a .page .now) wb wp (l .from) (a .at + wordBytes) (l .left) (c .before .before .before .before .before .before .before .before .before .before .before .pre .0) (c .before .before .before .before .before .before .before .before .before .before .before .pre .1) (l .inv .1)
-    (l .inv .2) (l .s) (l .inv .3) (omega arith) (c .before .before .before .before .loop-test .taken))
+    omega (
+      arith,
+      c .before .before .before .before .before .before .before .before .before .before .before .pre .1,
+      c .before .before .before .before .before .before .before .before .before .before .before .pre .2,
+      next-within (a .base .now) (a .page .now) wb wp (l .from) (a .at + wordBytes) (l .left) (c .before .before .before .before .before .before .before .before .before .before .before .pre .0) (c .before .before .before .before .before .before .before .before .before .before .before .pre .1) (l .inv .1)
+          (l .inv .2) (l .s) (l .inv .3) (omega arith) (c .before .before .before .before .loop-test .taken),
+    )
 
 add-from-2 : tie.Need-add-from-2 Inv-loop μ-loop
 add-from-2 c =
@@ -85,8 +100,13 @@ add-from-2 c =
     let l = c .before .before .before .before .before .loop in
     let wb : Bytes (a .base .now) = λ i. c .before .before .before .before .before .before .before .before .before .before .shared-slice-known .given i .fits in
     let wp : Bytes (a .page .now) = λ i. c .before .before .before .before .before .before .before .before .before .shared-slice-known2 .given i .fits in
-    omega (arith, c .before .before .before .before .before .before .before .before .before .before .before .pre .1, c .before .before .before .before .before .before .before .before .before .before .before .pre .2, next-within (a .base .now) (a .page .now) wb wp (l .from) (a .at + wordBytes) (l .left) (c .before .before .before .before .before .before .before .before .before .before .before .pre .0) (c .before .before .before .before .before .before .before .before .before .before .before .pre .1) (l .inv .1)
-    (l .inv .2) (l .s) (l .inv .3) (omega arith) (c .before .before .before .before .loop-test .taken))
+    omega (
+      arith,
+      c .before .before .before .before .before .before .before .before .before .before .before .pre .1,
+      c .before .before .before .before .before .before .before .before .before .before .before .pre .2,
+      next-within (a .base .now) (a .page .now) wb wp (l .from) (a .at + wordBytes) (l .left) (c .before .before .before .before .before .before .before .before .before .before .before .pre .0) (c .before .before .before .before .before .before .before .before .before .before .before .pre .1) (l .inv .1)
+          (l .inv .2) (l .s) (l .inv .3) (omega arith) (c .before .before .before .before .loop-test .taken),
+    )
 
 mul-left : tie.Need-mul-left Inv-loop μ-loop
 mul-left c =
@@ -94,8 +114,13 @@ mul-left c =
     let l = c .before .before .before .before .before .loop in
     let wb : Bytes (a .base .now) = λ i. c .before .before .before .before .before .before .before .before .before .before .shared-slice-known .given i .fits in
     let wp : Bytes (a .page .now) = λ i. c .before .before .before .before .before .before .before .before .before .shared-slice-known2 .given i .fits in
-    omega (arith, c .before .before .before .before .before .before .before .before .before .before .before .pre .1, c .before .before .before .before .before .before .before .before .before .before .before .pre .2, next-within (a .base .now) (a .page .now) wb wp (l .from) (a .at + wordBytes) (l .left) (c .before .before .before .before .before .before .before .before .before .before .before .pre .0) (c .before .before .before .before .before .before .before .before .before .before .before .pre .1) (l .inv .1)
-    (l .inv .2) (l .s) (l .inv .3) (omega arith) (c .before .before .before .before .loop-test .taken))
+    omega (
+      arith,
+      c .before .before .before .before .before .before .before .before .before .before .before .pre .1,
+      c .before .before .before .before .before .before .before .before .before .before .before .pre .2,
+      next-within (a .base .now) (a .page .now) wb wp (l .from) (a .at + wordBytes) (l .left) (c .before .before .before .before .before .before .before .before .before .before .before .pre .0) (c .before .before .before .before .before .before .before .before .before .before .before .pre .1) (l .inv .1)
+          (l .inv .2) (l .s) (l .inv .3) (omega arith) (c .before .before .before .before .loop-test .taken),
+    )
 
 shr-left : tie.Need-shr-left Inv-loop μ-loop
 shr-left c =
@@ -103,8 +128,13 @@ shr-left c =
     let l = c .before .before .before .before .before .loop in
     let wb : Bytes (a .base .now) = λ i. c .before .before .before .before .before .before .before .before .before .before .shared-slice-known .given i .fits in
     let wp : Bytes (a .page .now) = λ i. c .before .before .before .before .before .before .before .before .before .shared-slice-known2 .given i .fits in
-    omega (arith, c .before .before .before .before .before .before .before .before .before .before .before .pre .1, c .before .before .before .before .before .before .before .before .before .before .before .pre .2, next-within (a .base .now) (a .page .now) wb wp (l .from) (a .at + wordBytes) (l .left) (c .before .before .before .before .before .before .before .before .before .before .before .pre .0) (c .before .before .before .before .before .before .before .before .before .before .before .pre .1) (l .inv .1)
-    (l .inv .2) (l .s) (l .inv .3) (omega arith) (c .before .before .before .before .loop-test .taken))
+    omega (
+      arith,
+      c .before .before .before .before .before .before .before .before .before .before .before .pre .1,
+      c .before .before .before .before .before .before .before .before .before .before .before .pre .2,
+      next-within (a .base .now) (a .page .now) wb wp (l .from) (a .at + wordBytes) (l .left) (c .before .before .before .before .before .before .before .before .before .before .before .pre .0) (c .before .before .before .before .before .before .before .before .before .before .before .pre .1) (l .inv .1)
+          (l .inv .2) (l .s) (l .inv .3) (omega arith) (c .before .before .before .before .loop-test .taken),
+    )
 
 loop-less : tie.Need-loop-less Inv-loop μ-loop
 loop-less c =
@@ -112,8 +142,13 @@ loop-less c =
     let l = c .before .before .before .before .before .loop in
     let wb : Bytes (a .base .now) = λ i. c .before .before .before .before .before .before .before .before .before .before .shared-slice-known .given i .fits in
     let wp : Bytes (a .page .now) = λ i. c .before .before .before .before .before .before .before .before .before .shared-slice-known2 .given i .fits in
-    omega (arith, c .before .before .before .before .before .before .before .before .before .before .before .pre .1, c .before .before .before .before .before .before .before .before .before .before .before .pre .2, next-within (a .base .now) (a .page .now) wb wp (l .from) (a .at + wordBytes) (l .left) (c .before .before .before .before .before .before .before .before .before .before .before .pre .0) (c .before .before .before .before .before .before .before .before .before .before .before .pre .1) (l .inv .1)
-    (l .inv .2) (l .s) (l .inv .3) (omega arith) (c .before .before .before .before .loop-test .taken))
+    omega (
+      arith,
+      c .before .before .before .before .before .before .before .before .before .before .before .pre .1,
+      c .before .before .before .before .before .before .before .before .before .before .before .pre .2,
+      next-within (a .base .now) (a .page .now) wb wp (l .from) (a .at + wordBytes) (l .left) (c .before .before .before .before .before .before .before .before .before .before .before .pre .0) (c .before .before .before .before .before .before .before .before .before .before .before .pre .1) (l .inv .1)
+          (l .inv .2) (l .s) (l .inv .3) (omega arith) (c .before .before .before .before .loop-test .taken),
+    )
 
 loop-again : tie.Need-loop-again Inv-loop μ-loop
 loop-again c =
@@ -132,7 +167,7 @@ loop-again c =
       omega arith,
       omega arith,
       next-left (a .base .now) (a .page .now) wb wp (l .from) (a .at + wordBytes) (l .left) (c .before .before .before .before .before .before .before .before .before .before .before .pre .0) (c .before .before .before .before .before .before .before .before .before .before .before .pre .1) (l .inv .1)
-    (l .inv .2) (l .s) (l .inv .3) (omega arith) (c .before .before .before .before .loop-test .taken),
+          (l .inv .2) (l .s) (l .inv .3) (omega arith) (c .before .before .before .before .loop-test .taken),
       subst (λ (n : ℕ). Reached (a .base .now) (a .page .now) n (put .result)) q
           (reached-one (a .base .now) (a .page .now) (l .from) (l .s) (l .inv .3) (l .from + i) place (omega (arith, most .0)) (omega (arith, most .1))
           (l .room) (put .last .1 .1 .0) (put .result) (put .ensures)),
@@ -148,9 +183,11 @@ returns c =
     let a = c .before .before .before .before .before .before .before .args in
     let l = c .before .loop in
     let wb : Bytes (a .base .now) = λ i. c .before .before .before .before .before .before .shared-slice-known .given i .fits in
-    let wp : Bytes (a .page .now) = λ i. c .before .before .before .before .before .shared-slice-known2 .given i .fits in
-    (word-done (a .base .now) (a .page .now) wb wp (l .from) (a .at + wordBytes) (l .left) (c .before .before .before .before .before .before .before .pre .0) (c .before .before .before .before .before .before .before .pre .1) (l .inv .1)
-    (l .inv .2) (l .s) (l .inv .3) (c .loop-test .left), l .inv .4)
+    let wp : Bytes (a .page .now) = λ i. c .before .before .before .before .before .shared-slice-known2 .given i .fits in (
+      word-done (a .base .now) (a .page .now) wb wp (l .from) (a .at + wordBytes) (l .left) (c .before .before .before .before .before .before .before .pre .0) (c .before .before .before .before .before .before .before .pre .1) (l .inv .1)
+          (l .inv .2) (l .s) (l .inv .3) (c .loop-test .left),
+      l .inv .4,
+    )
 
 pub spell-word-spec : {M : Type 1} → statement M
 spell-word-spec =
