@@ -152,8 +152,7 @@ module _ (base page : List ℕ) (wb : Bytes base) (wp : Bytes page) (from end le
     pub next-within : from + i < end
     next-within = omega (arith, next-byte .within)
 
-    pub next-left : left / 2 ^ (8 * i) / 2 ^ 8 ≡ unlike base page (from + (i + 1)) (end - (from + (i + 1)))
+    pub next-left : left / 2 ^ (8 * i) / 2 ^ 8 ≡ unlike base page (from + i + 1) (end - (from + i + 1))
     next-left =
-        let q : from + i + 1 ≡ from + (i + 1) = omega arith in
-        let r : end - from - (i + 1) ≡ end - (from + (i + 1)) = omega arith in
-        next-byte .left ∙ (λ j. unlike base page (q j) (r j))
+        let r : end - from - (i + 1) ≡ end - (from + i + 1) = omega arith in
+        next-byte .left ∙ ap (unlike base page (from + i + 1)) r

@@ -139,16 +139,26 @@ fn spell_word(base: &[u8], page: &[u8], at: usize, room: &mut [u8], before: Spel
     ensures { λ r. ⌜ Reached (now (base .entry)) (now (page .entry)) (at + wordBytes) r
         × Spells (now (base .entry)) (now (page .entry)) (now (room .entry)) before (now (room .exit)) r ⌝ }
 {
-    let mut s = before;
+    // Three locals and no record: so the loop over equal words in `spell_chunk` moves nothing.
+    let mut used = before.used;
+    let mut entries = before.entries;
+    let mut next = before.next;
     let mut from = at;
     let mut left = word(base, at) ^ word(page, at);
     while left != 0 {
         let alike = (u64::trailing_zeros(left) / 8) as usize;
-        s = spell_one(page, from + alike, room, s);
-        from += alike + 1;
+        from += alike;
+        used = put_entry(room, used, from - next, page[from]);
+        entries += 1;
+        from += 1;
+        next = from;
         left = (left >> (8 * alike)) >> 8;
     }
-    s
+    Spelled {
+        used: used,
+        entries: entries,
+        next: next,
+    }
 }
 
 // The entries of the differences in one chunk of the grid, a word after the other.
@@ -159,10 +169,11 @@ fn spell_chunk(base: &[u8], page: &[u8], at: usize, room: &mut [u8], before: Spe
         × Spells (now (base .entry)) (now (page .entry)) (now (room .entry)) before (now (room .exit)) r ⌝ }
 {
     let mut s = before;
-    let mut done = 0;
-    while done < Grid::STRIDE {
-        s = spell_word(base, page, at + done, room, s);
-        done += WORD;
+    let end = at + Grid::STRIDE;
+    let mut from = at;
+    while from < end {
+        s = spell_word(base, page, from, room, s);
+        from += WORD;
     }
     s
 }

@@ -1,6 +1,6 @@
 use Prim.Native.Nat.{ℕ, _+_, _-_, _%_, _≤_}
 use native.Mathlib.Omega.{arith}
-use mathlib.Core.Path.{_≡_, refl, subst}
+use mathlib.Core.Path.{_≡_, subst}
 use Rattle.differ.specs.Differ.{stride}
 use Rattle.writer.specs.Steps.{Reached, Spells}
 use Rattle.writer.specs.Words.{wordBytes}
@@ -9,33 +9,28 @@ use Rattle.writer.proofs.spell_chunk.Statement.{statement}
 use Rattle.writer.proofs.spell_chunk.Tie as tie
 
 abbrev Inv-loop : tie.InvT-loop
-Inv-loop base page at room₀ s₀ done₀ room s done =
-    (done ≤ stride) × (done % wordBytes ≡ 0) × Reached base page (at + done) s × Spells base page room₀ s₀ room s
+Inv-loop base page at room₀ s₀ end from₀ room s from =
+    (at ≤ from) × (from ≤ at + stride) × ((from - at) % wordBytes ≡ 0) × Reached base page from s × Spells base page room₀ s₀ room s
 
 abbrev μ-loop : tie.MeasureT-loop
-μ-loop base page at room₀ s₀ done₀ room s done = stride - done
+μ-loop base page at room₀ s₀ end from₀ room s from = at + stride - from
+
+add-end : tie.Need-add-end Inv-loop μ-loop
+add-end c = omega (arith, c .before .before .before .pre .1, c .before .before .before .pre .2)
 
 loop-holds : tie.Need-loop-holds Inv-loop μ-loop
 loop-holds c =
     let a = c .before .before .before .args in
-    let q : a .at ≡ a .at + 0 = omega arith in (
-      omega arith,
-      refl,
-      subst (λ (n : ℕ). Reached (a .base .now) (a .page .now) n (a .before)) q (c .before .before .before .pre .3),
-      spells-none (a .base .now) (a .page .now) (a .room .now) (a .before),
-    )
-
-add-spell-word : tie.Need-add-spell-word Inv-loop μ-loop
-add-spell-word c = omega (arith, c .before .before .before .before .before .pre .1, c .before .before .before .before .before .pre .2)
+    (omega arith, omega arith, omega arith, c .before .before .before .pre .3, spells-none (a .base .now) (a .page .now) (a .room .now) (a .before))
 
 spell-word-requires : tie.Need-spell-word-requires Inv-loop μ-loop
 spell-word-requires c κs =
     let l = c .before .before .loop in
     let most = c .before .before .before .before .before .before .pre in
-    (omega (arith, most .0, l .inv .1), omega (arith, most .1, l .inv .1), most .2, l .inv .2)
+    (omega (arith, most .0, l .inv .2, c .before .loop-test .taken), omega (arith, most .1, l .inv .2, c .before .loop-test .taken), most .2, l .inv .3)
 
-add-done : tie.Need-add-done Inv-loop μ-loop
-add-done c = omega (arith, c .before .before .before .before .before .loop .inv .0)
+add-from : tie.Need-add-from Inv-loop μ-loop
+add-from c = omega (arith, c .before .before .before .before .before .loop .inv .1, c .before .before .before .before .before .before .before .before .before .pre .1, c .before .before .before .before .before .before .before .before .before .pre .2)
 
 loop-less : tie.Need-loop-less Inv-loop μ-loop
 loop-less c = omega (arith, c .before .before .before .before .loop-test .taken)
@@ -44,24 +39,24 @@ loop-again : tie.Need-loop-again Inv-loop μ-loop
 loop-again c =
     let a = c .before .before .before .before .before .before .before .before .before .args in
     let l = c .before .before .before .before .before .loop in
-    let word = c .before .before .spell-word in
-    let q : a .at + l .done + wordBytes ≡ a .at + (l .done + wordBytes) = omega arith in (
-      omega (arith, l .inv .1, c .before .before .before .before .loop-test .taken),
-      omega (arith, l .inv .1),
-      subst (λ (n : ℕ). Reached (a .base .now) (a .page .now) n (word .result)) q (word .ensures .0),
-      spells-then (a .base .now) (a .page .now) (a .room .now) (a .before) (l .room) (l .s) (word .last .1 .1 .1 .0) (word .result) (l .inv .3)
+    let word = c .before .before .spell-word in (
+      omega (arith, l .inv .0),
+      omega (arith, l .inv .0, l .inv .2, c .before .before .before .before .loop-test .taken),
+      omega (arith, l .inv .0, l .inv .2),
+      word .ensures .0,
+      spells-then (a .base .now) (a .page .now) (a .room .now) (a .before) (l .room) (l .s) (word .last .1 .1 .1 .0) (word .result) (l .inv .4)
           (word .ensures .1),
     )
 
 same-length : tie.Need-same-length Inv-loop μ-loop
-same-length c = c .before .loop .inv .3 .0
+same-length c = c .before .loop .inv .4 .0
 
 returns : tie.Need-returns Inv-loop μ-loop
 returns c =
     let a = c .before .before .before .before .before .args in
     let l = c .before .loop in
-    let q : a .at + l .done ≡ a .at + stride = omega (arith, l .inv .0, c .loop-test .left) in
-    (subst (λ (n : ℕ). Reached (a .base .now) (a .page .now) n (l .s)) q (l .inv .2), l .inv .3)
+    let q : l .from ≡ a .at + stride = omega (arith, l .inv .1, c .loop-test .left) in
+    (subst (λ (n : ℕ). Reached (a .base .now) (a .page .now) n (l .s)) q (l .inv .3), l .inv .4)
 
 pub spell-chunk-spec : {M : Type 1} → statement M
 spell-chunk-spec =
@@ -69,10 +64,10 @@ spell-chunk-spec =
     (tie.spec
     Inv-loop
     μ-loop
+    add-end
     loop-holds
-    add-spell-word
     spell-word-requires
-    add-done
+    add-from
     loop-less
     loop-again
     same-length

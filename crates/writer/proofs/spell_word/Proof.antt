@@ -1,9 +1,10 @@
 use Prim.Native.Nat.{ℕ, _+_, _-_, _/_, _≤_}
 use native.Mathlib.Omega.{arith}
-use mathlib.Core.Path.{_≡_, ap, _∙_, subst}
-use lib.Count.{trailingZeros}
+use mathlib.Core.Path.{_≡_, refl, ap, _∙_}
 use lib.Bits.{bitXor}
+use lib.Count.{trailingZeros}
 use borrow.Author.Needs.{needs}
+use Rattle.writer.specs.declared.Spelled.{Spelled}
 use Rattle.writer.proofs.Spelling.{spells-none, reached-one, spells-one, word-done, next-place, next-within, next-left}
 use Rattle.writer.specs.Steps.{Reached, Spells}
 use Rattle.writer.specs.Words.{wordBytes, unlike}
@@ -12,11 +13,13 @@ use Rattle.writer.proofs.spell_word.Statement.{statement}
 use Rattle.writer.proofs.spell_word.Tie as tie
 
 abbrev Inv-loop : tie.InvT-loop
-Inv-loop base page at room₀ s₀ from₀ left₀ room s from left =
-    (at ≤ from) × (from ≤ at + wordBytes) × (left ≡ unlike base page from (at + wordBytes - from)) × Reached base page from s × Spells base page room₀ s₀ room s
+Inv-loop base page at room₀ used₀ entries₀ next₀ from₀ left₀ room used entries next from left =
+    (at ≤ from) × (from ≤ at + wordBytes) × (left ≡ unlike base page from (at + wordBytes - from))
+    × Reached base page from (record { used = used; entries = entries; next = next })
+    × Spells base page room₀ (record { used = used₀; entries = entries₀; next = next₀ }) room (record { used = used; entries = entries; next = next })
 
 abbrev μ-loop : tie.MeasureT-loop
-μ-loop base page at room₀ s₀ from₀ left₀ room s from left = at + wordBytes - from
+μ-loop base page at room₀ used₀ entries₀ next₀ from₀ left₀ room used entries next from left = at + wordBytes - from
 
 word-requires : tie.Need-word-requires Inv-loop μ-loop
 word-requires c κs = omega (arith, c .before .before .before .pre .0)
@@ -39,6 +42,7 @@ cast-alike : tie.Need-cast-alike Inv-loop μ-loop
 cast-alike c =
     let a = c .before .before .before .before .before .before .before .args in
     let l = c .before .loop in
+    let s : Spelled = record { used = l .used; entries = l .entries; next = l .next } in
     let wb : Bytes (a .base .now) = λ i. c .before .before .before .before .before .before .shared-slice-known .given i .fits in
     let wp : Bytes (a .page .now) = λ i. c .before .before .before .before .before .shared-slice-known2 .given i .fits in
     omega (
@@ -46,133 +50,160 @@ cast-alike c =
       c .before .before .before .before .before .before .before .pre .1,
       c .before .before .before .before .before .before .before .pre .2,
       next-within (a .base .now) (a .page .now) wb wp (l .from) (a .at + wordBytes) (l .left) (c .before .before .before .before .before .before .before .pre .0) (c .before .before .before .before .before .before .before .pre .1) (l .inv .1)
-          (l .inv .2) (l .s) (l .inv .3) (omega arith) (c .loop-test .taken),
-    )
-
-add-spell-one : tie.Need-add-spell-one Inv-loop μ-loop
-add-spell-one c =
-    let a = c .before .before .before .before .before .before .before .args in
-    let l = c .before .loop in
-    let wb : Bytes (a .base .now) = λ i. c .before .before .before .before .before .before .shared-slice-known .given i .fits in
-    let wp : Bytes (a .page .now) = λ i. c .before .before .before .before .before .shared-slice-known2 .given i .fits in
-    omega (
-      arith,
-      c .before .before .before .before .before .before .before .pre .1,
-      c .before .before .before .before .before .before .before .pre .2,
-      next-within (a .base .now) (a .page .now) wb wp (l .from) (a .at + wordBytes) (l .left) (c .before .before .before .before .before .before .before .pre .0) (c .before .before .before .before .before .before .before .pre .1) (l .inv .1)
-          (l .inv .2) (l .s) (l .inv .3) (omega arith) (c .loop-test .taken),
-    )
-
-spell-one-requires : tie.Need-spell-one-requires Inv-loop μ-loop
-spell-one-requires c κs =
-    let a = c .before .before .before .before .before .before .before .before .args in
-    let l = c .before .before .loop in
-    let wb : Bytes (a .base .now) = λ i. c .before .before .before .before .before .before .before .shared-slice-known .given i .fits in
-    let wp : Bytes (a .page .now) = λ i. c .before .before .before .before .before .before .shared-slice-known2 .given i .fits in
-    let within = next-within (a .base .now) (a .page .now) wb wp (l .from) (a .at + wordBytes) (l .left) (c .before .before .before .before .before .before .before .before .pre .0) (c .before .before .before .before .before .before .before .before .pre .1) (l .inv .1)
-    (l .inv .2) (l .s) (l .inv .3) (omega arith) (c .before .loop-test .taken) in
-    let counted = l .inv .3 .counted in
-    let most = c .before .before .before .before .before .before .before .before .pre in (
-      omega (arith, most .1),
-      omega (arith, most .1, most .2),
-      omega (arith, l .inv .3 .on),
-      omega (arith, l .inv .3 .on, counted .few),
-      omega (arith, counted .short, counted .on, most .2),
+          (l .inv .2) s (l .inv .3) (omega arith) (c .loop-test .taken),
     )
 
 add-from : tie.Need-add-from Inv-loop μ-loop
 add-from c =
-    let a = c .before .before .before .before .before .before .before .before .before .before .before .args in
-    let l = c .before .before .before .before .before .loop in
-    let wb : Bytes (a .base .now) = λ i. c .before .before .before .before .before .before .before .before .before .before .shared-slice-known .given i .fits in
-    let wp : Bytes (a .page .now) = λ i. c .before .before .before .before .before .before .before .before .before .shared-slice-known2 .given i .fits in
+    let a = c .before .before .before .before .before .before .before .args in
+    let l = c .before .loop in
+    let s : Spelled = record { used = l .used; entries = l .entries; next = l .next } in
+    let wb : Bytes (a .base .now) = λ i. c .before .before .before .before .before .before .shared-slice-known .given i .fits in
+    let wp : Bytes (a .page .now) = λ i. c .before .before .before .before .before .shared-slice-known2 .given i .fits in
     omega (
       arith,
-      c .before .before .before .before .before .before .before .before .before .before .before .pre .1,
-      c .before .before .before .before .before .before .before .before .before .before .before .pre .2,
-      next-within (a .base .now) (a .page .now) wb wp (l .from) (a .at + wordBytes) (l .left) (c .before .before .before .before .before .before .before .before .before .before .before .pre .0) (c .before .before .before .before .before .before .before .before .before .before .before .pre .1) (l .inv .1)
-          (l .inv .2) (l .s) (l .inv .3) (omega arith) (c .before .before .before .before .loop-test .taken),
+      c .before .before .before .before .before .before .before .pre .1,
+      c .before .before .before .before .before .before .before .pre .2,
+      next-within (a .base .now) (a .page .now) wb wp (l .from) (a .at + wordBytes) (l .left) (c .before .before .before .before .before .before .before .pre .0) (c .before .before .before .before .before .before .before .pre .1) (l .inv .1)
+          (l .inv .2) s (l .inv .3) (omega arith) (c .loop-test .taken),
+    )
+
+sub-put-entry : tie.Need-sub-put-entry Inv-loop μ-loop
+sub-put-entry c =
+    let a = c .before .before .before .before .before .before .before .before .args in
+    let l = c .before .before .loop in
+    let s : Spelled = record { used = l .used; entries = l .entries; next = l .next } in
+    let wb : Bytes (a .base .now) = λ i. c .before .before .before .before .before .before .before .shared-slice-known .given i .fits in
+    let wp : Bytes (a .page .now) = λ i. c .before .before .before .before .before .before .shared-slice-known2 .given i .fits in
+    omega (
+      arith,
+      c .before .before .before .before .before .before .before .before .pre .1,
+      c .before .before .before .before .before .before .before .before .pre .2,
+      l .inv .3 .on,
+      next-within (a .base .now) (a .page .now) wb wp (l .from) (a .at + wordBytes) (l .left) (c .before .before .before .before .before .before .before .before .pre .0) (c .before .before .before .before .before .before .before .before .pre .1) (l .inv .1)
+          (l .inv .2) s (l .inv .3) (omega arith) (c .before .loop-test .taken),
+    )
+
+shared-slice-read-put-entry : tie.Need-shared-slice-read-put-entry Inv-loop μ-loop
+shared-slice-read-put-entry c =
+    let a = c .before .before .before .before .before .before .before .before .before .args in
+    let l = c .before .before .before .loop in
+    let s : Spelled = record { used = l .used; entries = l .entries; next = l .next } in
+    let wb : Bytes (a .base .now) = λ i. c .before .before .before .before .before .before .before .before .shared-slice-known .given i .fits in
+    let wp : Bytes (a .page .now) = λ i. c .before .before .before .before .before .before .before .shared-slice-known2 .given i .fits in
+    omega (
+      arith,
+      c .before .before .before .before .before .before .before .before .before .pre .1,
+      c .before .before .before .before .before .before .before .before .before .pre .2,
+      next-within (a .base .now) (a .page .now) wb wp (l .from) (a .at + wordBytes) (l .left) (c .before .before .before .before .before .before .before .before .before .pre .0) (c .before .before .before .before .before .before .before .before .before .pre .1) (l .inv .1)
+          (l .inv .2) s (l .inv .3) (omega arith) (c .before .before .loop-test .taken),
+    )
+
+put-entry-requires : tie.Need-put-entry-requires Inv-loop μ-loop
+put-entry-requires c κs =
+    let counted = c .before .before .before .loop .inv .3 .counted in
+    omega (arith, counted .short, counted .on, c .before .before .before .before .before .before .before .before .before .pre .2)
+
+add-entries : tie.Need-add-entries Inv-loop μ-loop
+add-entries c =
+    let a = c .before .before .before .before .before .before .before .before .before .before .before .before .args in
+    let l = c .before .before .before .before .before .before .loop in
+    let s : Spelled = record { used = l .used; entries = l .entries; next = l .next } in
+    let wb : Bytes (a .base .now) = λ i. c .before .before .before .before .before .before .before .before .before .before .before .shared-slice-known .given i .fits in
+    let wp : Bytes (a .page .now) = λ i. c .before .before .before .before .before .before .before .before .before .before .shared-slice-known2 .given i .fits in
+    omega (
+      arith,
+      c .before .before .before .before .before .before .before .before .before .before .before .before .pre .1,
+      c .before .before .before .before .before .before .before .before .before .before .before .before .pre .2,
+      l .inv .3 .on,
+      l .inv .3 .counted .few,
+      next-within (a .base .now) (a .page .now) wb wp (l .from) (a .at + wordBytes) (l .left) (c .before .before .before .before .before .before .before .before .before .before .before .before .pre .0) (c .before .before .before .before .before .before .before .before .before .before .before .before .pre .1) (l .inv .1)
+          (l .inv .2) s (l .inv .3) (omega arith) (c .before .before .before .before .before .loop-test .taken),
     )
 
 add-from-2 : tie.Need-add-from-2 Inv-loop μ-loop
 add-from-2 c =
-    let a = c .before .before .before .before .before .before .before .before .before .before .before .args in
-    let l = c .before .before .before .before .before .loop in
-    let wb : Bytes (a .base .now) = λ i. c .before .before .before .before .before .before .before .before .before .before .shared-slice-known .given i .fits in
-    let wp : Bytes (a .page .now) = λ i. c .before .before .before .before .before .before .before .before .before .shared-slice-known2 .given i .fits in
+    let a = c .before .before .before .before .before .before .before .before .before .before .before .before .args in
+    let l = c .before .before .before .before .before .before .loop in
+    let s : Spelled = record { used = l .used; entries = l .entries; next = l .next } in
+    let wb : Bytes (a .base .now) = λ i. c .before .before .before .before .before .before .before .before .before .before .before .shared-slice-known .given i .fits in
+    let wp : Bytes (a .page .now) = λ i. c .before .before .before .before .before .before .before .before .before .before .shared-slice-known2 .given i .fits in
     omega (
       arith,
-      c .before .before .before .before .before .before .before .before .before .before .before .pre .1,
-      c .before .before .before .before .before .before .before .before .before .before .before .pre .2,
-      next-within (a .base .now) (a .page .now) wb wp (l .from) (a .at + wordBytes) (l .left) (c .before .before .before .before .before .before .before .before .before .before .before .pre .0) (c .before .before .before .before .before .before .before .before .before .before .before .pre .1) (l .inv .1)
-          (l .inv .2) (l .s) (l .inv .3) (omega arith) (c .before .before .before .before .loop-test .taken),
+      c .before .before .before .before .before .before .before .before .before .before .before .before .pre .1,
+      c .before .before .before .before .before .before .before .before .before .before .before .before .pre .2,
+      next-within (a .base .now) (a .page .now) wb wp (l .from) (a .at + wordBytes) (l .left) (c .before .before .before .before .before .before .before .before .before .before .before .before .pre .0) (c .before .before .before .before .before .before .before .before .before .before .before .before .pre .1) (l .inv .1)
+          (l .inv .2) s (l .inv .3) (omega arith) (c .before .before .before .before .before .loop-test .taken),
     )
 
 mul-left : tie.Need-mul-left Inv-loop μ-loop
 mul-left c =
-    let a = c .before .before .before .before .before .before .before .before .before .before .before .args in
-    let l = c .before .before .before .before .before .loop in
-    let wb : Bytes (a .base .now) = λ i. c .before .before .before .before .before .before .before .before .before .before .shared-slice-known .given i .fits in
-    let wp : Bytes (a .page .now) = λ i. c .before .before .before .before .before .before .before .before .before .shared-slice-known2 .given i .fits in
+    let a = c .before .before .before .before .before .before .before .before .before .before .before .before .args in
+    let l = c .before .before .before .before .before .before .loop in
+    let s : Spelled = record { used = l .used; entries = l .entries; next = l .next } in
+    let wb : Bytes (a .base .now) = λ i. c .before .before .before .before .before .before .before .before .before .before .before .shared-slice-known .given i .fits in
+    let wp : Bytes (a .page .now) = λ i. c .before .before .before .before .before .before .before .before .before .before .shared-slice-known2 .given i .fits in
     omega (
       arith,
-      c .before .before .before .before .before .before .before .before .before .before .before .pre .1,
-      c .before .before .before .before .before .before .before .before .before .before .before .pre .2,
-      next-within (a .base .now) (a .page .now) wb wp (l .from) (a .at + wordBytes) (l .left) (c .before .before .before .before .before .before .before .before .before .before .before .pre .0) (c .before .before .before .before .before .before .before .before .before .before .before .pre .1) (l .inv .1)
-          (l .inv .2) (l .s) (l .inv .3) (omega arith) (c .before .before .before .before .loop-test .taken),
+      c .before .before .before .before .before .before .before .before .before .before .before .before .pre .1,
+      c .before .before .before .before .before .before .before .before .before .before .before .before .pre .2,
+      next-within (a .base .now) (a .page .now) wb wp (l .from) (a .at + wordBytes) (l .left) (c .before .before .before .before .before .before .before .before .before .before .before .before .pre .0) (c .before .before .before .before .before .before .before .before .before .before .before .before .pre .1) (l .inv .1)
+          (l .inv .2) s (l .inv .3) (omega arith) (c .before .before .before .before .before .loop-test .taken),
     )
 
 shr-left : tie.Need-shr-left Inv-loop μ-loop
 shr-left c =
-    let a = c .before .before .before .before .before .before .before .before .before .before .before .args in
-    let l = c .before .before .before .before .before .loop in
-    let wb : Bytes (a .base .now) = λ i. c .before .before .before .before .before .before .before .before .before .before .shared-slice-known .given i .fits in
-    let wp : Bytes (a .page .now) = λ i. c .before .before .before .before .before .before .before .before .before .shared-slice-known2 .given i .fits in
+    let a = c .before .before .before .before .before .before .before .before .before .before .before .before .args in
+    let l = c .before .before .before .before .before .before .loop in
+    let s : Spelled = record { used = l .used; entries = l .entries; next = l .next } in
+    let wb : Bytes (a .base .now) = λ i. c .before .before .before .before .before .before .before .before .before .before .before .shared-slice-known .given i .fits in
+    let wp : Bytes (a .page .now) = λ i. c .before .before .before .before .before .before .before .before .before .before .shared-slice-known2 .given i .fits in
     omega (
       arith,
-      c .before .before .before .before .before .before .before .before .before .before .before .pre .1,
-      c .before .before .before .before .before .before .before .before .before .before .before .pre .2,
-      next-within (a .base .now) (a .page .now) wb wp (l .from) (a .at + wordBytes) (l .left) (c .before .before .before .before .before .before .before .before .before .before .before .pre .0) (c .before .before .before .before .before .before .before .before .before .before .before .pre .1) (l .inv .1)
-          (l .inv .2) (l .s) (l .inv .3) (omega arith) (c .before .before .before .before .loop-test .taken),
+      c .before .before .before .before .before .before .before .before .before .before .before .before .pre .1,
+      c .before .before .before .before .before .before .before .before .before .before .before .before .pre .2,
+      next-within (a .base .now) (a .page .now) wb wp (l .from) (a .at + wordBytes) (l .left) (c .before .before .before .before .before .before .before .before .before .before .before .before .pre .0) (c .before .before .before .before .before .before .before .before .before .before .before .before .pre .1) (l .inv .1)
+          (l .inv .2) s (l .inv .3) (omega arith) (c .before .before .before .before .before .loop-test .taken),
     )
 
 loop-less : tie.Need-loop-less Inv-loop μ-loop
 loop-less c =
-    let a = c .before .before .before .before .before .before .before .before .before .before .before .args in
-    let l = c .before .before .before .before .before .loop in
-    let wb : Bytes (a .base .now) = λ i. c .before .before .before .before .before .before .before .before .before .before .shared-slice-known .given i .fits in
-    let wp : Bytes (a .page .now) = λ i. c .before .before .before .before .before .before .before .before .before .shared-slice-known2 .given i .fits in
+    let a = c .before .before .before .before .before .before .before .before .before .before .before .before .args in
+    let l = c .before .before .before .before .before .before .loop in
+    let s : Spelled = record { used = l .used; entries = l .entries; next = l .next } in
+    let wb : Bytes (a .base .now) = λ i. c .before .before .before .before .before .before .before .before .before .before .before .shared-slice-known .given i .fits in
+    let wp : Bytes (a .page .now) = λ i. c .before .before .before .before .before .before .before .before .before .before .shared-slice-known2 .given i .fits in
     omega (
       arith,
-      c .before .before .before .before .before .before .before .before .before .before .before .pre .1,
-      c .before .before .before .before .before .before .before .before .before .before .before .pre .2,
-      next-within (a .base .now) (a .page .now) wb wp (l .from) (a .at + wordBytes) (l .left) (c .before .before .before .before .before .before .before .before .before .before .before .pre .0) (c .before .before .before .before .before .before .before .before .before .before .before .pre .1) (l .inv .1)
-          (l .inv .2) (l .s) (l .inv .3) (omega arith) (c .before .before .before .before .loop-test .taken),
+      c .before .before .before .before .before .before .before .before .before .before .before .before .pre .1,
+      c .before .before .before .before .before .before .before .before .before .before .before .before .pre .2,
+      next-within (a .base .now) (a .page .now) wb wp (l .from) (a .at + wordBytes) (l .left) (c .before .before .before .before .before .before .before .before .before .before .before .before .pre .0) (c .before .before .before .before .before .before .before .before .before .before .before .before .pre .1) (l .inv .1)
+          (l .inv .2) s (l .inv .3) (omega arith) (c .before .before .before .before .before .loop-test .taken),
     )
 
 loop-again : tie.Need-loop-again Inv-loop μ-loop
 loop-again c =
-    let a = c .before .before .before .before .before .before .before .before .before .before .before .args in
-    let l = c .before .before .before .before .before .loop in
-    let wb : Bytes (a .base .now) = λ i. c .before .before .before .before .before .before .before .before .before .before .shared-slice-known .given i .fits in
-    let wp : Bytes (a .page .now) = λ i. c .before .before .before .before .before .before .before .before .before .shared-slice-known2 .given i .fits in
+    let a = c .before .before .before .before .before .before .before .before .before .before .before .before .args in
+    let l = c .before .before .before .before .before .before .loop in
+    let s : Spelled = record { used = l .used; entries = l .entries; next = l .next } in
+    let wb : Bytes (a .base .now) = λ i. c .before .before .before .before .before .before .before .before .before .before .before .shared-slice-known .given i .fits in
+    let wp : Bytes (a .page .now) = λ i. c .before .before .before .before .before .before .before .before .before .before .shared-slice-known2 .given i .fits in
     let i : ℕ = trailingZeros 64 (l .left) / 8 in
-    let within = next-within (a .base .now) (a .page .now) wb wp (l .from) (a .at + wordBytes) (l .left) (c .before .before .before .before .before .before .before .before .before .before .before .pre .0) (c .before .before .before .before .before .before .before .before .before .before .before .pre .1) (l .inv .1)
-    (l .inv .2) (l .s) (l .inv .3) (omega arith) (c .before .before .before .before .loop-test .taken) in
-    let place = next-place (a .base .now) (a .page .now) wb wp (l .from) (a .at + wordBytes) (l .left) (c .before .before .before .before .before .before .before .before .before .before .before .pre .0) (c .before .before .before .before .before .before .before .before .before .before .before .pre .1) (l .inv .1)
-    (l .inv .2) (l .s) (l .inv .3) (omega arith) (c .before .before .before .before .loop-test .taken) in
-    let put = c .before .before .spell-one in
-    let q : l .from + i + 1 ≡ l .from + (i + 1) = omega arith in
-    let most = c .before .before .before .before .before .before .before .before .before .before .before .pre in (
+    let within = next-within (a .base .now) (a .page .now) wb wp (l .from) (a .at + wordBytes) (l .left) (c .before .before .before .before .before .before .before .before .before .before .before .before .pre .0) (c .before .before .before .before .before .before .before .before .before .before .before .before .pre .1) (l .inv .1)
+    (l .inv .2) s (l .inv .3) (omega arith) (c .before .before .before .before .before .loop-test .taken) in
+    let place = next-place (a .base .now) (a .page .now) wb wp (l .from) (a .at + wordBytes) (l .left) (c .before .before .before .before .before .before .before .before .before .before .before .before .pre .0) (c .before .before .before .before .before .before .before .before .before .before .before .before .pre .1) (l .inv .1)
+    (l .inv .2) s (l .inv .3) (omega arith) (c .before .before .before .before .before .loop-test .taken) in
+    let put = c .before .before .put-entry in
+    let r : Spelled = record { used = put .result; entries = l .entries + 1; next = l .from + i + 1 } in
+    let most = c .before .before .before .before .before .before .before .before .before .before .before .before .pre in (
       omega arith,
       omega arith,
-      next-left (a .base .now) (a .page .now) wb wp (l .from) (a .at + wordBytes) (l .left) (c .before .before .before .before .before .before .before .before .before .before .before .pre .0) (c .before .before .before .before .before .before .before .before .before .before .before .pre .1) (l .inv .1)
-          (l .inv .2) (l .s) (l .inv .3) (omega arith) (c .before .before .before .before .loop-test .taken),
-      subst (λ (n : ℕ). Reached (a .base .now) (a .page .now) n (put .result)) q
-          (reached-one (a .base .now) (a .page .now) (l .from) (l .s) (l .inv .3) (l .from + i) place (omega (arith, most .0)) (omega (arith, most .1))
-          (l .room) (put .last .1 .1 .0) (put .result) (put .ensures)),
-      spells-one (a .base .now) (a .page .now) (l .from) (l .s) (l .inv .3) (l .from + i) place (omega (arith, most .0)) (omega (arith, most .1))
-          (l .room) (put .last .1 .1 .0) (put .result) (put .ensures) (a .before) (a .room .now) (l .inv .4),
+      next-left (a .base .now) (a .page .now) wb wp (l .from) (a .at + wordBytes) (l .left) (c .before .before .before .before .before .before .before .before .before .before .before .before .pre .0) (c .before .before .before .before .before .before .before .before .before .before .before .before .pre .1) (l .inv .1)
+          (l .inv .2) s (l .inv .3) (omega arith) (c .before .before .before .before .before .loop-test .taken),
+      reached-one (a .base .now) (a .page .now) (l .from) s (l .inv .3) (l .from + i) place (omega (arith, most .0)) (omega (arith, most .1))
+          (l .room) (put .last .0) r (put .ensures, refl, refl),
+      spells-one (a .base .now) (a .page .now) (l .from) s (l .inv .3) (l .from + i) place (omega (arith, most .0)) (omega (arith, most .1))
+          (l .room) (put .last .0) r (put .ensures, refl, refl) (a .before) (a .room .now) (l .inv .4),
     )
 
 same-length : tie.Need-same-length Inv-loop μ-loop
@@ -182,10 +213,11 @@ returns : tie.Need-returns Inv-loop μ-loop
 returns c =
     let a = c .before .before .before .before .before .before .before .args in
     let l = c .before .loop in
+    let s : Spelled = record { used = l .used; entries = l .entries; next = l .next } in
     let wb : Bytes (a .base .now) = λ i. c .before .before .before .before .before .before .shared-slice-known .given i .fits in
     let wp : Bytes (a .page .now) = λ i. c .before .before .before .before .before .shared-slice-known2 .given i .fits in (
       word-done (a .base .now) (a .page .now) wb wp (l .from) (a .at + wordBytes) (l .left) (c .before .before .before .before .before .before .before .pre .0) (c .before .before .before .before .before .before .before .pre .1) (l .inv .1)
-          (l .inv .2) (l .s) (l .inv .3) (c .loop-test .left),
+          (l .inv .2) s (l .inv .3) (c .loop-test .left),
       l .inv .4,
     )
 
@@ -199,9 +231,11 @@ spell-word-spec =
     word-requires-2
     loop-holds
     cast-alike
-    add-spell-one
-    spell-one-requires
     add-from
+    sub-put-entry
+    shared-slice-read-put-entry
+    put-entry-requires
+    add-entries
     add-from-2
     mul-left
     shr-left
