@@ -1,17 +1,18 @@
 -- A turn of each loop of differ.
 use Prim.Native.Nat.{ℕ, _+_, _-_, _*_, _≤_, _<_, min}
 use native.Mathlib.Omega.{arith}
+use native.Mathlib.Nat.{add-mul}
 use native.Mathlib.Decide.{decLt}
 use mathlib.Core.Path.{_≡_, refl, sym, ap, _∙_}
 use mathlib.Core.Bool.{Bool, true, false, not, _||_, true≢false}
 use mathlib.Core.Logic.{_⊎_, inl, inr}
 use mathlib.Core.List.{List}
-use lib.Dec.{eqb}
+use lib.Dec.{eqb, leb}
 use lib.ListN.{length, getD}
 use mir.Val.{boolByte}
-use borrow.Author.Tests.{eqb-true, eqb-false}
-use Rattle.differ.specs.Differ.{Same, nextDiff, differsAt, diffsIn, stride, NextChunk}
-use Rattle.differ.specs.DifferLaws.{next-skip, diffs-next}
+use borrow.Author.Tests.{eqb-true, eqb-false, le-leb, lt-leb}
+use Rattle.differ.specs.Differ.{chunk, nextDiff, Same, differsAt, diffsIn, NextChunk, hasChunk}
+use Rattle.differ.specs.DifferLaws.{next-skip, diffs-next, has-whole, has-part}
 
 -- no byte is passed yet
 pub same-none : (a b : List ℕ) (at to : ℕ) → to ≤ at → Same a b at to
@@ -54,22 +55,22 @@ seen-unlike a b at i false u h s = go (eqb (getD a (at + i) 0) (getD b (at + i) 
     go false e k = eqb-false (getD a (at + i) 0) (getD b (at + i) 0) e (s (at + i) (omega arith) (omega arith))
 
 -- how far the grid is passed: whole steps, with equal bytes
-pub record Stepped (a b : List ℕ) (from end at : ℕ) : Type 0 where
+pub record Stepped (width : ℕ) (a b : List ℕ) (from end at : ℕ) : Type 0 where
   pub steps : ℕ
-  pub on : at ≡ from + steps * stride
+  pub on : at ≡ from + steps * width
   pub within : at ≤ end
   pub alike : Same a b from at
 
-pub stepped-none : (a b : List ℕ) (from end : ℕ) → from ≤ end → Stepped a b from end from
-stepped-none a b from end h = record { steps = 0; on = omega arith; within = h; alike = same-none a b from from (omega arith) }
+pub stepped-none : (width : ℕ) (a b : List ℕ) (from end : ℕ) → from ≤ end → Stepped width a b from end from
+stepped-none width a b from end h = record { steps = 0; on = omega arith; within = h; alike = same-none a b from from (omega arith) }
 
-module _ (a b : List ℕ) (from end at : ℕ) (p : Stepped a b from end at) where
+module _ (width : ℕ) (a b : List ℕ) (from end at : ℕ) (p : Stepped width a b from end at) where
   -- a step more
-  pub stepped-more : at + stride ≤ end → Same a b at (at + stride) → Stepped a b from end (at + stride)
+  pub stepped-more : at + width ≤ end → Same a b at (at + width) → Stepped width a b from end (at + width)
   unfolding Same
   stepped-more h s = record {
     steps = p .steps + 1;
-    on = omega (arith, p .on);
+    on = omega (arith, p .on, add-mul (p .steps) 1 width);
     within = h;
     alike =
         λ i k m.
@@ -80,7 +81,7 @@ module _ (a b : List ℕ) (from end at : ℕ) (p : Stepped a b from end at) wher
   }
 
   -- where it stops
-  pub stepped-all : end ≡ min (length a) (length b) → (at + stride ≤ end → Same a b at (at + stride) → ⊥) → NextChunk a b from at
+  pub stepped-all : end ≡ min (length a) (length b) → (at + width ≤ end → Same a b at (at + width) → ⊥) → NextChunk width a b from at
   stepped-all e d = record {
     steps = p .steps;
     on = p .on;
@@ -90,8 +91,8 @@ module _ (a b : List ℕ) (from end at : ℕ) (p : Stepped a b from end at) wher
   }
 
 -- a place that neither list reaches
-pub stepped-past : (a b : List ℕ) (from : ℕ) → min (length a) (length b) ≤ from → NextChunk a b from from
-stepped-past a b from h = record {
+pub stepped-past : (width : ℕ) (a b : List ℕ) (from : ℕ) → 1 ≤ width → min (length a) (length b) ≤ from → NextChunk width a b from from
+stepped-past width a b from o h = record {
   steps = 0;
   on = omega arith;
   within = λ k. absurd (omega arith);
@@ -132,4 +133,12 @@ shorter-of l m n h =
     elim (decLt l n) [
       | yes k ↦ inl k
       | no k ↦ inr (omega arith)
+    ]
+
+-- whether the chunk is whole, as the code asks it
+pub has-asked : (a b : List ℕ) (at end : ℕ) → end ≡ min (length a) (length b) → leb chunk (end - at) ≡ hasChunk a b at
+has-asked a b at end e =
+    elim (decLt (end - at) chunk) [
+      | yes h ↦ lt-leb chunk (end - at) h ∙ sym (has-part a b at (shorter-of (length a) (length b) (at + chunk) (omega arith)))
+      | no h ↦ le-leb chunk (end - at) (omega arith) ∙ sym (has-whole a b at (omega arith) (omega arith))
     ]

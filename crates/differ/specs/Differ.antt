@@ -1,19 +1,17 @@
 -- Where two lists differ next, and in how many places.
 use Prim.Native.Nat.{ℕ, zero, suc, _+_, _*_, _≤_, _<_}
 use mathlib.Core.Path.{_≡_}
-use mathlib.Core.Bool.{true, false, cond, _&&_}
+use mathlib.Core.Bool.{Bool, true, false, cond, _&&_}
 use mathlib.Core.List.{List, [], _∷_}
 use lib.Dec.{eqb, leb}
 use lib.ListN.{length, drop, getD}
-use Rattle.differ.specs.declared.Cluster.{Cluster}
 
--- in how many places the code counts differences at one go
-abbrev pub chunk : ℕ
-chunk = 64
-
--- how far the places of a grid stand from each other
+-- the steps of the two grids: how many bytes the code compares, and how many it counts, at one go
 abbrev pub stride : ℕ
 stride = 128
+
+abbrev pub chunk : ℕ
+chunk = 64
 
 -- how many bytes two lists have in common from their start on
 unfoldable pub agree : List ℕ → List ℕ → ℕ
@@ -43,23 +41,21 @@ unfoldable pub afterLast : List ℕ → List ℕ → ℕ → ℕ → ℕ
 afterLast a b from zero = from
 afterLast a b from (suc n) = elim (eqb (getD a (from + n) 0) (getD b (from + n) 0)) [ true ↦ afterLast a b from n | false ↦ from + n + 1 ]
 
--- the differences of the chunk from `from` on: how many, and the place after the last. None are told of a chunk that a or b has not whole.
-unfoldable pub clusterAt : List ℕ → List ℕ → ℕ → Cluster
-clusterAt a b from =
-    cond (leb (from + chunk) (length a) && leb (from + chunk) (length b))
-    (record { count = diffsIn a b from chunk; next = afterLast a b from chunk })
-    (record { count = 0; next = from })
+-- a and b have the whole chunk from `at` on
+abbrev pub hasChunk : List ℕ → List ℕ → ℕ → Bool
+hasChunk a b at = leb (at + chunk) (length a) && leb (at + chunk) (length b)
 
--- what passing over equal bytes up to r gives: r lies on the way to `end`, and the next difference is still ahead
-pub record Skipped (a b : List ℕ) (from end r : ℕ) : Type 0 where
-  pub on : from ≤ r
-  pub within : r ≤ end
-  pub ahead : nextDiff a b from ≡ nextDiff a b r
+-- how many places of it differ, and the place after the last of them. None are told of a chunk that a or b has not whole.
+unfoldable pub chunkDiffs : List ℕ → List ℕ → ℕ → ℕ
+chunkDiffs a b at = cond (hasChunk a b at) (diffsIn a b at chunk) 0
 
--- the first place on the grid from `from` on whose bytes up to the next place differ, or that has no next place in a or b
-pub record NextChunk (a b : List ℕ) (from r : ℕ) : Type 0 where
+unfoldable pub chunkAfter : List ℕ → List ℕ → ℕ → ℕ
+chunkAfter a b at = cond (hasChunk a b at) (afterLast a b at chunk) at
+
+-- the first place from `from` on, in steps of this width, whose bytes up to the next place differ, or that has no next place in a or b
+pub record NextChunk (width : ℕ) (a b : List ℕ) (from r : ℕ) : Type 0 where
   pub steps : ℕ
-  pub on : r ≡ from + steps * stride
+  pub on : r ≡ from + steps * width
   pub within : from < r → (r ≤ length a) × (r ≤ length b)
   pub alike : Same a b from r
-  pub differ : r + stride ≤ length a → r + stride ≤ length b → Same a b r (r + stride) → ⊥
+  pub differ : r + width ≤ length a → r + width ≤ length b → Same a b r (r + width) → ⊥

@@ -1,10 +1,11 @@
 -- The laws of differences: the next one said of places and not by a walk, and counts of them.
-use Prim.Native.Nat.{ℕ, zero, suc, _+_, _-_, _≤_, _<_}
+use Prim.Native.Nat.{ℕ, zero, suc, _+_, _-_, _*_, _≤_, _<_, min}
 use native.Mathlib.Omega.{arith}
+use native.Mathlib.Nat.{mul-le-mul-right, suc-mul}
 use native.Mathlib.Decide.{decLt}
 use native.Mathlib.Numerals.{add-one}
 use mathlib.Core.Path.{_≡_, refl, sym, ap, _∙_}
-use mathlib.Core.Bool.{Bool, true, false, cond, _&&_, and-false}
+use mathlib.Core.Bool.{Bool, true, false, _&&_, and-false, false≢true}
 use mathlib.Core.Logic.{_⊎_, inl, inr}
 use mathlib.Core.List.{List, [], _∷_}
 use lib.Dec.{eqb, leb}
@@ -13,8 +14,7 @@ use lib.Seq.{getD-drop}
 use borrow.Author.Tests.{eq-eqb, ne-eqb, eqb-true, eqb-false, leb-true, le-leb, lt-leb}
 use Rattle.span.specs.Bytes.{same}
 use Rattle.span.specs.Laws.{ext, same-true, same-false}
-use Rattle.differ.specs.Differ.{chunk, agree, nextDiff, Same, differsAt, diffsIn, afterLast, clusterAt, NextChunk}
-use Rattle.differ.specs.declared.Cluster.{Cluster}
+use Rattle.differ.specs.Differ.{chunk, agree, nextDiff, Same, differsAt, diffsIn, afterLast, hasChunk, chunkDiffs, chunkAfter, NextChunk}
 
 -- what the next difference is, said of places and not by a walk
 pub record NextAt (a b : List ℕ) (from r : ℕ) : Type 0 where
@@ -139,38 +139,60 @@ unfolding Same
 next-here a b r d =
     next-is a b r r (record { on = omega arith; within = λ h. absurd (omega arith); alike = λ i h k. absurd (omega arith); differ = d })
 
--- The next chunk on the grid: no difference is passed on the way to it, and there is no second such place
+-- The next chunk: no difference is passed on the way to it, and there is no second such place
 
-pub chunk-on : (a b : List ℕ) (from r : ℕ) → NextChunk a b from r → from ≤ r
-chunk-on a b from r c = omega (arith, c .on)
+module _ (width : ℕ) (a b : List ℕ) (from : ℕ) where
+  pub chunk-on : (r : ℕ) → NextChunk width a b from r → from ≤ r
+  chunk-on r c = omega (arith, c .on)
 
-pub chunk-ahead : (a b : List ℕ) (from r : ℕ) → NextChunk a b from r → nextDiff a b from ≡ nextDiff a b r
-chunk-ahead a b from r c =
-    elim (decLt from r) [
-      | yes h ↦ next-skip a b from r (omega arith) (c .within h .0) (c .within h .1) (c .alike)
-      | no h ↦
-          let q : from ≡ r = omega (arith, c .on) in
-          ap (λ (i : ℕ). nextDiff a b i) q
-    ]
+  pub chunk-ahead : (r : ℕ) → NextChunk width a b from r → nextDiff a b from ≡ nextDiff a b r
+  chunk-ahead r c =
+      elim (decLt from r) [
+        | yes h ↦ next-skip a b from r (omega arith) (c .within h .0) (c .within h .1) (c .alike)
+        | no h ↦
+            let q : from ≡ r = omega (arith, c .on) in
+            ap (λ (i : ℕ). nextDiff a b i) q
+      ]
 
--- of two such places none comes first
-chunk-first : (a b : List ℕ) (from r s : ℕ) → NextChunk a b from r → NextChunk a b from s → r < s → ⊥
-unfolding Same
-chunk-first a b from r s p q h =
-    let k : p .steps + 1 ≤ q .steps = omega (arith, p .on, q .on) in
-    let w : (s ≤ length a) × (s ≤ length b) = q .within (omega (arith, p .on)) in
-    p .differ (omega (arith, p .on, q .on)) (omega (arith, p .on, q .on)) (λ i l m. q .alike i (omega (arith, p .on)) (omega (arith, p .on, q .on)))
+  pub chunk-within : (r end : ℕ) → from ≤ end → end ≡ min (length a) (length b) → NextChunk width a b from r → r ≤ end
+  chunk-within r end h e c =
+      elim (decLt from r) [
+        | yes k ↦
+            let w : (r ≤ length a) × (r ≤ length b) = c .within k in
+            omega arith
+        | no k ↦ omega (arith, c .on)
+      ]
 
-pub chunk-one : (a b : List ℕ) (from r s : ℕ) → NextChunk a b from r → NextChunk a b from s → r ≡ s
-chunk-one a b from r s p q =
-    elim (decLt r s) [
-      | yes h ↦ absurd (chunk-first a b from r s p q h)
-      | no h ↦
-          elim (decLt s r) [
-            | yes k ↦ absurd (chunk-first a b from s r q p k)
-            | no k ↦ omega arith
-          ]
-    ]
+  -- of two such places none comes first
+  chunk-first : (r s : ℕ) → NextChunk width a b from r → NextChunk width a b from s → r < s → ⊥
+  unfolding Same
+  chunk-first r s p q h =
+      let fewer : p .steps < q .steps =
+      elim (decLt (p .steps) (q .steps)) [
+        | yes k ↦ k
+        | no k ↦
+            let m : q .steps * width ≤ p .steps * width = mul-le-mul-right width (omega arith) in
+            absurd (omega (arith, p .on, q .on))
+      ] in
+      let m : suc (p .steps) * width ≤ q .steps * width = mul-le-mul-right width fewer in
+      let n : suc (p .steps) * width ≡ width + p .steps * width = suc-mul′ (p .steps) width in
+      let to : r + width ≤ s = omega (arith, p .on, q .on) in
+      let w : (s ≤ length a) × (s ≤ length b) = q .within (omega (arith, p .on)) in
+      p .differ (omega arith) (omega arith) (λ i l k. q .alike i (omega (arith, p .on)) (omega arith))
+    where
+      suc-mul′ : (m n : ℕ) → suc m * n ≡ n + m * n
+      suc-mul′ m n = suc-mul m n ∙ omega arith
+
+  pub chunk-one : (r s : ℕ) → NextChunk width a b from r → NextChunk width a b from s → r ≡ s
+  chunk-one r s p q =
+      elim (decLt r s) [
+        | yes h ↦ absurd (chunk-first r s p q h)
+        | no h ↦
+            elim (decLt s r) [
+              | yes k ↦ absurd (chunk-first s r q p k)
+              | no k ↦ omega arith
+            ]
+      ]
 
 -- The laws of that number
 
@@ -339,77 +361,118 @@ diffs-zero a b from (suc n) e i h k = go (eqb (getD a (from + n) 0) (getD b (fro
         ]
     go false f z rest = absurd (omega arith)
 
--- a cluster's differences stand within a byte's reach of `from`, and all up to the last are counted
-pub record Clusters (a b : List ℕ) (from : ℕ) (c : Cluster) : Type 0 where
-  pub on : from ≤ c .next
-  pub near : c .next ≤ from + 255
-  pub within : from < c .next → (c .next ≤ length a) × (c .next ≤ length b)
-  pub count : c .count ≡ diffsIn a b from (c .next - from)
-  pub differ : from < c .next → getD a (c .next - 1) 0 ≡ getD b (c .next - 1) 0 → ⊥
+-- differences that stand within a byte's reach of `from`, all up to the last of them counted
+pub record Near (a b : List ℕ) (from next count : ℕ) : Type 0 where
+  pub on : from ≤ next
+  pub near : next ≤ from + 255
+  pub within : from < next → (next ≤ length a) × (next ≤ length b)
+  pub counted : count ≡ diffsIn a b from (next - from)
+  pub differ : from < next → getD a (next - 1) 0 ≡ getD b (next - 1) 0 → ⊥
 
-pub clusters : (a b : List ℕ) (from : ℕ) → Clusters a b from (clusterAt a b from)
-unfolding clusterAt
-clusters a b from = go (leb (from + chunk) (length a)) (leb (from + chunk) (length b)) refl refl
+-- two stretches are counted one after the other
+pub diffs-join : (a b : List ℕ) (from j k : ℕ) → diffsIn a b from (j + k) ≡ diffsIn a b from j + diffsIn a b (from + j) k
+unfolding diffsIn
+diffs-join a b from j zero =
+    let q : j + 0 ≡ j = omega arith in
+    let e : diffsIn a b from (j + 0) ≡ diffsIn a b from j = ap (diffsIn a b from) q in
+    omega arith
+diffs-join a b from j (suc k) =
+    let q : j + suc k ≡ suc (j + k) = omega arith in
+    let r : from + (j + k) ≡ from + j + k = omega arith in
+    let e : diffsIn a b from (j + suc k) ≡ diffsIn a b from (suc (j + k)) = ap (diffsIn a b from) q in
+    let f : differsAt a b (from + (j + k)) ≡ differsAt a b (from + j + k) = ap (differsAt a b) r in
+    omega (arith, diffs-join a b from j k)
+
+-- equal places at the start count for nothing
+pub diffs-same : (a b : List ℕ) (from n : ℕ) → Same a b from (from + n) → diffsIn a b from n ≡ 0
+unfolding Same diffsIn
+diffs-same a b from zero s = refl
+diffs-same a b from (suc n) s =
+    omega (arith, diffs-same a b from n (λ i h k. s i h (omega arith)), alike-at a b (from + n) (s (from + n) (omega arith) (omega arith)))
+
+-- Whether a and b have a chunk whole
+pub has-whole : (a b : List ℕ) (at : ℕ) → at + chunk ≤ length a → at + chunk ≤ length b → hasChunk a b at ≡ true
+has-whole a b at la lb = rw (le-leb (at + chunk) (length a) la, le-leb (at + chunk) (length b) lb) refl
+
+pub has-part : (a b : List ℕ) (at : ℕ) → (length a < at + chunk) ⊎ (length b < at + chunk) → hasChunk a b at ≡ false
+has-part a b at (inl h) = rw (lt-leb (at + chunk) (length a) h) refl
+has-part a b at (inr h) = rw (lt-leb (at + chunk) (length b) h) (and-false (leb (at + chunk) (length a)))
+
+pub has-true : (a b : List ℕ) (at : ℕ) → hasChunk a b at ≡ true → (at + chunk ≤ length a) × (at + chunk ≤ length b)
+has-true a b at e = go (leb (at + chunk) (length a)) (leb (at + chunk) (length b)) refl refl e
   where
-    none : Clusters a b from (record { count = 0; next = from })
-    none =
-        let q : from - from ≡ 0 = omega arith in
-        record {
-          on = omega arith;
-          near = omega arith;
-          within = λ h. absurd (omega arith);
-          count = sym (ap (λ (n : ℕ). diffsIn a b from n) q ∙ diffs-none a b from);
-          differ = λ h. absurd (omega arith);
-        }
+    go : (s t : Bool) → leb (at + chunk) (length a) ≡ s → leb (at + chunk) (length b) ≡ t → (s && t) ≡ true
+        → (at + chunk ≤ length a) × (at + chunk ≤ length b)
+    go true true f g h = (leb-true (at + chunk) (length a) f, leb-true (at + chunk) (length b) g)
+    go true false f g h = absurd (false≢true h)
+    go false t f g h = absurd (false≢true h)
 
-    go : (s t : Bool) → leb (from + chunk) (length a) ≡ s → leb (from + chunk) (length b) ≡ t
-        → Clusters a b from
-        (cond (s && t) (record { count = diffsIn a b from chunk; next = afterLast a b from chunk }) (record { count = 0; next = from }))
-    go true true e f =
-        let l : AfterLast a b from (from + chunk) (afterLast a b from chunk) = after-last a b from chunk in
-        let r : ℕ = afterLast a b from chunk in
-        let la : from + chunk ≤ length a = leb-true (from + chunk) (length a) e in
-        let lb : from + chunk ≤ length b = leb-true (from + chunk) (length b) f in
-        let o : from ≤ r = l .on in
-        let w : r ≤ from + chunk = l .within in
-        let k : ℕ = r - from in
-        let n : ℕ = from + chunk - r in
-        let p : from + k ≡ r = omega arith in
-        let q : k + n ≡ chunk = omega arith in
-        let s : Same a b (from + k) (from + (k + n)) = rw (p, q) (l .alike) in
+-- A chunk that a and b have whole and that differs: its first difference, its last one, and how many there are
+module _ (a b : List ℕ) (at : ℕ) (la : at + chunk ≤ length a) (lb : at + chunk ≤ length b) where
+  pub chunk-diffs : chunkDiffs a b at ≡ diffsIn a b at chunk
+  unfolding chunkDiffs
+  chunk-diffs = rw (has-whole a b at la lb) refl
+
+  pub chunk-after : chunkAfter a b at ≡ afterLast a b at chunk
+  unfolding chunkAfter
+  chunk-after = rw (has-whole a b at la lb) refl
+
+  -- no difference after the last one
+  pub after-ahead : nextDiff a b (afterLast a b at chunk) ≡ nextDiff a b (at + chunk)
+  after-ahead =
+      let l : AfterLast a b at (at + chunk) (afterLast a b at chunk) = after-last a b at chunk in
+      next-skip a b (afterLast a b at chunk) (at + chunk) (l .within) la lb (l .alike)
+
+  module _ (d : Same a b at (at + chunk) → ⊥) where
+    pub chunk-first-in : nextDiff a b at < at + chunk
+    unfolding Same
+    chunk-first-in =
+        let n : NextAt a b at (nextDiff a b at) = next-at a b at in
+        elim (decLt (nextDiff a b at) (at + chunk)) [
+          | yes h ↦ h
+          | no h ↦ absurd (d (λ i k m. n .alike i k (omega arith)))
+        ]
+
+    -- the last one is no earlier than the first
+    pub chunk-last-in : nextDiff a b at + 1 ≤ afterLast a b at chunk
+    unfolding Same
+    chunk-last-in =
+        let f : ℕ = nextDiff a b at in
+        let n : NextAt a b at f = next-at a b at in
+        let l : AfterLast a b at (at + chunk) (afterLast a b at chunk) = after-last a b at chunk in
+        let h : f < at + chunk = chunk-first-in in
+        elim (decLt f (afterLast a b at chunk)) [
+          | yes k ↦ omega arith
+          | no k ↦ absurd (n .differ (omega arith) (omega arith) (l .alike f (omega arith) h))
+        ]
+
+    -- what is counted after the first
+    pub chunk-near : (count : ℕ) → count + 1 ≡ diffsIn a b at chunk → Near a b (nextDiff a b at + 1) (afterLast a b at chunk) count
+    chunk-near count e =
+        let f : ℕ = nextDiff a b at in
+        let r : ℕ = afterLast a b at chunk in
+        let n : NextAt a b at f = next-at a b at in
+        let l : AfterLast a b at (at + chunk) r = after-last a b at chunk in
+        let h : f < at + chunk = chunk-first-in in
+        let o : f + 1 ≤ r = chunk-last-in in
+        let w : r ≤ at + chunk = l .within in
+        let on : at ≤ f = n .on in
+        let k : ℕ = r - (f + 1) in
+        let m : ℕ = at + chunk - r in
+        let all : chunk ≡ f - at + suc (k + m) = omega arith in
+        let p : at + (f - at) ≡ f = omega arith in
+        let q : f + 1 + k ≡ r = omega arith in
+        let t : f + 1 + (k + m) ≡ at + chunk = omega arith in
+        let none : diffsIn a b at (f - at) ≡ 0 = diffs-same a b at (f - at) (rw p (n .alike)) in
+        let split : diffsIn a b at chunk ≡ diffsIn a b at (f - at) + diffsIn a b (at + (f - at)) (suc (k + m)) =
+        ap (diffsIn a b at) all ∙ diffs-join a b at (f - at) (suc (k + m)) in
+        let here : diffsIn a b (at + (f - at)) (suc (k + m)) ≡ diffsIn a b f (suc (k + m)) = ap (λ (i : ℕ). diffsIn a b i (suc (k + m))) p in
+        let one : differsAt a b f ≡ 1 = unlike-at a b f (n .differ (omega arith) (omega arith)) in
+        let rest : diffsIn a b (f + 1) (k + m) ≡ diffsIn a b (f + 1) k = diffs-alike a b (f + 1) k m (rw (q, t) (l .alike)) in
         record {
           on = o;
           near = omega arith;
-          within = λ h. (omega arith, omega arith);
-          count = ap (λ (i : ℕ). diffsIn a b from i) (sym q) ∙ diffs-alike a b from k n s;
-          differ = l .differ;
+          within = λ _. (omega arith, omega arith);
+          counted = omega (arith, diffs-first a b f (k + m));
+          differ = λ g. l .differ (omega arith);
         }
-    go true false e f = none
-    go false t e f = none
-
--- and what a cluster comes to: in a chunk that is not whole, in one where nothing differs, and in any other
-pub cluster-short : (a b : List ℕ) (from : ℕ) → (length a < from + chunk) ⊎ (length b < from + chunk)
-    → record { count = 0; next = from } ≡ clusterAt a b from
-unfolding clusterAt
-cluster-short a b from (inl h) = rw (lt-leb (from + chunk) (length a) h)
-cluster-short a b from (inr h) = rw (lt-leb (from + chunk) (length b) h, and-false (leb (from + chunk) (length a)))
-
-module _ (a b : List ℕ) (from : ℕ) (la : from + chunk ≤ length a) (lb : from + chunk ≤ length b) where
-  pub cluster-whole : (count r : ℕ) → count ≡ diffsIn a b from chunk → r ≡ afterLast a b from chunk
-      → record { count = count; next = r } ≡ clusterAt a b from
-  unfolding clusterAt
-  cluster-whole count r e f = rw (le-leb (from + chunk) (length a) la, le-leb (from + chunk) (length b) lb)
-      (λ i. record { count = e i; next = f i })
-
-  pub cluster-zero : (count : ℕ) → count ≡ diffsIn a b from chunk → count ≡ 0 → record { count = 0; next = from } ≡ clusterAt a b from
-  cluster-zero count e z =
-      let w : AfterLast a b from (from + chunk) from =
-      record {
-        on = omega arith;
-        within = omega arith;
-        alike = diffs-zero a b from chunk (sym e ∙ z);
-        differ = λ h. absurd
-            (omega arith);
-      } in
-      cluster-whole 0 from (sym z ∙ e)
-      (after-last-one a b from (from + chunk) from (afterLast a b from chunk) w (after-last a b from chunk))

@@ -1,34 +1,29 @@
-// Where two slices differ: the next place, how many places, and whether any. The loops are shaped so that the compiler turns them into
-// wide instructions: no loop leaves early at a byte, but `next_byte`, which looks at fewer than eight, and `after_last`, which looks
-// at one chunk.
+// Where two slices differ: the next place, the next chunk, how many places of a chunk, and whether any. The loops are shaped so that the
+// compiler turns them into wide instructions: no loop leaves early at a byte, but `next_byte`, which looks at fewer than eight, and
+// `after_last`, which looks at one chunk.
 ghost use mathlib.Core.Path.{_≡_};
 ghost use mathlib.Core.Bool.{true, false};
 ghost use Prim.Native.Nat.{_+_, _-_, _≤_, min};
 ghost use lib.ListN.{length};
 ghost use Rattle.span.specs.Bytes.{part as partOf, same as sameBytes};
-ghost use Rattle.differ.specs.Differ.{chunk, stride, nextDiff, diffsIn, Same, Skipped, NextChunk, afterLast, clusterAt};
+ghost use Rattle.differ.specs.Differ.{chunk, stride, nextDiff, diffsIn, Same, NextChunk, afterLast, hasChunk, chunkDiffs, chunkAfter};
 
-// Differences that stand close together: how many they are, and the place after the last of them.
-pub struct Cluster {
-    pub count: usize,
-    pub next: usize,
-}
-
-// The grid on which two pages are compared.
+// The grids on which two pages are compared.
 pub struct Grid;
 
 impl Grid {
-    // How many bytes are compared at one go: eight registers of 16 bytes, or four of 32.
+    // How many bytes are compared at one go where pages are alike: eight registers of 16 bytes, or four of 32.
     pub const STRIDE: usize = 128;
 
-    // The code's number is the definitions'.
+    // How many are counted at one go. Of four such chunks in a row the first and the last are still within a byte's reach.
+    pub const CHUNK: usize = 64;
+
+    // The code's numbers are the definitions'.
     pub fn agrees()
-        ensures { λ _. do ⌜ (← ⟦Grid::STRIDE⟧ .entry) ≡ stride ⌝ }
+        ensures stride { λ _. do ⌜ (← ⟦Grid::STRIDE⟧ .entry) ≡ stride ⌝ }
+        ensures chunk { λ _. do ⌜ (← ⟦Grid::CHUNK⟧ .entry) ≡ chunk ⌝ }
     {}
 }
-
-// How many bytes are compared at one go next to a difference.
-const CHUNK: usize = 64;
 
 const WORD: usize = 8;
 
@@ -49,8 +44,8 @@ fn differs(a: &[u8], b: &[u8], at: usize, count: usize) -> bool
 
 // Passes over equal bytes, `width` at a time, as long as so many are left before `end`.
 fn skip_equal(a: &[u8], b: &[u8], from: usize, end: usize, width: usize) -> usize
-    requires { ⌜ (from ≤ end) × (end ≤ length (now a)) × (end ≤ length (now b)) × (1 ≤ width) ⌝ }
-    ensures { λ r. ⌜ Skipped (now (a .entry)) (now (b .entry)) from end r ⌝ }
+    requires { ⌜ (from ≤ end) × (end ≡ min (length (now a)) (length (now b))) × (1 ≤ width) ⌝ }
+    ensures { λ r. ⌜ NextChunk width (now (a .entry)) (now (b .entry)) from r ⌝ }
 {
     let mut at = from;
     while width <= end - at {
@@ -62,22 +57,26 @@ fn skip_equal(a: &[u8], b: &[u8], from: usize, end: usize, width: usize) -> usiz
     at
 }
 
-// The first place on the grid from `from` on whose bytes up to the next place differ, or that has no next place.
-pub fn next_chunk(a: &[u8], b: &[u8], from: usize) -> usize
-    ensures { λ r. ⌜ NextChunk (now (a .entry)) (now (b .entry)) from r ⌝ }
+// The first place from `from` on, in steps of the stride, whose bytes up to the next place differ, or that has no next place.
+pub fn next_stride(a: &[u8], b: &[u8], from: usize) -> usize
+    ensures { λ r. ⌜ NextChunk stride (now (a .entry)) (now (b .entry)) from r ⌝ }
 {
     let end = span::shorter(a.len(), b.len());
     if end <= from {
         return from;
     }
-    let mut at = from;
-    while Grid::STRIDE <= end - at {
-        if differs(a, b, at, Grid::STRIDE) {
-            return at;
-        }
-        at += Grid::STRIDE;
+    skip_equal(a, b, from, end, Grid::STRIDE)
+}
+
+// The same in steps of a chunk.
+pub fn next_chunk(a: &[u8], b: &[u8], from: usize) -> usize
+    ensures { λ r. ⌜ NextChunk chunk (now (a .entry)) (now (b .entry)) from r ⌝ }
+{
+    let end = span::shorter(a.len(), b.len());
+    if end <= from {
+        return from;
     }
-    at
+    skip_equal(a, b, from, end, Grid::CHUNK)
 }
 
 // The next difference before `end`, a byte at a time: for the last few bytes before one.
@@ -113,23 +112,44 @@ pub fn next_diff(a: &[u8], b: &[u8], from: usize) -> usize
     if differs(a, b, from, WORD) {
         return next_byte(a, b, from, end);
     }
-    let wide = skip_equal(a, b, from + WORD, end, CHUNK);
+    let wide = skip_equal(a, b, from + WORD, end, Grid::CHUNK);
     let near = skip_equal(a, b, wide, end, WORD);
     next_byte(a, b, near, end)
 }
 
-// How many of the next chunk's places differ. The count is a byte, so that sixteen are added at one go.
-fn count_chunk(a: &[u8], b: &[u8], at: usize) -> u8
+// Whether a and b have the whole chunk from `at` on.
+fn has_chunk(a: &[u8], b: &[u8], at: usize) -> bool
+    ensures { λ r. ⌜ r ≡ hasChunk (now (a .entry)) (now (b .entry)) at ⌝ }
+{
+    let end = span::shorter(a.len(), b.len());
+    if end <= at {
+        return false;
+    }
+    Grid::CHUNK <= end - at
+}
+
+// How many of a chunk's places differ. The count is a byte, so that sixteen are added at one go.
+fn count_whole(a: &[u8], b: &[u8], at: usize) -> u8
     requires { ⌜ (at + chunk ≤ length (now a)) × (at + chunk ≤ length (now b)) ⌝ }
     ensures { λ r. ⌜ r ≡ diffsIn (now (a .entry)) (now (b .entry)) at chunk ⌝ }
 {
     let mut count: u8 = 0;
     let mut i = 0;
-    while i < CHUNK {
+    while i < Grid::CHUNK {
         count += (a[at + i] != b[at + i]) as u8;
         i += 1;
     }
     count
+}
+
+// How many places of the chunk from `at` on differ. None are told of a chunk that a or b does not have whole.
+pub fn count_chunk(a: &[u8], b: &[u8], at: usize) -> usize
+    ensures { λ r. ⌜ r ≡ chunkDiffs (now (a .entry)) (now (b .entry)) at ⌝ }
+{
+    if has_chunk(a, b, at) {
+        return count_whole(a, b, at) as usize;
+    }
+    0
 }
 
 // The place after the last difference between `from` and `to`, or `from`: for a chunk that has one, looked for from its end.
@@ -147,34 +167,14 @@ fn after_last(a: &[u8], b: &[u8], from: usize, to: usize) -> usize
     at
 }
 
-// The differences in the chunk from `from` on. None are told of a chunk that a or b does not have whole.
-pub fn cluster_at(a: &[u8], b: &[u8], from: usize) -> Cluster
-    ensures { λ r. ⌜ r ≡ clusterAt (now (a .entry)) (now (b .entry)) from ⌝ }
+// The place after the last difference of the chunk from `at` on, or `at`; so too where a or b does not have the chunk whole.
+pub fn after_chunk(a: &[u8], b: &[u8], at: usize) -> usize
+    ensures { λ r. ⌜ r ≡ chunkAfter (now (a .entry)) (now (b .entry)) at ⌝ }
 {
-    let end = span::shorter(a.len(), b.len());
-    if end <= from {
-        return Cluster {
-            count: 0,
-            next: from,
-        };
+    if has_chunk(a, b, at) {
+        return after_last(a, b, at, at + Grid::CHUNK);
     }
-    if end - from < CHUNK {
-        return Cluster {
-            count: 0,
-            next: from,
-        };
-    }
-    let count = count_chunk(a, b, from) as usize;
-    if count == 0 {
-        return Cluster {
-            count: 0,
-            next: from,
-        };
-    }
-    Cluster {
-        count: count,
-        next: after_last(a, b, from, from + CHUNK),
-    }
+    at
 }
 
 // Whether a and b hold the same bytes.

@@ -2,7 +2,8 @@ use borrow.Author.Needs.{needs}
 use Prim.Native.Nat.{_+_}
 use native.Mathlib.Omega.{arith}
 use mathlib.Core.Path.{sym, _∙_}
-use Rattle.differ.specs.DifferLaws.{next-here, next-skip}
+use Rattle.differ.specs.Differ.{chunk}
+use Rattle.differ.specs.DifferLaws.{next-here, next-skip, chunk-ahead, chunk-within}
 use Rattle.differ.proofs.next_diff.Statement.{statement}
 use Rattle.differ.proofs.next_diff.Tie as tie
 
@@ -50,19 +51,38 @@ skip-equal-requires : tie.Need-skip-equal-requires
 skip-equal-requires c κs = search needs
 
 skip-equal-requires-2 : tie.Need-skip-equal-requires-2
-skip-equal-requires-2 c κs = search needs
+skip-equal-requires-2 c κs =
+    let a = c .before .before .before .before .before .before .before .before .before .before .before .args in
+    let wide = c .skip-equal in
+    let end = c .before .before .before .before .before .before .before .before .shorter in (
+      chunk-within chunk (a .a .now) (a .b .now) (a .from + 8) (wide .result) (end .result) (omega arith) (end .ensures) (wide .ensures),
+      end .ensures,
+      omega arith,
+    )
 
 next-byte-requires-3 : tie.Need-next-byte-requires-3
-next-byte-requires-3 c κs = search needs
+next-byte-requires-3 c κs =
+    let a = c .before .before .before .before .before .before .before .before .before .before .before .before .args in
+    let wide = c .before .skip-equal in
+    let near = c .skip-equal2 in
+    let end = c .before .before .before .before .before .before .before .before .before .shorter in (
+      chunk-within 8 (a .a .now) (a .b .now) (wide .result) (near .result) (end .result)
+          (chunk-within chunk (a .a .now) (a .b .now) (a .from + 8) (wide .result) (end .result) (omega arith) (end .ensures) (wide .ensures)) (end .ensures)
+          (near .ensures),
+      end .ensures,
+    )
 
 returns-5 : tie.Need-returns-5
 returns-5 c =
     let a = c .before .before .before .before .before .before .before .before .before .before .before .before .before .args in
-    let wide = c .before .before .skip-equal .ensures in
-    let near = c .before .skip-equal2 .ensures in
+    let wide = c .before .before .skip-equal in
+    let near = c .before .skip-equal2 in
     let word = c .before .before .before .before .differs .ensures .0 (c .before .before .before .if4 .left) in
     c .next-byte3 .ensures
-    ∙ sym (next-skip (a .a .now) (a .b .now) (a .from) (a .from + 8) (omega arith) (omega arith) (omega arith) word ∙ wide .ahead ∙ near .ahead)
+    ∙ sym
+    (next-skip (a .a .now) (a .b .now) (a .from) (a .from + 8) (omega arith) (omega arith) (omega arith) word
+    ∙ chunk-ahead chunk (a .a .now) (a .b .now) (a .from + 8) (wide .result) (wide .ensures)
+    ∙ chunk-ahead 8 (a .a .now) (a .b .now) (wide .result) (near .result) (near .ensures))
 
 pub next-diff-spec : {M : Type 1} → statement M
 next-diff-spec =
