@@ -10,9 +10,8 @@ use lib.Dec.{eqb}
 use lib.ListN.{length, drop, getD, length-append, drop-of-length-le}
 use lib.IntN.{ℤ}
 use borrow.Author.Tests.{lt-ltb, le-ltb, eq-eqb, ne-eqb, eqb-true, eqb-false}
-use Rattle.differ.specs.declared.Cluster.{Cluster}
-use Rattle.differ.specs.Differ.{nextDiff, Same, differsAt, diffsIn, clusterAt}
-use Rattle.differ.specs.DifferLaws.{NextAt, next-at, diffs-none, diffs-first, diffs-few, alike-at, unlike-at, Clusters, clusters}
+use Rattle.differ.specs.Differ.{nextDiff, Same, differsAt, diffsIn}
+use Rattle.differ.specs.DifferLaws.{NextAt, next-at, diffs-none, diffs-first, diffs-few, alike-at, unlike-at, Near}
 use Rattle.layout.specs.Numbers.{le}
 use Rattle.writer.specs.Differences.{Change, diffs, spelled, coded, written, lastPlace}
 use Rattle.writer.specs.Steps.{before, widthOf, rest, Counted, Numbers}
@@ -40,6 +39,13 @@ width-is jump v =
 
 width-most : (jump : ℕ) → widthOf jump ≤ 2 * (jump + 1)
 width-most jump =
+    elim (decLt jump 255) [
+      | yes h ↦ omega (arith, width-short jump 0 h)
+      | no h ↦ omega (arith, width-long jump 0 (omega arith))
+    ]
+
+pub width-least : (jump : ℕ) → 2 ≤ widthOf jump
+width-least jump =
     elim (decLt jump 255) [
       | yes h ↦ omega (arith, width-short jump 0 h)
       | no h ↦ omega (arith, width-long jump 0 (omega arith))
@@ -236,33 +242,20 @@ module _ (base page : List ℕ) (next used count : ℕ) (w : Counted base page n
           last = f .2 ∙ sym (w .final ∙ ap (λ (ds : List Change). lastPlace (before next) ds) r);
         }
 
-counted-near : (base page : List ℕ) (next used count : ℕ) → Counted base page next used count → (c : Cluster) → Clusters base page next c
-    → (used′ count′ : ℕ) → used′ ≡ used + 2 * c .count → count′ ≡ count + c .count → Counted base page (c .next) used′ count′
-counted-near base page next used count w c m used′ count′ u n =
-    let k : ℕ = c .next - next in
-    let some : ℕ = diffsIn base page next k in
-    let e : c .count ≡ some = m .count in
-    let few : some ≤ k = diffs-few base page next k in
-    let o : next ≤ c .next = m .on in
-    let on : c .next ≤ length page =
-    elim (decLt next (c .next)) [
+-- and those that stand close after it
+pub counted-near : (base page : List ℕ) (next used count : ℕ) → Counted base page next used count → (r some : ℕ) → Near base page next r some
+    → (used′ count′ : ℕ) → used′ ≡ used + 2 * some → count′ ≡ count + some → Counted base page r used′ count′
+counted-near base page next used count w r some m used′ count′ u n =
+    let k : ℕ = r - next in
+    let e : some ≡ diffsIn base page next k = m .counted in
+    let few : diffsIn base page next k ≤ k = diffs-few base page next k in
+    let o : next ≤ r = m .on in
+    let on : r ≤ length page =
+    elim (decLt next r) [
       | yes h ↦ m .within h .1
       | no h ↦ omega (arith, w .on)
     ] in
-    let p : Passed base page next next (2 * some) some (c .next) =
-    passed-near base page k next next (c .next) (omega arith) (omega arith) (m .near) (λ f. f) (λ h. (m .within h .0, m .within h .1, m .differ h)) in
-    counted-on base page next used count w (c .next) (2 * some) some used′ count′ p on (omega arith) (omega arith) (omega arith) (omega arith)
-
--- what a told cluster is
-pub told-cluster : (a b : List ℕ) (from : ℕ) (c : Cluster) → c ≡ clusterAt a b from → Clusters a b from c
-told-cluster a b from c e = subst (λ (x : Cluster). Clusters a b from x) (sym e) (clusters a b from)
-
--- a difference, and those that stand close after it
-pub counted-cluster : (base page : List ℕ) (next used count : ℕ) → Counted base page next used count → (at : ℕ) → at ≡ nextDiff base page next
-    → at < length base → at < length page
-    → (c : Cluster) → c ≡ clusterAt base page (at + 1) → (width : ℕ) → width ≡ widthOf (at - next)
-    → Counted base page (c .next) (used + (width + 2 * c .count)) (count + (1 + c .count))
-counted-cluster base page next used count w at e l m c p width f =
-    counted-near base page (at + 1) (used + width) (count + 1) (counted-more base page next used count w at e (used + width) l m (omega arith)) c
-    (told-cluster base page (at + 1) c p)
-    (used + (width + 2 * c .count)) (count + (1 + c .count)) (omega arith) (omega arith)
+    let p : Passed base page next next (2 * diffsIn base page next k) (diffsIn base page next k) r =
+    passed-near base page k next next r (omega arith) (omega arith) (m .near) (λ f. f) (λ h. (m .within h .0, m .within h .1, m .differ h)) in
+    counted-on base page next used count w r (2 * diffsIn base page next k) (diffsIn base page next k) used′ count′ p on (omega arith) (omega arith)
+    (omega arith) (omega arith)

@@ -1,3 +1,4 @@
 pub mod Counting
 pub mod Writing
 pub mod Spelling
+pub mod Chunks

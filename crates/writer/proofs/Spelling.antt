@@ -10,7 +10,7 @@ use lib.Count.{trailingZeros}
 use lib.Seq.{sets, length-sets}
 use Rattle.span.specs.Bytes.{Put}
 use Rattle.differ.specs.Differ.{nextDiff, Same, NextChunk}
-use Rattle.differ.specs.DifferLaws.{next-skip, next-at, chunk-on, chunk-ahead}
+use Rattle.differ.specs.DifferLaws.{next-skip, next-at, chunk-on, chunk-within, chunk-ahead}
 use Rattle.writer.specs.Differences.{spelled}
 use Rattle.writer.specs.Steps.{before, Counted, Numbers, Differs, Stored, Reached, Spells}
 use Rattle.writer.specs.Words.{wordBytes, unlike, FirstIn}
@@ -85,29 +85,20 @@ module _ (base page : List ℕ) (from : ℕ) (s : Spelled) (w : Reached base pag
           )
 
 -- equal chunks
-chunk-within : (base page : List ℕ) (from r end : ℕ) → from ≤ end → end ≡ min (length base) (length page) → NextChunk base page from r → r ≤ end
-chunk-within base page from r end h e c =
-    elim (decLt from r) [
-      | yes k ↦
-          let w : (r ≤ length base) × (r ≤ length page) = c .within k in
-          omega arith
-      | no k ↦ omega (arith, c .on)
-    ]
-
 pub record Chunk (base page : List ℕ) (from end r : ℕ) (s : Spelled) : Type 0 where
   pub on : from ≤ r
   pub within : r ≤ end
   pub reached : Reached base page r s
 
-pub chunk-reached : (base page : List ℕ) (from end r : ℕ) (s : Spelled) → from ≤ end → end ≡ min (length base) (length page) → Reached base page from s
-    → NextChunk base page from r → Chunk base page from end r s
-chunk-reached base page from end r s h e w c = record {
-  on = chunk-on base page from r c;
-  within = chunk-within base page from r end h e c;
+pub chunk-reached : (width : ℕ) (base page : List ℕ) (from end r : ℕ) (s : Spelled) → from ≤ end → end ≡ min (length base) (length page) → Reached base page from s
+    → NextChunk width base page from r → Chunk base page from end r s
+chunk-reached width base page from end r s h e w c = record {
+  on = chunk-on width base page from r c;
+  within = chunk-within width base page from r end h e c;
   reached = record {
     counted = w .counted;
-    on = omega (arith, w .on, chunk-on base page from r c);
-    ahead = w .ahead ∙ chunk-ahead base page from r c;
+    on = omega (arith, w .on, chunk-on width base page from r c);
+    ahead = w .ahead ∙ chunk-ahead width base page from r c;
   };
 }
 

@@ -1,13 +1,13 @@
 -- What the pieces of the writer owe their callers.
-use Prim.Native.Nat.{ℕ, _+_, _*_, _≤_}
+use Prim.Native.Nat.{ℕ, _+_, _-_, _*_, _≤_}
 use mathlib.Core.Path.{_≡_}
 use mathlib.Core.List.{List, _++_}
 use lib.ListN.{length, drop, take, length as lengthOf}
 use lib.IntN.{ℤ, subℕ}
 use Rattle.span.specs.Bytes.{part, splice}
 use Rattle.writer.specs.Differences.{Change, diffs, spelled, coded, written, lastPlace}
-use Rattle.payload.specs.Entries.{start}
-use Rattle.differ.specs.Differ.{nextDiff}
+use Rattle.payload.specs.Entries.{start, shortEntry}
+use Rattle.differ.specs.Differ.{chunk, nextDiff, Same}
 use Rattle.writer.specs.declared.Difference.{Difference}
 use Rattle.writer.specs.declared.Spelled.{Spelled}
 use Rattle.payload.specs.Steps.{farthest}
@@ -58,6 +58,16 @@ abbrev pub Spells : List ℕ → List ℕ → List ℕ → Spelled → List ℕ 
 Spells base page room s after r =
     (lengthOf after ≡ lengthOf room)
     × ((room₀ : List ℕ) → Stored base page room₀ room (s .next) (s .used) → Stored base page room₀ after (r .next) (r .used))
+
+-- a and b have the chunk from `at` on whole, and it differs
+pub record Unlike (base page : List ℕ) (at : ℕ) : Type 0 where
+  pub in-base : at + chunk ≤ lengthOf base
+  pub in-page : at + chunk ≤ lengthOf page
+  pub differ : Same base page at (at + chunk) → ⊥
+
+-- how many bytes more than a short one the entry of the next difference from `at` on takes
+abbrev pub excessOf : List ℕ → List ℕ → ℕ → ℕ → ℕ
+excessOf base page at next = widthOf (nextDiff base page at - next) - shortEntry
 
 -- the numbers of the writer's stream of two pages
 pub record Numbers (base page : List ℕ) (d : Difference) : Type 0 where

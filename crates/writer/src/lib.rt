@@ -4,10 +4,10 @@ use payload::Code;
 ghost use mathlib.Core.Path.{_≡_};
 ghost use Prim.Native.Nat.{_+_, _-_, _*_, _≤_, _<_};
 ghost use lib.ListN.{length as lengthOf, getD};
-ghost use Rattle.differ.specs.Differ.{stride};
+ghost use Rattle.differ.specs.Differ.{stride, chunk, afterLast};
 ghost use Rattle.writer.specs.Differences.{spelled};
 ghost use Rattle.payload.specs.Steps.{farthest};
-ghost use Rattle.writer.specs.Steps.{before as placeBefore, near, widthOf, Counted, Numbers, Differs, Reached, Spells};
+ghost use Rattle.writer.specs.Steps.{before as placeBefore, near, widthOf, Counted, Numbers, Differs, Reached, Spells, Unlike, excessOf};
 ghost use Rattle.writer.specs.Words.{wordBytes, numeral};
 ghost use Rattle.span.specs.Bytes.{Put};
 
@@ -67,9 +67,8 @@ fn found(length: usize, entries: usize, next: usize) -> Difference
     }
 }
 
-// The numbers of a stream of which so much is known before `from`. Nothing is stored, so differences that stand close together are
-// counted at one go: their entries are short.
-fn count_rest(base: &[u8], page: &[u8], from: usize, length: usize, entries: usize) -> Difference
+// The numbers of a stream of which so much is known before `from`, each difference by itself: for the last bytes.
+fn count_each(base: &[u8], page: &[u8], from: usize, length: usize, entries: usize) -> Difference
     requires { ⌜ (lengthOf (now page) ≤ farthest) × Counted (now base) (now page) from length entries ⌝ }
     ensures { λ r. ⌜ Numbers (now (base .entry)) (now (page .entry)) r ⌝ }
 {
@@ -84,10 +83,62 @@ fn count_rest(base: &[u8], page: &[u8], from: usize, length: usize, entries: usi
         if page.len() <= at {
             return found(used, many, next);
         }
-        let more = differ::cluster_at(base, page, at + 1);
-        used += entry_width(at - next) + Code::SHORT_WIDTH * more.count;
-        many += 1 + more.count;
-        next = more.next;
+        used += entry_width(at - next);
+        many += 1;
+        next = at + 1;
+    }
+}
+
+// How many bytes more than a short one the entry of the next difference from `at` on takes.
+fn excess(base: &[u8], page: &[u8], at: usize, next: usize) -> usize
+    requires { ⌜ next ≤ at ⌝ }
+    ensures { λ r. ⌜ r ≡ excessOf (now (base .entry)) (now (page .entry)) at next ⌝ }
+{
+    entry_width(differ::next_diff(base, page, at) - next) - Code::SHORT_WIDTH
+}
+
+// The same, where the last difference before is in the chunk at `mark`. It is looked for only if it may be out of a byte's reach.
+fn excess_after(base: &[u8], page: &[u8], mark: usize, at: usize) -> usize
+    requires { ⌜ (mark + chunk ≤ at) × Unlike (now base) (now page) mark × Unlike (now base) (now page) at ⌝ }
+    ensures { λ r. ⌜ r ≡ excessOf (now (base .entry)) (now (page .entry)) at (afterLast (now (base .entry)) (now (page .entry)) mark chunk) ⌝ }
+{
+    if at - mark <= 3 * Grid::CHUNK {
+        return 0;
+    }
+    excess(base, page, at, differ::after_chunk(base, page, mark))
+}
+
+// The numbers of a stream of which so much is known before `from`. Nothing is stored, so a chunk's differences are counted at one go: all
+// but the first have short entries.
+fn count_rest(base: &[u8], page: &[u8], from: usize, before: Spelled) -> Difference
+    requires { ⌜ (from ≤ lengthOf (now base)) × (from ≤ lengthOf (now page)) × (lengthOf (now page) ≤ farthest)
+        × Reached (now base) (now page) from before ⌝ }
+    ensures { λ r. ⌜ Numbers (now (base .entry)) (now (page .entry)) r ⌝ }
+{
+    let end = span::shorter(base.len(), page.len());
+    let mut mark = differ::next_chunk(base, page, from);
+    if end - mark < Grid::CHUNK {
+        return count_each(base, page, before.next, before.used, before.entries);
+    }
+    let first = differ::count_chunk(base, page, mark);
+    let mut used = before.used
+        + (excess(base, page, mark, before.next) + Code::SHORT_WIDTH * first);
+    let mut entries = before.entries + first;
+    loop {
+        let at = differ::next_chunk(base, page, mark + Grid::CHUNK);
+        if end - at < Grid::CHUNK {
+            return count_each(
+                base,
+                page,
+                differ::after_chunk(base, page, mark),
+                used,
+                entries,
+            );
+        }
+        let more = differ::count_chunk(base, page, at);
+        used += excess_after(base, page, mark, at) + Code::SHORT_WIDTH * more;
+        entries += more;
+        mark = at;
     }
 }
 
@@ -213,7 +264,7 @@ fn spell_tail(
     s
 }
 
-// One pass over both pages on the grid. Equal chunks go by in `next_chunk`; once the room is full, the rest is only counted.
+// One pass over both pages on the grid. Equal bytes go by in `next_stride`; once the room is full, the rest is only counted.
 fn encode(base: &[u8], page: &[u8], room: &mut [u8]) -> Difference
     requires { ⌜ lengthOf (now page) ≤ farthest ⌝ }
     ensures { λ r. ⌜ Differs (now (base .entry)) (now (page .entry)) (now (room .entry)) r (now (room .exit)) ⌝ }
@@ -226,13 +277,13 @@ fn encode(base: &[u8], page: &[u8], room: &mut [u8]) -> Difference
     };
     let mut at = 0;
     loop {
-        at = differ::next_chunk(base, page, at);
+        at = differ::next_stride(base, page, at);
         if end - at < Grid::STRIDE {
             s = spell_tail(base, page, at, end, room, s);
             return found(s.used, s.entries, s.next);
         }
         if room.len() <= s.used {
-            return count_rest(base, page, s.next, s.used, s.entries);
+            return count_rest(base, page, at, s);
         }
         s = spell_chunk(base, page, at, room, s);
         at += Grid::STRIDE;

@@ -2,6 +2,7 @@ use Prim.Native.Nat.{ℕ, _+_, _-_, _≤_}
 use native.Mathlib.Omega.{arith}
 use mathlib.Core.Path.{_≡_, _∙_}
 use borrow.Author.Needs.{needs}
+use Rattle.differ.specs.Differ.{stride}
 use Rattle.writer.specs.Steps.{Reached, Stored}
 use Rattle.writer.proofs.Writing.{stored-none, stored-full}
 use Rattle.writer.proofs.Spelling.{reached-none, Chunk, chunk-reached, spelled-all}
@@ -23,17 +24,17 @@ loop-holds c =
     let a = c .before .before .before .before .args in
     (omega arith, reached-none (a .base .now) (a .page .now), stored-none (a .base .now) (a .page .now) (a .room .now))
 
-next-chunk-requires : tie.Need-next-chunk-requires Inv-loop μ-loop
-next-chunk-requires c κs = search needs
+next-stride-requires : tie.Need-next-stride-requires Inv-loop μ-loop
+next-stride-requires c κs = search needs
 
 sub-if1 : tie.Need-sub-if1 Inv-loop μ-loop
 sub-if1 c =
     let a = c .before .before .before .before .before .before .args in
     let l = c .before .loop in
     let end = c .before .before .shorter in
-    let next = c .next-chunk in
+    let next = c .next-stride in
     let at : Chunk (a .base .now) (a .page .now) (l .at) (end .result) (next .result) (l .s) =
-    chunk-reached (a .base .now) (a .page .now) (l .at) (end .result) (next .result) (l .s) (l .inv .0) (end .ensures) (l .inv .1) (next .ensures) in
+    chunk-reached stride (a .base .now) (a .page .now) (l .at) (end .result) (next .result) (l .s) (l .inv .0) (end .ensures) (l .inv .1) (next .ensures) in
     at .within
 
 spell-tail-requires : tie.Need-spell-tail-requires Inv-loop μ-loop
@@ -41,9 +42,9 @@ spell-tail-requires c κs =
     let a = c .before .before .before .before .before .before .before .before .args in
     let l = c .before .before .before .loop in
     let end = c .before .before .before .before .shorter in
-    let next = c .before .before .next-chunk in
+    let next = c .before .before .next-stride in
     let at : Chunk (a .base .now) (a .page .now) (l .at) (end .result) (next .result) (l .s) =
-    chunk-reached (a .base .now) (a .page .now) (l .at) (end .result) (next .result) (l .s) (l .inv .0) (end .ensures) (l .inv .1) (next .ensures) in
+    chunk-reached stride (a .base .now) (a .page .now) (l .at) (end .result) (next .result) (l .s) (l .inv .0) (end .ensures) (l .inv .1) (next .ensures) in
     (at .within, omega (arith, end .ensures), omega (arith, end .ensures), c .before .before .before .before .before .before .before .before .pre, at .reached)
 
 found-requires : tie.Need-found-requires Inv-loop μ-loop
@@ -64,7 +65,14 @@ returns c =
     (a .room .now) (tail .last .1 .1 .1 .1 .0) (tail .ensures .1 .1 (a .room .now) (l .inv .2))
 
 count-rest-requires : tie.Need-count-rest-requires Inv-loop μ-loop
-count-rest-requires c κs = (c .before .before .before .before .before .before .before .before .before .pre, c .before .before .before .before .loop .inv .1 .counted)
+count-rest-requires c κs =
+    let a = c .before .before .before .before .before .before .before .before .before .args in
+    let l = c .before .before .before .before .loop in
+    let end = c .before .before .before .before .before .shorter in
+    let next = c .before .before .before .next-stride in
+    let at : Chunk (a .base .now) (a .page .now) (l .at) (end .result) (next .result) (l .s) =
+    chunk-reached stride (a .base .now) (a .page .now) (l .at) (end .result) (next .result) (l .s) (l .inv .0) (end .ensures) (l .inv .1) (next .ensures) in
+    (omega (arith, at .within, end .ensures), omega (arith, at .within, end .ensures), c .before .before .before .before .before .before .before .before .before .pre, at .reached)
 
 same-length-2 : tie.Need-same-length-2 Inv-loop μ-loop
 same-length-2 c = c .before .before .before .before .before .loop .inv .2 .kept
@@ -81,9 +89,9 @@ spell-chunk-requires c κs =
     let a = c .before .before .before .before .before .before .before .before .before .before .args in
     let l = c .before .before .before .before .before .loop in
     let end = c .before .before .before .before .before .before .shorter in
-    let next = c .before .before .before .before .next-chunk in
+    let next = c .before .before .before .before .next-stride in
     let at : Chunk (a .base .now) (a .page .now) (l .at) (end .result) (next .result) (l .s) =
-    chunk-reached (a .base .now) (a .page .now) (l .at) (end .result) (next .result) (l .s) (l .inv .0) (end .ensures) (l .inv .1) (next .ensures) in
+    chunk-reached stride (a .base .now) (a .page .now) (l .at) (end .result) (next .result) (l .s) (l .inv .0) (end .ensures) (l .inv .1) (next .ensures) in
     (omega (arith, end .ensures, at .within, c .before .before .before .if1 .left), omega (arith, end .ensures, at .within, c .before .before .before .if1 .left), c .before .before .before .before .before .before .before .before .before .before .pre, at .reached)
 
 add-at : tie.Need-add-at Inv-loop μ-loop
@@ -91,9 +99,9 @@ add-at c =
     let a = c .before .before .before .before .before .before .before .before .before .before .before .before .before .args in
     let l = c .before .before .before .before .before .before .before .before .loop in
     let end = c .before .before .before .before .before .before .before .before .before .shorter in
-    let next = c .before .before .before .before .before .before .before .next-chunk in
+    let next = c .before .before .before .before .before .before .before .next-stride in
     let at : Chunk (a .base .now) (a .page .now) (l .at) (end .result) (next .result) (l .s) =
-    chunk-reached (a .base .now) (a .page .now) (l .at) (end .result) (next .result) (l .s) (l .inv .0) (end .ensures) (l .inv .1) (next .ensures) in
+    chunk-reached stride (a .base .now) (a .page .now) (l .at) (end .result) (next .result) (l .s) (l .inv .0) (end .ensures) (l .inv .1) (next .ensures) in
     omega (arith, at .within, end .ensures, c .before .before .before .before .before .before .before .before .before .before .before .before .before .pre)
 
 loop-less : tie.Need-loop-less Inv-loop μ-loop
@@ -101,9 +109,9 @@ loop-less c =
     let a = c .before .before .before .before .before .before .before .before .before .before .before .before .before .args in
     let l = c .before .before .before .before .before .before .before .before .loop in
     let end = c .before .before .before .before .before .before .before .before .before .shorter in
-    let next = c .before .before .before .before .before .before .before .next-chunk in
+    let next = c .before .before .before .before .before .before .before .next-stride in
     let at : Chunk (a .base .now) (a .page .now) (l .at) (end .result) (next .result) (l .s) =
-    chunk-reached (a .base .now) (a .page .now) (l .at) (end .result) (next .result) (l .s) (l .inv .0) (end .ensures) (l .inv .1) (next .ensures) in
+    chunk-reached stride (a .base .now) (a .page .now) (l .at) (end .result) (next .result) (l .s) (l .inv .0) (end .ensures) (l .inv .1) (next .ensures) in
     omega (arith, at .on, at .within, c .before .before .before .before .before .before .if1 .left)
 
 loop-again : tie.Need-loop-again Inv-loop μ-loop
@@ -111,9 +119,9 @@ loop-again c =
     let a = c .before .before .before .before .before .before .before .before .before .before .before .before .before .args in
     let l = c .before .before .before .before .before .before .before .before .loop in
     let end = c .before .before .before .before .before .before .before .before .before .shorter in
-    let next = c .before .before .before .before .before .before .before .next-chunk in
+    let next = c .before .before .before .before .before .before .before .next-stride in
     let at : Chunk (a .base .now) (a .page .now) (l .at) (end .result) (next .result) (l .s) =
-    chunk-reached (a .base .now) (a .page .now) (l .at) (end .result) (next .result) (l .s) (l .inv .0) (end .ensures) (l .inv .1) (next .ensures) in
+    chunk-reached stride (a .base .now) (a .page .now) (l .at) (end .result) (next .result) (l .s) (l .inv .0) (end .ensures) (l .inv .1) (next .ensures) in
     let spelt = c .before .before .spell-chunk in
     (omega (arith, at .within, c .before .before .before .before .before .before .if1 .left), spelt .ensures .0, spelt .ensures .1 .1 (a .room .now) (l .inv .2))
 
@@ -125,7 +133,7 @@ encode-spec =
     μ-loop
     shorter-requires
     loop-holds
-    next-chunk-requires
+    next-stride-requires
     sub-if1
     spell-tail-requires
     found-requires
