@@ -12,7 +12,7 @@ use Rattle.span.specs.Bytes.{Put}
 use Rattle.differ.specs.Differ.{nextDiff, Same, NextChunk}
 use Rattle.differ.specs.DifferLaws.{next-skip, next-at, chunk-on, chunk-within, chunk-ahead}
 use Rattle.writer.specs.Differences.{spelled}
-use Rattle.writer.specs.Steps.{before, Counted, Numbers, Differs, Stored, Reached, Spells}
+use Rattle.writer.specs.Steps.{before, widthOf, Counted, Numbers, Differs, Stored, Reached, Spells}
 use Rattle.writer.specs.Words.{wordBytes, unlike, FirstIn}
 use Rattle.writer.specs.WordLaws.{Bytes, unlike-none, first-in, first-next}
 use Rattle.writer.specs.declared.Difference.{Difference}
@@ -58,20 +58,21 @@ module _ (base page : List ℕ) (from : ℕ) (s : Spelled) (w : Reached base pag
     next-is : at ≡ nextDiff base page (s .next)
     next-is = e ∙ sym (w .ahead)
 
+    -- a difference
+    pub reached-next : (r : Spelled) → r .used ≡ s .used + widthOf (at - s .next) → r .entries ≡ s .entries + 1 → r .next ≡ at + 1 → Reached base page (at + 1) r
+    reached-next r u n q =
+        let p : Counted base page (at + 1) (r .used) (s .entries + 1) =
+        counted-more base page (s .next) (s .used) (s .entries) (w .counted) at next-is (r .used) l m u in
+        record {
+          counted =
+              subst (λ (c : ℕ). Counted base page (r .next) (r .used) c) (sym n) (subst (λ (k : ℕ). Counted base page k (r .used) (s .entries + 1)) (sym q) p);
+          on = omega arith;
+          ahead = ap (λ (k : ℕ). nextDiff base page k) q;
+        }
+
     module _ (room after : List ℕ) (r : Spelled) (o : One page room at s after r) where
-      -- a difference
       pub reached-one : Reached base page (at + 1) r
-      reached-one =
-          let q : at + 1 ≡ r .next = sym (o .2) in
-          let n : s .entries + 1 ≡ r .entries = sym (o .1) in
-          let p : Counted base page (at + 1) (r .used) (s .entries + 1) =
-          counted-more base page (s .next) (s .used) (s .entries) (w .counted) at next-is (r .used) l m
-          (omega (arith, o .0 .next, width-is (at - s .next) (getD page at 0))) in
-          record {
-            counted = subst (λ (c : ℕ). Counted base page (r .next) (r .used) c) n (subst (λ (k : ℕ). Counted base page k (r .used) (s .entries + 1)) q p);
-            on = omega arith;
-            ahead = ap (λ (k : ℕ). nextDiff base page k) (o .2);
-          }
+      reached-one = reached-next r (omega (arith, o .0 .next, width-is (at - s .next) (getD page at 0))) (o .1) (o .2)
 
       pub spells-one : (old : Spelled) (first : List ℕ) → Spells base page first old room s → Spells base page first old after r
       spells-one old first f =
@@ -103,21 +104,22 @@ chunk-reached width base page from end r s h e w c = record {
 }
 
 -- the end: there is no difference more
-module _ (base page : List ℕ) (end : ℕ) (s : Spelled) (w : Reached base page end s) (e : end ≡ min (length base) (length page)) (d : Difference)
+module _ (base page : List ℕ) (from : ℕ) (s : Spelled) (w : Reached base page from s) (d : Difference)
     (f : (d .length ≡ s .used) × (d .entries ≡ s .entries) × (d .last ≡ before (s .next))) where
-  over : (length base ≤ nextDiff base page (s .next)) ⊎ (length page ≤ nextDiff base page (s .next))
-  over =
-      let n : end ≤ nextDiff base page end = next-at base page end .on in
+  pub reached-end : (length base ≤ nextDiff base page from) ⊎ (length page ≤ nextDiff base page from) → Numbers base page d
+  reached-end o =
+      counted-all base page (s .next) (s .used) (s .entries) (w .counted) (nextDiff base page from) (sym (w .ahead)) d o f
+
+  pub spelled-all : from ≡ min (length base) (length page) → (room₀ room : List ℕ) → Stored base page room₀ room (s .next) (s .used)
+      → Differs base page room₀ d room
+  spelled-all e room₀ room g =
+      let n : from ≤ nextDiff base page from = next-at base page from .on in
+      let o : (length base ≤ nextDiff base page from) ⊎ (length page ≤ nextDiff base page from) =
       elim (decLt (length base) (length page)) [
-        | yes h ↦ inl (omega (arith, w .ahead))
-        | no h ↦ inr (omega (arith, w .ahead))
-      ]
-
-  pub reached-all : Numbers base page d
-  reached-all = counted-all base page (s .next) (s .used) (s .entries) (w .counted) (nextDiff base page (s .next)) refl d over f
-
-  pub spelled-all : (room₀ room : List ℕ) → Stored base page room₀ room (s .next) (s .used) → Differs base page room₀ d room
-  spelled-all room₀ room g = stored-all base page room₀ room (s .next) (s .used) g (nextDiff base page (s .next)) refl d over reached-all
+        | yes h ↦ inl (omega arith)
+        | no h ↦ inr (omega arith)
+      ] in
+      stored-all base page room₀ room (s .next) (s .used) g (nextDiff base page from) (sym (w .ahead)) d o (reached-end o)
 
 -- A word: what the bits in which both words differ still tell, before `end`
 

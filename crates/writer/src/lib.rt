@@ -68,24 +68,26 @@ fn found(length: usize, entries: usize, next: usize) -> Difference
 }
 
 // The numbers of a stream of which so much is known before `from`, each difference by itself: for the last bytes.
-fn count_each(base: &[u8], page: &[u8], from: usize, length: usize, entries: usize) -> Difference
-    requires { ⌜ (lengthOf (now page) ≤ farthest) × Counted (now base) (now page) from length entries ⌝ }
+fn count_each(base: &[u8], page: &[u8], from: usize, before: Spelled) -> Difference
+    requires { ⌜ (lengthOf (now page) ≤ farthest) × Reached (now base) (now page) from before ⌝ }
     ensures { λ r. ⌜ Numbers (now (base .entry)) (now (page .entry)) r ⌝ }
 {
-    let mut next = from;
-    let mut used = length;
-    let mut many = entries;
+    let mut s = before;
+    let mut past = from;
     loop {
-        let at = differ::next_diff(base, page, next);
+        let at = differ::next_diff(base, page, past);
         if base.len() <= at {
-            return found(used, many, next);
+            return found(s.used, s.entries, s.next);
         }
         if page.len() <= at {
-            return found(used, many, next);
+            return found(s.used, s.entries, s.next);
         }
-        used += entry_width(at - next);
-        many += 1;
-        next = at + 1;
+        past = at + 1;
+        s = Spelled {
+            used: s.used + entry_width(at - s.next),
+            entries: s.entries + 1,
+            next: past,
+        };
     }
 }
 
@@ -118,7 +120,7 @@ fn count_rest(base: &[u8], page: &[u8], from: usize, before: Spelled) -> Differe
     let end = span::shorter(base.len(), page.len());
     let mut mark = differ::next_chunk(base, page, from);
     if end - mark < Grid::CHUNK {
-        return count_each(base, page, before.next, before.used, before.entries);
+        return count_each(base, page, mark, before);
     }
     let first = differ::count_chunk(base, page, mark);
     let mut used = before.used
@@ -127,12 +129,16 @@ fn count_rest(base: &[u8], page: &[u8], from: usize, before: Spelled) -> Differe
     loop {
         let at = differ::next_chunk(base, page, mark + Grid::CHUNK);
         if end - at < Grid::CHUNK {
+            let next = differ::after_chunk(base, page, mark);
             return count_each(
                 base,
                 page,
-                differ::after_chunk(base, page, mark),
-                used,
-                entries,
+                at,
+                Spelled {
+                    used: used,
+                    entries: entries,
+                    next: next,
+                },
             );
         }
         let more = differ::count_chunk(base, page, at);

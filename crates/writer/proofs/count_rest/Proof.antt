@@ -4,7 +4,7 @@ use mathlib.Core.Path.{sym, subst, _∙_}
 use borrow.Author.Needs.{needs}
 use Rattle.differ.specs.Differ.{chunk}
 use Rattle.differ.specs.DifferLaws.{chunk-after}
-use Rattle.writer.specs.Steps.{Counted}
+use Rattle.writer.specs.Steps.{Reached}
 use Rattle.writer.proofs.Spelling.{Chunk, chunk-reached}
 use Rattle.writer.proofs.Chunks.{Marked, marked, marked-few, unlike-at, after}
 use Rattle.writer.proofs.count_rest.Statement.{statement}
@@ -33,7 +33,14 @@ sub-if1 c =
     at .within
 
 count-each-requires : tie.Need-count-each-requires Inv-loop μ-loop
-count-each-requires c κs = (c .before .before .before .before .before .pre .2, c .before .before .before .before .before .pre .3 .counted)
+count-each-requires c κs =
+    let a = c .before .before .before .before .before .args in
+    let most = c .before .before .before .before .before .pre in
+    let end = c .before .before .shorter in
+    let mark = c .before .next-chunk in
+    let at = chunk-reached chunk (a .base .now) (a .page .now) (a .from) (end .result) (mark .result) (a .before) (omega (arith, end .ensures, most .0, most .1))
+    (end .ensures) (most .3) (mark .ensures) in
+    (most .2, at .reached)
 
 returns : tie.Need-returns Inv-loop μ-loop
 returns c = c .count-each .ensures
@@ -168,7 +175,7 @@ count-each-requires-2 c κs =
     let at = chunk-reached chunk (a .base .now) (a .page .now) (l .mark + chunk) (end .result) (next .result) s
     (omega (arith, end .ensures, old .in-base, old .in-page)) (end .ensures) (l .inv .reached) (next .ensures) in
     let q = sym (c .after-chunk .ensures ∙ chunk-after (a .base .now) (a .page .now) (l .mark) (old .in-base) (old .in-page)) in
-    (most .2, subst (λ (n : ℕ). Counted (a .base .now) (a .page .now) n (l .used) (l .entries)) q (l .inv .reached .counted))
+    (most .2, subst (λ (n : ℕ). Reached (a .base .now) (a .page .now) (next .result) (record { used = l .used; entries = l .entries; next = n })) q (at .reached))
 
 returns-2 : tie.Need-returns-2 Inv-loop μ-loop
 returns-2 c = c .count-each2 .ensures

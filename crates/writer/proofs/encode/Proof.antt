@@ -61,7 +61,7 @@ returns c =
     let l = c .before .before .before .before .before .before .before .loop in
     let end = c .before .before .before .before .before .before .before .before .shorter in
     let tail = c .before .before .before .spell-tail in
-    spelled-all (a .base .now) (a .page .now) (end .result) (tail .result) (tail .ensures .0) (end .ensures) (c .found .result) (c .found .ensures)
+    spelled-all (a .base .now) (a .page .now) (end .result) (tail .result) (tail .ensures .0) (c .found .result) (c .found .ensures) (end .ensures)
     (a .room .now) (tail .last .1 .1 .1 .1 .0) (tail .ensures .1 .1 (a .room .now) (l .inv .2))
 
 count-rest-requires : tie.Need-count-rest-requires Inv-loop μ-loop
