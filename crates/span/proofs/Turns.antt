@@ -8,10 +8,10 @@ use mathlib.Core.List.{List, [], _∷_, _++_}
 use lib.Dec.{eqb}
 use lib.ListN.{length, take, drop, getD, set, length-drop}
 use lib.Bits.{bitOr, or-add-and, and-le-l, and-le-r}
-use lib.Seq.{take-suc, length-take-le, take-add, getD-drop}
+use lib.Seq.{take-suc, length-take-le, take-add}
 use borrow.Author.Tests.{eqb-true, eqb-false, eq-eqb, ne-eqb}
 use Rattle.span.specs.Bytes.{zeros, part, splice, same}
-use Rattle.span.specs.Laws.{zeros-length, zeros-join, zeros-more, splice-more, splice-join, same-more, same-parts, part-whole}
+use Rattle.span.specs.Laws.{zeros-length, zeros-join, zeros-more, splice-more, splice-join, same-more, same-parts, part-whole, part-length, part-more}
 
 -- a loop that stores a list from the front has stored one byte more
 pub stored : (dst₀ dst ys : List ℕ) (i v : ℕ) → length ys ≡ i → i < length dst₀ → dst ≡ splice dst₀ 0 ys → set dst i v ≡ splice dst₀ 0 (ys ++ (v ∷ []))
@@ -68,18 +68,13 @@ or-both a b = go (eqb a 0) (eqb b 0) refl refl
 
 pub seen-zero : (s : List ℕ) (at i seen : ℕ) → at + i < length s → eqb seen 0 ≡ same (part at i s) (zeros i)
     → eqb (bitOr seen (getD s (at + i) 0)) 0 ≡ same (part at (i + 1) s) (zeros (i + 1))
-unfolding part
 seen-zero s at i seen h e =
-    let k : length (drop at s) ≡ length s - at = length-drop at s in
-    let b : getD (drop at s) i 0 ≡ getD s (at + i) 0 = getD-drop at s i 0 in
-    let l : length (take i (drop at s)) ≡ i = length-take-le i (drop at s) (omega arith) in
+    let l : length (part at i s) ≡ i = part-length at i s (omega arith) in
     or-both seen (getD s (at + i) 0)
     ∙ ap (λ (t : Bool). t && eqb (getD s (at + i) 0) 0) e
-    ∙ sym (same-more (take i (drop at s)) (zeros i) (getD s (at + i) 0) 0 (l ∙ sym (zeros-length i)))
-    ∙ ap (λ (v : ℕ). same (take i (drop at s) ++ (v ∷ [])) (zeros i ++ (0 ∷ []))) (sym b)
-    ∙ ap (λ (l : List ℕ). same l (zeros i ++ (0 ∷ [])))
-    (sym (ap (λ (n : ℕ). take n (drop at s)) (add-one i) ∙ take-suc (drop at s) i 0 (omega arith)))
-    ∙ ap (λ (l : List ℕ). same (take (i + 1) (drop at s)) l) (sym (zeros-more i))
+    ∙ sym (same-more (part at i s) (zeros i) (getD s (at + i) 0) 0 (l ∙ sym (zeros-length i)))
+    ∙ ap (λ (l : List ℕ). same l (zeros i ++ (0 ∷ []))) (sym (part-more at i s h))
+    ∙ ap (λ (l : List ℕ). same (part at (i + 1) s) l) (sym (zeros-more i))
 
 -- whether every byte from `at` on is zero: of the whole, and once the bits of the next n bytes are known
 abbrev pub restZero : List ℕ → ℕ → Bool
