@@ -5,11 +5,11 @@ use layout::Refusal;
 ghost use mathlib.Core.Path.{_≡_};
 ghost use Prim.Native.Nat.{_≤_};
 ghost use lib.ListN.{length, take, getD};
-ghost use Rattle.span.specs.Bytes.{zeros, part, splice};
-ghost use Rattle.layout.specs.Sizes.{fullHead, sizeWidth, restAt};
+ghost use Rattle.span.specs.Bytes.{zeros, part, splice, same as sameBytes};
+ghost use Rattle.layout.specs.Sizes.{patchHead, fullHead, sizeWidth, restAt};
 ghost use Rattle.layout.specs.Numbers.{faultNumber, number};
 ghost use Rattle.layout.specs.Refusals.{firstOf};
-ghost use Rattle.headers.specs.Headers.{patchFields, fullFields, header, headRows, patchHeadRows, fullHeadRows, headerRows};
+ghost use Rattle.headers.specs.Headers.{patchFields, fullFields, header, patchHeader, fullHeader, headRows, patchHeadRows, fullHeadRows, headerRows};
 ghost use Rattle.headers.specs.Stored.{storedSize, patchImageRows, fullImageRows, sizeRows};
 ghost use Rattle.headers.specs.Fresh.{freshPatch, freshFull};
 
@@ -101,6 +101,50 @@ fn full_fields(size: u32) -> [u8; Layout::FULL_FIELDS]
     ]
 }
 
+// Whether an area begins with these fields. The loop leaves early at no byte, so that all are compared at one go.
+fn begins(area: &[u8], fields: &[u8]) -> bool
+    ensures { λ r. ⌜ r ≡ sameBytes (part 0 (length (now (fields .entry))) (now (area .entry))) (now (fields .entry)) ⌝ }
+{
+    if area.len() < fields.len() {
+        return false;
+    }
+    let mut like = true;
+    let mut i = 0;
+    while i < fields.len() {
+        like = like & (area[i] == fields[i]);
+        i += 1;
+    }
+    like
+}
+
+// Whether an area begins with the header of `size` bytes that begins with these fields.
+fn is_head(area: &[u8], fields: &[u8], size: usize) -> bool
+    requires { ⌜ length (now fields) ≤ size ⌝ }
+    ensures { λ r. ⌜ r ≡ sameBytes (part 0 size (now (area .entry))) (header (now (fields .entry)) size) ⌝ }
+{
+    if !begins(area, fields) {
+        return false;
+    }
+    let n = fields.len();
+    span::zero_part(area, n, size - n)
+}
+
+// Whether a patch area has the header of pages of this size, to the byte: one look where nothing is wrong.
+fn is_patch_head(size: u32, patch: &[u8]) -> bool
+    ensures { λ r. ⌜ r ≡ sameBytes (part 0 patchHead (now (patch .entry))) (patchHeader size) ⌝ }
+{
+    let fields = patch_fields(size);
+    is_head(patch, &fields, Layout::PATCH_HEAD)
+}
+
+// The same of a full area.
+fn is_full_head(size: u32, full: &[u8]) -> bool
+    ensures { λ r. ⌜ r ≡ sameBytes (part 0 fullHead (now (full .entry))) (fullHeader size) ⌝ }
+{
+    let fields = full_fields(size);
+    is_head(full, &fields, Layout::FULL_HEAD)
+}
+
 // Magic, version, then the rest: what is wrong first with the header of `size` bytes that begins with these fields.
 fn head_fault(area: &[u8], fields: &[u8], size: usize) -> Fault
     requires { ⌜ (restAt ≤ length (now fields)) × (length (now fields) ≤ size) ⌝ }
@@ -157,6 +201,9 @@ fn size_fault(size: u32, area: &[u8]) -> Fault
 fn patch_fault(size: u32, patch: &[u8]) -> Fault
     ensures { λ r. ⌜ faultNumber r ≡ firstOf (patchHeadRows size (now (patch .entry))) ⌝ }
 {
+    if is_patch_head(size, patch) {
+        return Fault::Nothing;
+    }
     match patch_image_fault(patch) {
         Fault::Found(r) => Fault::Found(r),
         Fault::Nothing => size_fault(size, patch),
@@ -168,6 +215,9 @@ fn full_fault(size: u32, full: &[u8]) -> Fault
     ensures { λ r. ⌜ faultNumber r ≡ firstOf (fullHeadRows size (now (full .entry))) ⌝ }
 {
     if full.len() == 0 {
+        return Fault::Nothing;
+    }
+    if is_full_head(size, full) {
         return Fault::Nothing;
     }
     match full_image_fault(full) {

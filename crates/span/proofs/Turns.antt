@@ -10,8 +10,8 @@ use lib.ListN.{length, take, drop, getD, set, length-drop}
 use lib.Bits.{bitOr, or-add-and, and-le-l, and-le-r}
 use lib.Seq.{take-suc, length-take-le, take-add}
 use borrow.Author.Tests.{eqb-true, eqb-false, eq-eqb, ne-eqb}
-use Rattle.span.specs.Bytes.{zeros, splice, same}
-use Rattle.span.specs.Laws.{zeros-length, zeros-join, zeros-more, splice-more, splice-join, same-more}
+use Rattle.span.specs.Bytes.{zeros, part, splice, same}
+use Rattle.span.specs.Laws.{zeros-length, zeros-join, zeros-more, splice-more, splice-join, same-more, same-parts, part-whole, part-length, part-more}
 
 -- a loop that stores a list from the front has stored one byte more
 pub stored : (dst₀ dst ys : List ℕ) (i v : ℕ) → length ys ≡ i → i < length dst₀ → dst ≡ splice dst₀ 0 ys → set dst i v ≡ splice dst₀ 0 (ys ++ (v ∷ []))
@@ -66,12 +66,32 @@ or-both a b = go (eqb a 0) (eqb b 0) refl refl
     go true false p q = ne-eqb (bitOr a b) 0 (λ e. eqb-false b 0 q (omega (arith, right)))
     go false y p q = ne-eqb (bitOr a b) 0 (λ e. eqb-false a 0 p (omega (arith, left)))
 
-pub seen-zero : (s : List ℕ) (i seen : ℕ) → i < length s → eqb seen 0 ≡ same (take i s) (zeros i)
-    → eqb (bitOr seen (getD s i 0)) 0 ≡ same (take (i + 1) s) (zeros (i + 1))
-seen-zero s i seen h e =
-    let l : length (take i s) ≡ i = length-take-le i s (omega arith) in
-    or-both seen (getD s i 0)
-    ∙ ap (λ (t : Bool). t && eqb (getD s i 0) 0) e
-    ∙ sym (same-more (take i s) (zeros i) (getD s i 0) 0 (l ∙ sym (zeros-length i)))
-    ∙ ap (λ (l : List ℕ). same l (zeros i ++ (0 ∷ []))) (sym (ap (λ (n : ℕ). take n s) (add-one i) ∙ take-suc s i 0 h))
-    ∙ ap (λ (l : List ℕ). same (take (i + 1) s) l) (sym (zeros-more i))
+pub seen-zero : (s : List ℕ) (at i seen : ℕ) → at + i < length s → eqb seen 0 ≡ same (part at i s) (zeros i)
+    → eqb (bitOr seen (getD s (at + i) 0)) 0 ≡ same (part at (i + 1) s) (zeros (i + 1))
+seen-zero s at i seen h e =
+    let l : length (part at i s) ≡ i = part-length at i s (omega arith) in
+    or-both seen (getD s (at + i) 0)
+    ∙ ap (λ (t : Bool). t && eqb (getD s (at + i) 0) 0) e
+    ∙ sym (same-more (part at i s) (zeros i) (getD s (at + i) 0) 0 (l ∙ sym (zeros-length i)))
+    ∙ ap (λ (l : List ℕ). same l (zeros i ++ (0 ∷ []))) (sym (part-more at i s h))
+    ∙ ap (λ (l : List ℕ). same (part at (i + 1) s) l) (sym (zeros-more i))
+
+-- whether every byte from `at` on is zero: of the whole, and once the bits of the next n bytes are known
+abbrev pub restZero : List ℕ → ℕ → Bool
+restZero s at = same (part at (length s - at) s) (zeros (length s - at))
+
+pub rest-whole : (s : List ℕ) → same s (zeros (length s)) ≡ restZero s 0
+rest-whole s =
+    let e : length s ≡ length s - 0 = omega arith in
+    ap (λ (l : List ℕ). same l (zeros (length s))) (sym (part-whole s (length s) refl))
+    ∙ ap (λ (k : ℕ). same (part 0 k s) (zeros k)) e
+
+pub rest-on : (s : List ℕ) (at n bits : ℕ) → at + n ≤ length s → eqb bits 0 ≡ same (part at n s) (zeros n)
+    → restZero s at ≡ (eqb bits 0 && restZero s (at + n))
+rest-on s at n bits h b =
+    let m : ℕ = length s - (at + n) in
+    let e : length s - at ≡ n + m = omega arith in
+    ap (λ (k : ℕ). same (part at k s) (zeros k)) e
+    ∙ ap (λ (l : List ℕ). same (part at (n + m) s) l) (sym (zeros-join n m))
+    ∙ same-parts at n m s (zeros n) (zeros m) (zeros-length n) (zeros-length m)
+    ∙ ap (λ (t : Bool). t && restZero s (at + n)) (sym b)

@@ -11,7 +11,7 @@ use lib.Dec.{eqb}
 use lib.ListN.{length, take, drop, getD, set, replicate, length-set, replicate-append-replicate, length-replicate, getD-replicate}
 use lib.ListN.{length-append, length-take, length-drop, List·getD-append, List·getD-eq-default, drop-of-length-le}
 use lib.Seq.{getD-take, getD-drop, getD-append-add, ext-getD, length-take-le, drop-drop, take-add, take-all, take-nil, getD-set-same}
-use lib.Seq.{getD-set-other, getD-append-seam, drop-at, drop-cons, take-length}
+use lib.Seq.{getD-set-other, getD-append-seam, drop-at, drop-cons, take-length, take-suc}
 use borrow.Author.Tests.{eq-eqb, eqb-true}
 use borrow.Rule.Slice.PartMut.{midOf, putMid}
 use Rattle.span.specs.Bytes.{zeros, part, splice, same}
@@ -114,6 +114,15 @@ part-part i k at n xs h l =
 pub part-join : (at n m : ℕ) (xs : List ℕ) → part at (n + m) xs ≡ part at n xs ++ part (at + n) m xs
 unfolding part
 part-join at n m xs = take-add n m (drop at xs) ∙ ap (λ (l : List ℕ). take n (drop at xs) ++ take m l) (drop-drop n at xs)
+
+-- a part of one byte more
+pub part-more : (at n : ℕ) (xs : List ℕ) → at + n < length xs → part at (n + 1) xs ≡ part at n xs ++ (getD xs (at + n) 0 ∷ [])
+unfolding part
+part-more at n xs h =
+    let l : length (drop at xs) ≡ length xs - at = length-drop at xs in
+    ap (λ (k : ℕ). take k (drop at xs)) (add-one n)
+    ∙ take-suc (drop at xs) n 0 (omega arith)
+    ∙ ap (λ (v : ℕ). take n (drop at xs) ++ (v ∷ [])) (getD-drop at xs n 0)
 
 -- Equations of splices
 

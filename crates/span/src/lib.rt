@@ -2,12 +2,16 @@
 // caller. The loops are shaped so that
 // the compiler turns them into wide instructions: no loop leaves early at a byte.
 ghost use mathlib.Core.Path.{_≡_};
-ghost use Prim.Native.Nat.{_+_, min};
+ghost use Prim.Native.Nat.{_+_, _≤_, min};
+ghost use lib.Dec.{eqb};
 ghost use lib.ListN.{length, set, take};
 ghost use Rattle.span.specs.Bytes.{bulk, zeros, splice, emptied, part as partOf, partFrom, same as sameBytes};
 
 // How many bytes are moved at one go.
 const BULK: usize = 4 * 1024;
+
+// How many bytes a test for zeros looks at before it may end: many registers' worth, and few of a page that is not zero.
+const STRETCH: usize = 256;
 
 // Stores a byte, if there is room for it.
 pub fn put(dst: &mut [u8], at: usize, value: u8)
@@ -108,17 +112,32 @@ pub fn copy(dst: &mut [u8], src: &[u8])
     copy_bytes(&mut dst[at..end], &src[at..end]);
 }
 
+// The bits that are set in some byte of a stretch.
+fn bits_in(s: &[u8], at: usize, count: usize) -> u8
+    requires { ⌜ at + count ≤ length (now s) ⌝ }
+    ensures { λ r. ⌜ eqb r 0 ≡ sameBytes (partOf at count (now (s .entry))) (zeros count) ⌝ }
+{
+    let mut seen: u8 = 0;
+    let mut i = 0;
+    while i < count {
+        seen = seen | s[at + i];
+        i += 1;
+    }
+    seen
+}
+
 // Whether every byte is zero.
 pub fn all_zero(s: &[u8]) -> bool
     ensures { λ r. ⌜ r ≡ sameBytes (now (s .entry)) (zeros (length (now (s .entry)))) ⌝ }
 {
-    let mut seen: u8 = 0;
-    let mut i = 0;
-    while i < s.len() {
-        seen = seen | s[i];
-        i += 1;
+    let mut at = 0;
+    while STRETCH <= s.len() - at {
+        if bits_in(s, at, STRETCH) != 0 {
+            return false;
+        }
+        at += STRETCH;
     }
-    seen == 0
+    bits_in(s, at, s.len() - at) == 0
 }
 
 // The n bytes of s from `at` on, or as many of them as s has.

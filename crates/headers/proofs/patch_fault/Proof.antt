@@ -1,5 +1,6 @@
 use Rattle.headers.specs.Stored.{patchImageRows, sizeRows}
 use Rattle.headers.specs.StoredLaws.{patch-rule}
+use Rattle.headers.proofs.Turns.{patch-right}
 use Rattle.layout.specs.Numbers.{faultNumber, refusalNumber}
 use Rattle.layout.specs.NumberLaws.{refusal-some}
 use Rattle.layout.specs.Refusals.{firstOf, orElse}
@@ -10,6 +11,14 @@ use native.Mathlib.Omega.{arith}
 use borrow.Author.Needs.{needs}
 use Rattle.headers.proofs.patch_fault.Statement.{statement}
 use Rattle.headers.proofs.patch_fault.Tie as tie
+
+is-patch-head-requires : tie.Need-is-patch-head-requires
+is-patch-head-requires c κs = search needs
+
+returns : tie.Need-returns
+returns c =
+    let a = c .before .before .before .args in
+    sym (patch-right (a .size) (a .patch .now) (sym (c .before .is-patch-head .ensures) ∙ c .if1 .taken))
 
 patch-image-fault-requires : tie.Need-patch-image-fault-requires
 patch-image-fault-requires c κs = search needs
@@ -23,9 +32,9 @@ enum-told c = search needs
 size-fault-requires : tie.Need-size-fault-requires
 size-fault-requires c κs = search needs
 
-returns : tie.Need-returns
-returns c =
-    let a = c .before .before .before .before .before .args in
+returns-2 : tie.Need-returns-2
+returns-2 c =
+    let a = c .before .before .before .before .before .before .before .args in
     let f = c .before .before .before .patch-image-fault in
     let r = c .before .r .given .0 .0 in
     let next : ℕ = firstOf (sizeRows (a .size) (a .patch .now)) in
@@ -33,9 +42,9 @@ returns c =
     ∙ ap (λ (n : ℕ). orElse n next) (sym (f .ensures) ∙ ap faultNumber (c .before .r .given .1))
     ∙ or-some (refusalNumber r) next (refusal-some r))
 
-returns-2 : tie.Need-returns-2
-returns-2 c =
-    let a = c .before .before .before .before .before .args in
+returns-3 : tie.Need-returns-3
+returns-3 c =
+    let a = c .before .before .before .before .before .before .before .args in
     let f = c .before .before .before .patch-image-fault in
     let next : ℕ = firstOf (sizeRows (a .size) (a .patch .now)) in
     c .size-fault .ensures
@@ -46,9 +55,11 @@ pub patch-fault-spec : {M : Type 1} → statement M
 patch-fault-spec =
     tie.close
     (tie.spec
+    is-patch-head-requires
+    returns
     patch-image-fault-requires
     enum-known-r
     enum-told
     size-fault-requires
-    returns
-    returns-2)
+    returns-2
+    returns-3)

@@ -1,51 +1,80 @@
-use lib.Dec.{eqb}
 use borrow.Author.Needs.{needs}
-use Rattle.span.proofs.Turns.{seen-zero}
-use lib.Seq.{take-length}
-use Prim.Native.Nat.{ℕ, _-_, _≤_}
+use Prim.Native.Nat.{ℕ, _+_, _-_, _≤_}
 use native.Mathlib.Omega.{arith}
 use mathlib.Core.Path.{_≡_, sym, ap, _∙_}
-use mathlib.Core.List.{List, []}
-use lib.ListN.{length, take}
+use mathlib.Core.Bool.{Bool, _&&_}
+use mathlib.Core.List.{List}
+use lib.ListN.{length}
+use borrow.Author.Tests.{eq-eqb, ne-eqb}
 use Rattle.span.specs.Bytes.{zeros, same}
-use Rattle.span.specs.Laws.{zeros-nil}
+use Rattle.span.proofs.Turns.{restZero, rest-whole, rest-on}
 use Rattle.span.proofs.all_zero.Statement.{statement}
 use Rattle.span.proofs.all_zero.Tie as tie
 
 abbrev Inv-loop : tie.InvT-loop
-Inv-loop s seen₀ i₀ seen i = (i ≤ length s) × (eqb seen 0 ≡ same (take i s) (zeros i))
+Inv-loop s at₀ at = (at ≤ length s) × (same s (zeros (length s)) ≡ restZero s at)
 
 abbrev μ-loop : tie.MeasureT-loop
-μ-loop s seen₀ i₀ seen i = length s - i
+μ-loop s at₀ at = length s - at
 
 loop-holds : tie.Need-loop-holds Inv-loop μ-loop
-unfolding same
-loop-holds c =
-    (search needs, ap (λ (l : List ℕ). same [] l) (sym zeros-nil))
+loop-holds c = (search needs, rest-whole (c .before .args .s .now))
 
-shared-slice-read-seen : tie.Need-shared-slice-read-seen Inv-loop μ-loop
-shared-slice-read-seen c = search needs
+sub-loop : tie.Need-sub-loop Inv-loop μ-loop
+sub-loop c = search needs
 
-add-i : tie.Need-add-i Inv-loop μ-loop
-add-i c = search needs
+bits-in-requires : tie.Need-bits-in-requires Inv-loop μ-loop
+bits-in-requires c κs = search needs
+
+returns : tie.Need-returns Inv-loop μ-loop
+returns c =
+    let s : List ℕ = c .before .before .before .before .before .args .s .now in
+    let l = c .before .before .before .loop in
+    let bits = c .before .bits-in in
+    sym
+    (l .inv .1
+    ∙ rest-on s (l .at) 256 (bits .result) (omega arith) (bits .ensures)
+    ∙ ap (λ (t : Bool). t && restZero s (l .at + 256)) (ne-eqb (bits .result) 0 (c .if1 .taken)))
+
+add-at : tie.Need-add-at Inv-loop μ-loop
+add-at c = search needs
 
 loop-less : tie.Need-loop-less Inv-loop μ-loop
 loop-less c = search needs
 
 loop-again : tie.Need-loop-again Inv-loop μ-loop
 loop-again c =
-    let s : List ℕ = c .before .before .before .args .s .now in
-    let l = c .before .before .loop in
-    (search needs, seen-zero s (l .i) (l .seen) (omega arith) (l .inv .1))
+    let s : List ℕ = c .before .before .before .before .before .args .s .now in
+    let l = c .before .before .before .loop in
+    let bits = c .before .bits-in in (
+      search needs,
+      l .inv .1
+          ∙ rest-on s (l .at) 256 (bits .result) (omega arith) (bits .ensures)
+          ∙ ap (λ (t : Bool). t && restZero s (l .at + 256)) (eq-eqb (bits .result) 0 (c .if1 .left)),
+    )
 
-returns : tie.Need-returns Inv-loop μ-loop
-returns c =
-    let s : List ℕ = c .before .before .args .s .now in
-    let l = c .before .loop in
-    let e : l .i ≡ length s = omega arith in
-    l .inv .1 ∙ ap (λ (k : ℕ). same (take k s) (zeros k)) e ∙ ap (λ (x : List ℕ). same x (zeros (length s))) (take-length s)
+sub-bits-in : tie.Need-sub-bits-in Inv-loop μ-loop
+sub-bits-in c = search needs
+
+bits-in-requires-2 : tie.Need-bits-in-requires-2 Inv-loop μ-loop
+bits-in-requires-2 c κs = search needs
+
+returns-2 : tie.Need-returns-2 Inv-loop μ-loop
+returns-2 c = c .bits-in2 .ensures ∙ sym (c .before .before .loop .inv .1)
 
 pub all-zero-spec : {M : Type 1} → statement M
 all-zero-spec =
     tie.close
-    (tie.spec Inv-loop μ-loop loop-holds shared-slice-read-seen add-i loop-less loop-again returns)
+    (tie.spec
+    Inv-loop
+    μ-loop
+    loop-holds
+    sub-loop
+    bits-in-requires
+    returns
+    add-at
+    loop-less
+    loop-again
+    sub-bits-in
+    bits-in-requires-2
+    returns-2)
