@@ -1,0 +1,74 @@
+//! Work on many pages in turn, each once in a pass: of one page again and again a processor learns the
+//! branches. A pass goes by batches. Before its turn with a batch each contender finds the batch's bytes
+//! fetched, so that no one pays for memory that another one brought near.
+
+use std::ops::Range;
+use std::time::Instant;
+
+use crate::limits::opaque;
+use crate::timing::{until_stable, Effort, BETTER};
+
+/// Pages that are fetched and timed at a go. With their bases they take 256 KiB, which stay near.
+const BATCH: usize = 16;
+/// Bytes that are fetched at once.
+const LINE: usize = 64;
+/// Pages that the least number of passes comes to, if that is more than this number of passes.
+const VISITS: usize = 20_000;
+const PASSES: usize = 10;
+
+/// One part of each pair: its base, its page or what is kept of it.
+pub type Row<'r> = Vec<&'r [u8]>;
+
+/// One way to do the work on every page, and its least time for a whole pass.
+pub struct Runner<'r> {
+    /// What it reads.
+    rows: Vec<&'r Row<'r>>,
+    work: Box<dyn FnMut(Range<usize>) + 'r>,
+    pass: f64,
+    best: f64,
+}
+
+impl<'r> Runner<'r> {
+    pub fn new<const N: usize>(
+        rows: [&'r Row<'r>; N],
+        mut work: impl FnMut([&'r [u8]; N]) + 'r,
+    ) -> Runner<'r> {
+        let through = move |batch: Range<usize>| batch.for_each(|at| work(rows.map(|row| row[at])));
+        Runner { rows: rows.to_vec(), work: Box::new(through), pass: 0.0, best: f64::MAX }
+    }
+
+    fn fetch(&self, batch: Range<usize>) {
+        for bytes in self.rows.iter().flat_map(|row| &row[batch.clone()]) {
+            opaque(bytes.iter().step_by(LINE).fold(0, |sum: u8, byte| sum.wrapping_add(*byte)));
+        }
+    }
+
+    fn turn(&mut self, batch: Range<usize>) {
+        self.fetch(batch.clone());
+        let start = Instant::now();
+        (self.work)(batch);
+        self.pass += start.elapsed().as_nanos() as f64;
+    }
+
+    /// Whether the pass that ends here was clearly better than those before.
+    fn end_pass(&mut self) -> bool {
+        let better = self.pass < BETTER * self.best;
+        self.best = self.best.min(self.pass);
+        self.pass = 0.0;
+        better
+    }
+}
+
+/// Nanoseconds a page of each, by its least pass. They take turns in each batch.
+pub fn least_times(mut runners: Vec<Runner>) -> Vec<f64> {
+    let count = runners[0].rows[0].len();
+    let least = (VISITS / count).max(PASSES) as u32;
+    until_stable(Effort { least, quiet: 5, most: 3 * least }, || {
+        for start in (0..count).step_by(BATCH) {
+            let batch = start..count.min(start + BATCH);
+            runners.iter_mut().for_each(|runner| runner.turn(batch.clone()));
+        }
+        runners.iter_mut().fold(false, |better, runner| runner.end_pass() | better)
+    });
+    runners.iter().map(|runner| runner.best / count as f64).collect()
+}
