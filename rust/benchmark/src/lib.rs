@@ -1,4 +1,5 @@
-//! What the benchmark takes from elsewhere: sets of real pages, and peers.
+//! What the benchmark measures real pages by: sets of them, what is kept of each page, and peers.
 
 pub mod peers;
 pub mod sets;
+pub mod sorted;

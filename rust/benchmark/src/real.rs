@@ -4,7 +4,8 @@ use std::path::Path;
 
 use benchmark::peers::{self, Peer, ROOM};
 use benchmark::sets::{self, Page, Set};
-use thonxiliko::{compare, Difference, PAGE_SIZE, PAYLOAD_SIZE, SLOT_SIZE};
+use benchmark::sorted::{kept_by, Sorted};
+use thonxiliko::{compare, PAGE_SIZE, PAYLOAD_SIZE};
 
 use crate::limits::{self, opaque};
 use crate::timing::Times;
@@ -37,103 +38,12 @@ fn slices(kept: &[Vec<u8>]) -> Row<'_> {
     kept.iter().map(Vec::as_slice).collect()
 }
 
-/// The pairs of a set by what Compare makes of them.
-struct Sorted<'s> {
-    set: &'s Set,
-    equal: Vec<usize>,
-    changed: Vec<usize>,
-    patched: Vec<usize>,
-    /// The payload of each that is patched, and the entries of all of them.
-    payloads: Vec<Vec<u8>>,
-    entries: usize,
-    /// What is kept of each changed one: its payload, or its page.
-    kept: Vec<Vec<u8>>,
+fn bases<'s>(sorted: &Sorted<'s>, wanted: &[usize]) -> Row<'s> {
+    row(&sorted.set.bases, wanted)
 }
 
-impl<'s> Sorted<'s> {
-    fn of(set: &'s Set) -> Result<Sorted<'s>, String> {
-        let (equal, changed, patched) = (Vec::new(), Vec::new(), Vec::new());
-        let (payloads, kept) = (Vec::new(), Vec::new());
-        let mut sorted = Sorted { set, equal, changed, patched, payloads, entries: 0, kept };
-        for at in 0..set.pages.len() {
-            sorted.sort(at).map_err(|what| format!("{}, pair {at}: {what}", set.name))?;
-        }
-        Ok(sorted)
-    }
-
-    fn sort(&mut self, at: usize) -> Result<(), String> {
-        let (base, page) = (self.set.bases[at].bytes(), self.set.pages[at].bytes());
-        let mut buffer = [0; PAYLOAD_SIZE];
-        let made = compare(base, page, &mut buffer).map_err(|refusal| refusal.to_string())?;
-        let (compared, payload) = (made.compared(), made.payload());
-        check(base, page, compared.difference, payload)?;
-        match compared.difference {
-            Difference::Same => {
-                self.equal.push(at);
-                return Ok(());
-            }
-            Difference::Patch => {
-                self.patched.push(at);
-                self.payloads.push(payload.to_vec());
-                self.entries += compared.entries;
-                self.kept.push(payload.to_vec());
-            }
-            Difference::Large => self.kept.push(page.to_vec()),
-        }
-        self.changed.push(at);
-        Ok(())
-    }
-
-    fn bases(&self, wanted: &[usize]) -> Row<'s> {
-        row(&self.set.bases, wanted)
-    }
-
-    fn pages(&self, wanted: &[usize]) -> Row<'s> {
-        row(&self.set.pages, wanted)
-    }
-
-    fn full(&self) -> usize {
-        self.changed.len() - self.patched.len()
-    }
-
-    /// Bytes that the layout keeps of a changed page.
-    fn bytes_kept(&self) -> f64 {
-        let bytes = SLOT_SIZE * self.changed.len() + PAGE_SIZE * self.full();
-        bytes as f64 / self.changed.len() as f64
-    }
-}
-
-/// What is measured gives the page back, and is what plain Rust gives.
-fn check(base: &[u8], page: &[u8], difference: Difference, payload: &[u8]) -> Result<(), String> {
-    let mut plain = [0; PAYLOAD_SIZE];
-    let kind = independent::compare(base, page, &mut plain).kind;
-    if kind != difference.number() || plain[..payload.len()] != *payload {
-        return Err("plain Rust decides otherwise".to_string());
-    }
-    let mut again = [0; PAGE_SIZE];
-    let patch = difference == Difference::Patch;
-    if patch && (thonxiliko::apply(base, payload, &mut again).is_err() || again != page) {
-        return Err("its payload does not give the page".to_string());
-    }
-    Ok(())
-}
-
-/// What a peer keeps of each changed page: the delta, or the page where the delta is no shorter. Each delta
-/// must give its page.
-fn kept_by(peer: &mut dyn Peer, sorted: &Sorted) -> Result<Vec<Vec<u8>>, String> {
-    let mut buffer = vec![0; ROOM];
-    let mut again = [0; PAGE_SIZE];
-    let mut kept = Vec::new();
-    for at in &sorted.changed {
-        let (base, page) = (sorted.set.bases[*at].bytes(), sorted.set.pages[*at].bytes());
-        let length = peer.encode(base, page, &mut buffer).unwrap_or(0);
-        let delta = &buffer[..length];
-        if !peer.decode(base, delta, &mut again) || again != page {
-            return Err(format!("{}, pair {at}: lost by {}", sorted.set.name, peer.name()));
-        }
-        kept.push(if length < PAGE_SIZE { delta } else { page }.to_vec());
-    }
-    Ok(kept)
+fn pages<'s>(sorted: &Sorted<'s>, wanted: &[usize]) -> Row<'s> {
+    row(&sorted.set.pages, wanted)
 }
 
 fn mean_bytes(kept: &[Vec<u8>]) -> f64 {
@@ -146,7 +56,7 @@ fn compare_runners<'r>(
     pages: &'r Row<'r>,
     likes: &'r Row<'r>,
 ) -> Vec<Runner<'r>> {
-    let [mut payload, mut plain] = [[0; PAYLOAD_SIZE]; 2];
+    let [mut payload, mut plain] = [vec![0; PAYLOAD_SIZE], vec![0; PAYLOAD_SIZE]];
     vec![
         Runner::new([bases, pages], move |[base, page]| {
             let _ = opaque(compare(base, page, &mut payload));
@@ -160,14 +70,14 @@ fn compare_runners<'r>(
 
 /// Apply, memcpy and plain Rust.
 fn apply_runners<'r>(bases: &'r Row<'r>, payloads: &'r Row<'r>) -> Vec<Runner<'r>> {
-    let [mut page, mut copy, mut plain] = [[0; PAGE_SIZE]; 3];
+    let [mut page, mut copy, mut plain] = [Page::zeros(), Page::zeros(), Page::zeros()];
     vec![
         Runner::new([bases, payloads], move |[base, payload]| {
-            let _ = opaque(thonxiliko::apply(base, payload, &mut page));
+            let _ = opaque(thonxiliko::apply(base, payload, page.bytes_mut()));
         }),
-        Runner::new([bases], move |[base]| limits::copy(&mut copy, base)),
+        Runner::new([bases], move |[base]| limits::copy(copy.bytes_mut(), base)),
         Runner::new([bases, payloads], move |[base, payload]| {
-            opaque(independent::apply(base, payload, &mut plain));
+            opaque(independent::apply(base, payload, plain.bytes_mut()));
         }),
     ]
 }
@@ -185,10 +95,10 @@ fn decoder<'r>(
     kept: &'r Row<'r>,
     mut decode: impl FnMut(&[u8], &[u8], &mut [u8]) + 'r,
 ) -> Runner<'r> {
-    let mut page = [0; PAGE_SIZE];
+    let mut page = Page::zeros();
     Runner::new([bases, kept], move |[base, kept]| match kept.len() {
-        PAGE_SIZE => limits::copy(&mut page, kept),
-        _ => decode(base, kept, &mut page),
+        PAGE_SIZE => limits::copy(page.bytes_mut(), kept),
+        _ => decode(base, kept, page.bytes_mut()),
     })
 }
 
@@ -234,7 +144,7 @@ impl Measured {
 
     fn equal_pages(&mut self, sorted: &Sorted) {
         if !sorted.equal.is_empty() {
-            let (bases, pages) = (sorted.bases(&sorted.equal), sorted.pages(&sorted.equal));
+            let (bases, pages) = (bases(sorted, &sorted.equal), pages(sorted, &sorted.equal));
             let least = least_times(compare_runners(&bases, &pages, &pages));
             self.call(CALLS[1], sorted, sorted.equal.len(), &least);
         }
@@ -242,7 +152,7 @@ impl Measured {
 
     fn patches(&mut self, sorted: &Sorted) {
         if !sorted.patched.is_empty() {
-            let (bases, payloads) = (sorted.bases(&sorted.patched), slices(&sorted.payloads));
+            let (bases, payloads) = (bases(sorted, &sorted.patched), slices(&sorted.payloads));
             let least = least_times(apply_runners(&bases, &payloads));
             self.call(CALLS[2], sorted, sorted.patched.len(), &least);
         }
@@ -269,7 +179,7 @@ impl Measured {
 
     /// Times of Compare and of each peer.
     fn encode(&mut self, sorted: &Sorted, peers: &mut [Box<dyn Peer>]) -> Vec<f64> {
-        let (bases, pages) = (sorted.bases(&sorted.changed), sorted.pages(&sorted.changed));
+        let (bases, pages) = (bases(sorted, &sorted.changed), pages(sorted, &sorted.changed));
         let likes = sorted.set.bases.clone();
         let likes = row(&likes, &sorted.changed);
         let mut runners = compare_runners(&bases, &pages, &likes);
@@ -284,7 +194,7 @@ impl Measured {
 
 /// Times of our decoding and of each peer's.
 fn decode(sorted: &Sorted, peers: &mut [Box<dyn Peer>], kept: &[Vec<Vec<u8>>]) -> Vec<f64> {
-    let bases = sorted.bases(&sorted.changed);
+    let bases = bases(sorted, &sorted.changed);
     let ours = slices(&sorted.kept);
     let theirs: Vec<Row> = kept.iter().map(|kept| slices(kept)).collect();
     let apply = |base: &[u8], payload: &[u8], page: &mut [u8]| {

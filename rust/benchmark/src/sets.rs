@@ -13,8 +13,16 @@ use thonxiliko::PAGE_SIZE;
 pub struct Page([u8; PAGE_SIZE]);
 
 impl Page {
+    pub fn zeros() -> Page {
+        Page([0; PAGE_SIZE])
+    }
+
     pub fn bytes(&self) -> &[u8] {
         &self.0
+    }
+
+    pub fn bytes_mut(&mut self) -> &mut [u8] {
+        &mut self.0
     }
 }
 
@@ -34,6 +42,11 @@ impl Set {
         let bases = blocks.iter().flat_map(|block| split(&block.base)).collect();
         let pages = blocks.iter().flat_map(|block| split(&block.page)).collect();
         Ok(Set { name: "shipped".to_string(), bases, pages })
+    }
+
+    /// The base and the page of a pair.
+    pub fn pair(&self, at: usize) -> (&[u8], &[u8]) {
+        (self.bases[at].bytes(), self.pages[at].bytes())
     }
 
     fn read(folder: &Path, name: &str) -> Result<Set, String> {
