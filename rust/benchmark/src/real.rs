@@ -15,8 +15,9 @@ use crate::{cells, HEAD};
 const METHOD: &str = "\
 Times are in nanoseconds a page. All pages of a set are visited in turn, each once in a pass, so that none
 is known by heart; a time is that of the least of several whole passes, by the number of pages. Pages are
-fetched before they are timed, 16 pairs at a go, in which all contenders of a table's line or set take
-turns. \"limits\" is memcmp of the same bases with their like for Compare, memcpy of them for Apply.
+fetched before they are timed, two pairs at a go, and with these the contenders take turns: the library,
+its limits, plain Rust, and the peers. What the clock itself takes is taken off. \"limits\" is memcmp of the
+same bases with their like for Compare, memcpy of them for Apply, \"plain Rust\" the independent implementation.
 ";
 
 const KEPT: &str = "\

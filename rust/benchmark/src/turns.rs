@@ -8,8 +8,8 @@ use std::time::Instant;
 use crate::limits::opaque;
 use crate::timing::{until_stable, Effort, BETTER};
 
-/// Pages that are fetched and timed at a go. With their bases they take 256 KiB, which stay near.
-const BATCH: usize = 16;
+/// Pages that are fetched and timed at a go. With their bases they take 32 KiB, which stay near.
+const BATCH: usize = 2;
 /// Bytes that are fetched at once.
 const LINE: usize = 64;
 /// Pages that the least number of passes comes to, if that is more than this number of passes.
@@ -43,11 +43,11 @@ impl<'r> Runner<'r> {
         }
     }
 
-    fn turn(&mut self, batch: Range<usize>) {
+    fn turn(&mut self, batch: Range<usize>, clock: f64) {
         self.fetch(batch.clone());
         let start = Instant::now();
         (self.work)(batch);
-        self.pass += start.elapsed().as_nanos() as f64;
+        self.pass += start.elapsed().as_nanos() as f64 - clock;
     }
 
     /// Whether the pass that ends here was clearly better than those before.
@@ -59,14 +59,21 @@ impl<'r> Runner<'r> {
     }
 }
 
+/// What looking at the clock takes by itself.
+fn clock() -> f64 {
+    let once = || Instant::now().elapsed().as_nanos() as f64;
+    (0..1_000).map(|_| once()).fold(f64::MAX, f64::min)
+}
+
 /// Nanoseconds a page of each, by its least pass. They take turns in each batch.
 pub fn least_times(mut runners: Vec<Runner>) -> Vec<f64> {
+    let clock = clock();
     let count = runners[0].rows[0].len();
     let least = (VISITS / count).max(PASSES) as u32;
     until_stable(Effort { least, quiet: 5, most: 3 * least }, || {
         for start in (0..count).step_by(BATCH) {
             let batch = start..count.min(start + BATCH);
-            runners.iter_mut().for_each(|runner| runner.turn(batch.clone()));
+            runners.iter_mut().for_each(|runner| runner.turn(batch.clone(), clock));
         }
         runners.iter_mut().fold(false, |better, runner| runner.end_pass() | better)
     });
