@@ -219,7 +219,7 @@ fn print_sets(sorted: &[Sorted]) {
         let share = |count: usize| 100.0 * count as f64 / pairs as f64;
         let (equal, patched) = (sorted.equal.len(), sorted.patched.len());
         let shares = [equal, patched, sorted.full()].map(|count| format!("{:.1} %", share(count)));
-        let entries = sorted.entries as f64 / patched as f64;
+        let entries = sorted.entries as f64 / patched.max(1) as f64;
         println!("| {} | {pairs} | {} | {entries:.0} |", sorted.set.name, shares.join(" | "));
     }
     for sorted in sorted.iter().filter(|sorted| sorted.changed.len() < FEW) {
