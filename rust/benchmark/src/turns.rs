@@ -8,8 +8,8 @@ use std::time::Instant;
 use crate::limits::opaque;
 use crate::timing::{until_stable, Effort, BETTER};
 
-/// Pages that are fetched and timed at a go; with their bases 32 KiB. Of more of them the first are no longer
-/// near: on a Neoverse V1 memcmp takes 351 ns a page with 16, 248 with 4, 226 with 2 and 225 with 1.
+/// Pages that are fetched and timed at a go; with their bases 32 KiB. Of many the first are no longer near when
+/// their turn comes, and memcmp takes half as long again with 16; with 1 it gains nothing more.
 const BATCH: usize = 2;
 /// Bytes that are fetched at once.
 const LINE: usize = 64;
