@@ -9,7 +9,7 @@ use thonxiliko::{compare, PAGE_SIZE, PAYLOAD_SIZE};
 
 use crate::limits::{self, opaque};
 use crate::timing::Times;
-use crate::turns::{least_times, Row, Runner};
+use crate::turns::{least_times, Least, Row, Runner};
 use crate::{cells, HEAD};
 
 const METHOD: &str = "\
@@ -25,6 +25,10 @@ Encode is Compare, or the peer's delta made into a buffer; decode is Apply, or t
 and delta; a page that is kept whole is copied. Kept are a slot of 512 bytes for a patch and 8,192 bytes more
 for a full page, as the layout has it; of a peer the delta's bytes alone, or 8,192 where it is no shorter.
 ";
+
+const UNREST: &str = "\
+The least pass of a contender by the sum of the least times of its batches says how much other work it met: the
+more, the slower those look that take long. The most of all contenders is";
 
 const CALLS: [&str; 3] = ["Compare, changed pages", "Compare, equal pages", "Apply, PATCH pages"];
 
@@ -123,6 +127,8 @@ struct KeptRow {
 struct Measured {
     calls: Vec<CallRow>,
     kept: Vec<KeptRow>,
+    /// The most that was met.
+    unrest: f64,
 }
 
 impl Measured {
@@ -138,6 +144,12 @@ impl Measured {
         Ok(measured)
     }
 
+    fn least_times(&mut self, runners: Vec<Runner>) -> Vec<f64> {
+        let Least { times, unrest } = least_times(runners);
+        self.unrest = self.unrest.max(unrest);
+        times
+    }
+
     fn call(&mut self, call: &'static str, sorted: &Sorted, pages: usize, least: &[f64]) {
         let times = Times { library: least[0], limits: least[1], independent: least[2] };
         self.calls.push(CallRow { call, set: sorted.set.name.clone(), pages, times });
@@ -146,7 +158,7 @@ impl Measured {
     fn equal_pages(&mut self, sorted: &Sorted) {
         if !sorted.equal.is_empty() {
             let (bases, pages) = (bases(sorted, &sorted.equal), pages(sorted, &sorted.equal));
-            let least = least_times(compare_runners(&bases, &pages, &pages));
+            let least = self.least_times(compare_runners(&bases, &pages, &pages));
             self.call(CALLS[1], sorted, sorted.equal.len(), &least);
         }
     }
@@ -154,7 +166,7 @@ impl Measured {
     fn patches(&mut self, sorted: &Sorted) {
         if !sorted.patched.is_empty() {
             let (bases, payloads) = (bases(sorted, &sorted.patched), slices(&sorted.payloads));
-            let least = least_times(apply_runners(&bases, &payloads));
+            let least = self.least_times(apply_runners(&bases, &payloads));
             self.call(CALLS[2], sorted, sorted.patched.len(), &least);
         }
     }
@@ -168,7 +180,7 @@ impl Measured {
         let kept = peers.iter_mut().map(|peer| kept_by(peer.as_mut(), sorted));
         let kept = kept.collect::<Result<Vec<_>, String>>()?;
         let encode = self.encode(sorted, &mut peers);
-        let decode = decode(sorted, &mut peers, &kept);
+        let decode = self.decode(sorted, &mut peers, &kept);
         let mut ways = vec![("ours", sorted.bytes_kept())];
         ways.extend(peers.iter().zip(&kept).map(|(peer, kept)| (peer.name(), mean_bytes(kept))));
         for (((by, bytes), encode), decode) in ways.into_iter().zip(encode).zip(decode) {
@@ -185,30 +197,35 @@ impl Measured {
         let likes = row(&likes, &sorted.changed);
         let mut runners = compare_runners(&bases, &pages, &likes);
         runners.extend(peers.iter_mut().map(|peer| encoder(peer.as_mut(), &bases, &pages)));
-        let mut least = least_times(runners);
+        let mut least = self.least_times(runners);
         self.call(CALLS[0], sorted, sorted.changed.len(), &least);
         // memcmp and plain Rust keep nothing.
         least.drain(1..3);
         least
     }
-}
 
-/// Times of our decoding and of each peer's.
-fn decode(sorted: &Sorted, peers: &mut [Box<dyn Peer>], kept: &[Vec<Vec<u8>>]) -> Vec<f64> {
-    let bases = bases(sorted, &sorted.changed);
-    let ours = slices(&sorted.kept);
-    let theirs: Vec<Row> = kept.iter().map(|kept| slices(kept)).collect();
-    let apply = |base: &[u8], payload: &[u8], page: &mut [u8]| {
-        let _ = opaque(thonxiliko::apply(base, payload, page));
-    };
-    let mut runners = vec![decoder(&bases, &ours, apply)];
-    for (peer, kept) in peers.iter_mut().zip(&theirs) {
-        let decode = move |base: &[u8], delta: &[u8], page: &mut [u8]| {
-            opaque(peer.decode(base, delta, page));
+    /// Times of our decoding and of each peer's.
+    fn decode(
+        &mut self,
+        sorted: &Sorted,
+        peers: &mut [Box<dyn Peer>],
+        kept: &[Vec<Vec<u8>>],
+    ) -> Vec<f64> {
+        let bases = bases(sorted, &sorted.changed);
+        let ours = slices(&sorted.kept);
+        let theirs: Vec<Row> = kept.iter().map(|kept| slices(kept)).collect();
+        let apply = |base: &[u8], payload: &[u8], page: &mut [u8]| {
+            let _ = opaque(thonxiliko::apply(base, payload, page));
         };
-        runners.push(decoder(&bases, kept, decode));
+        let mut runners = vec![decoder(&bases, &ours, apply)];
+        for (peer, kept) in peers.iter_mut().zip(&theirs) {
+            let decode = move |base: &[u8], delta: &[u8], page: &mut [u8]| {
+                opaque(peer.decode(base, delta, page));
+            };
+            runners.push(decoder(&bases, kept, decode));
+        }
+        self.least_times(runners)
     }
-    least_times(runners)
 }
 
 fn print_sets(sorted: &[Sorted]) {
@@ -273,5 +290,6 @@ pub fn print(folder: Option<&Path>) -> Result<(), String> {
     print_calls(&measured.calls);
     println!("\n### What a user could pick instead, on the changed pages\n\n{KEPT}");
     print_kept(&measured.kept);
+    println!("\n{UNREST} {:.2} here.", measured.unrest);
     Ok(())
 }

@@ -27,6 +27,8 @@ pub struct Runner<'r> {
     work: Box<dyn FnMut(Range<usize>) + 'r>,
     pass: f64,
     best: f64,
+    /// The least time of each batch.
+    batches: Vec<f64>,
 }
 
 impl<'r> Runner<'r> {
@@ -35,7 +37,9 @@ impl<'r> Runner<'r> {
         mut work: impl FnMut([&'r [u8]; N]) + 'r,
     ) -> Runner<'r> {
         let through = move |batch: Range<usize>| batch.for_each(|at| work(rows.map(|row| row[at])));
-        Runner { rows: rows.to_vec(), work: Box::new(through), pass: 0.0, best: f64::MAX }
+        let batches = vec![f64::MAX; (rows[0].len() + BATCH - 1) / BATCH];
+        let (rows, work) = (rows.to_vec(), Box::new(through));
+        Runner { rows, work, pass: 0.0, best: f64::MAX, batches }
     }
 
     fn fetch(&self, batch: Range<usize>) {
@@ -46,9 +50,12 @@ impl<'r> Runner<'r> {
 
     fn turn(&mut self, batch: Range<usize>, clock: f64) {
         self.fetch(batch.clone());
+        let least = &mut self.batches[batch.start / BATCH];
         let start = Instant::now();
         (self.work)(batch);
-        self.pass += start.elapsed().as_nanos() as f64 - clock;
+        let time = start.elapsed().as_nanos() as f64 - clock;
+        self.pass += time;
+        *least = least.min(time);
     }
 
     /// Whether the pass that ends here was clearly better than those before.
@@ -58,6 +65,18 @@ impl<'r> Runner<'r> {
         self.pass = 0.0;
         better
     }
+
+    /// The least pass by the sum of what its batches took at least. Other work on the machine makes it more,
+    /// and most of all for those that take long.
+    fn unrest(&self) -> f64 {
+        self.best / self.batches.iter().sum::<f64>()
+    }
+}
+
+/// Nanoseconds a page of each contender, and the most unrest that one of them met.
+pub struct Least {
+    pub times: Vec<f64>,
+    pub unrest: f64,
 }
 
 /// What looking at the clock takes by itself.
@@ -66,8 +85,8 @@ fn clock() -> f64 {
     (0..1_000).map(|_| once()).fold(f64::MAX, f64::min)
 }
 
-/// Nanoseconds a page of each, by its least pass. They take turns in each batch.
-pub fn least_times(mut runners: Vec<Runner>) -> Vec<f64> {
+/// The least pass of each. They take turns in each batch.
+pub fn least_times(mut runners: Vec<Runner>) -> Least {
     let clock = clock();
     let count = runners[0].rows[0].len();
     let least = (VISITS / count).max(PASSES) as u32;
@@ -78,5 +97,8 @@ pub fn least_times(mut runners: Vec<Runner>) -> Vec<f64> {
         }
         runners.iter_mut().fold(false, |better, runner| runner.end_pass() | better)
     });
-    runners.iter().map(|runner| runner.best / count as f64).collect()
+    Least {
+        times: runners.iter().map(|runner| runner.best / count as f64).collect(),
+        unrest: runners.iter().map(Runner::unrest).fold(1.0, f64::max),
+    }
 }
