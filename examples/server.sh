@@ -1,6 +1,6 @@
 # shellcheck shell=sh disable=SC2034 # sourced; its variables are used by others
-# Sourced by run and make-pages, after tests/common.sh: a PostgreSQL server of our own, on a private
-# socket in a temporary folder, gone again however the script ends.
+# Sourced by run, make-pages and ../rust/page-sets, after tests/common.sh: a PostgreSQL server of our own,
+# on a private socket in a temporary folder, gone again however the script ends.
 #
 #   choose_user         who the server runs as; to be called before start_workplace
 #   start_workplace     makes $WORK, a temporary folder, and sees to its removal

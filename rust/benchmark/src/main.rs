@@ -1,7 +1,8 @@
 //! Prints how long each call takes, as tables in Markdown. With `--once` every contender gets one turn,
 //! to see that all of it works; with `--format` only Format of large areas is measured, with `--maps`
 //! only what a map that is kept brings, with `--cuts` only cuts of the largest areas and their highest
-//! block, with `--sweeps` only sweeps of the largest areas.
+//! block, with `--sweeps` only sweeps of the largest areas. With `--real` real pages are taken: the shipped
+//! ones, and the sets of a folder if one is named.
 
 mod calls;
 mod cuts;
@@ -9,10 +10,13 @@ mod formats;
 mod limits;
 mod maps;
 mod pages;
+mod real;
 mod segments;
 mod sweeps;
 mod timing;
+mod turns;
 
+use std::path::Path;
 use std::process::ExitCode;
 
 use timing::{Times, ONCE};
@@ -145,6 +149,17 @@ fn print_all(once: bool) {
     print_targets(&calls, &segments);
 }
 
+/// Real pages; a set that is not one and a peer that loses a page end the run.
+fn print_real(folder: Option<&str>) -> ExitCode {
+    match real::print(folder.map(Path::new)) {
+        Ok(()) => ExitCode::SUCCESS,
+        Err(problem) => {
+            eprintln!("{problem}");
+            ExitCode::FAILURE
+        }
+    }
+}
+
 fn main() -> ExitCode {
     let words: Vec<String> = std::env::args().skip(1).collect();
     let words: Vec<&str> = words.iter().map(String::as_str).collect();
@@ -164,8 +179,12 @@ fn main() -> ExitCode {
             println!("{METHOD}");
             print_sweeps(false);
         }
+        ["--real"] => return print_real(None),
+        ["--real", folder] => return print_real(Some(folder)),
         _ => {
-            eprintln!("usage: benchmark [--once | --format | --maps | --cuts | --sweeps]");
+            eprintln!(
+                "usage: benchmark [--once | --format | --maps | --cuts | --sweeps | --real [FOLDER]]"
+            );
             return ExitCode::from(2);
         }
     }

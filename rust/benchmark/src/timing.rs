@@ -16,7 +16,7 @@ const SAMPLE: f64 = 20_000.0;
 /// Work up to this long is done once before each sample, so that its buffers are warm.
 const WARMED: f64 = 1_000_000.0;
 /// A sample is better if it takes less than this share of the best before.
-const BETTER: f64 = 0.99;
+pub const BETTER: f64 = 0.99;
 
 /// One way to do the work, and its best time so far.
 pub struct Contender<'c> {
