@@ -87,31 +87,30 @@ pub fn check(payload: &[u8], size: usize) -> Checked
     }
 }
 
-// Writes each entry's value at its place, up to the payload's end or the first entry that is broken.
+// Writes each entry's value at its place, up to the payload's end or the first entry that is broken. The place after the last position is
+// kept, so that no sum is signed, and one test finds each jump that leaves the page, a broken one among them.
 pub fn overlay(page: &mut [u8], payload: &[u8])
     ensures { λ _. ⌜ now (page .exit)
         ≡ applied (now (page .entry)) (payloadStream (reach (length (now (page .entry)))) (now (payload .entry))) ⌝ }
 {
-    let size = page.len();
+    let end = span::shorter(page.len(), Code::REACH);
     let mut place = 0;
-    let mut position: i32 = -1;
-    loop {
-        match entry::step(payload, place, position, size) {
-            Step::End => {
-                return;
-            }
-            Step::Broken => {
-                return;
-            }
-            Step::Entry {
-                position: at,
-                value,
-                next,
-            } => {
-                page[at as usize] = value;
-                position = at;
-                place = next;
-            }
+    let mut next = 0;
+    while Code::SHORT_WIDTH <= payload.len() - place {
+        let first = payload[place];
+        let mut jump = first as usize;
+        let mut width = Code::SHORT_WIDTH;
+        if first == Code::LONG {
+            jump = entry::long_jump(payload, place);
+            width = Code::LONG_WIDTH;
         }
+        let at = next + jump;
+        if end <= at {
+            return;
+        }
+        let value = payload[place + width - 1];
+        page[at] = value;
+        next = at + 1;
+        place += width;
     }
 }
