@@ -4,11 +4,12 @@ use native.Mathlib.Omega.{arith}
 use mathlib.Core.Path.{_≡_, refl, sym, ap, _∙_, subst}
 use mathlib.Core.Bool.{Bool, true, false, _&&_, and-false, false≢true}
 use mathlib.Core.List.{List, [], _∷_}
-use lib.Dec.{leb, ltb}
+use lib.Dec.{leb, ltb, T}
 use lib.ListN.{length, drop, set, length-set}
 use lib.IntN.{ℤ, pos, negsuc, natAbs}
-use mir.Syntax.{w32}
-use mir.Val.{SFits, toZ, ofZ}
+use lib.Signed.{nonNeg}
+use mir.Syntax.{w32, w64}
+use mir.Val.{Fits, SFits, toZ, ofZ}
 use mir.ValLaws.{toZ-ofZ}
 use borrow.Author.Tests.{le-leb, lt-leb, ltb-true, ltb-false}
 use Rattle.layout.specs.Sizes.{room}
@@ -20,9 +21,12 @@ use Rattle.payload.specs.StepLaws.{SoundAs, UnsoundAt}
 use Rattle.payload.specs.declared.Step.{Step}
 use Rattle.payload.proofs.Reading.{at-end, cut}
 
--- A step's answer, once a `match` has told which it is.
-pub told : (n : ℕ) (payload : List ℕ) (place : ℕ) (s : Stream) (r r′ : Step) → r ≡ r′ → Follows n payload place s r → Follows n payload place s r′
-told n payload place s r r′ e f = subst (λ (x : Step). Follows n payload place s x) e f
+-- A step's answer from a position that the code found, once a `match` has told which it is.
+pub told : (n : ℕ) (payload : List ℕ) (place : ℕ) (p p′ : ℤ) (r r′ : Step) → p′ ≡ p → r ≡ r′
+    → Follows n payload place (stream n p′ code (drop place payload)) r → Follows n payload place (stream n p code (drop place payload)) r′
+told n payload place p p′ r r′ e f s =
+    subst (λ (z : ℤ). Follows n payload place (stream n z code (drop place payload)) r′) e
+    (subst (Follows n payload place (stream n p′ code (drop place payload))) f s)
 
 -- A place in the page is a signed 32-bit number, and an index.
 pub place-is : (n : ℕ) (q : ℤ) → inPage n q ≡ true → q ≡ pos (natAbs q)
@@ -42,6 +46,20 @@ place-fits n q h e =
 
 pub place-back : (n : ℕ) (q : ℤ) → n ≤ 65536 → inPage n q ≡ true → toZ w32 (ofZ w32 q) ≡ q
 place-back n q h e = toZ-ofZ w32 q (place-fits n q h e)
+
+-- an index that the code reads back from a place's bits
+pub index-is : (n : ℕ) (q : ℤ) → n ≤ 65536 → inPage n q ≡ true → pos (natAbs (toZ w32 (ofZ w32 q))) ≡ q
+index-is n q h e = ap (λ (z : ℤ). pos (natAbs z)) (place-back n q h e) ∙ sym (place-is n q e)
+
+pub index-in : (n : ℕ) (q : ℤ) → n ≤ 65536 → inPage n q ≡ true → natAbs (toZ w32 (ofZ w32 q)) < n
+index-in n q h e =
+    let f : natAbs (toZ w32 (ofZ w32 q)) ≡ natAbs q = ap natAbs (place-back n q h e) in
+    omega (arith, place-in n q e)
+
+pub index-fits : (n : ℕ) (q : ℤ) → n ≤ 65536 → inPage n q ≡ true → T (nonNeg (toZ w32 (ofZ w32 q))) × Fits w64 (natAbs (toZ w32 (ofZ w32 q)))
+index-fits n q h e =
+    let b : toZ w32 (ofZ w32 q) ≡ pos (natAbs q) = place-back n q h e ∙ place-is n q e in
+    (subst (λ (z : ℤ). T (nonNeg z)) (sym b) tt, record { fits = omega (arith, index-in n q h e) })
 
 -- The check: what is known after the entries before `place`.
 pub record Passed (n : ℕ) (payload : List ℕ) (place : ℕ) (p : ℤ) (count : ℕ) : Type 0 where

@@ -1,8 +1,11 @@
 -- The position before a place, and where a jump from there leads.
-use Prim.Native.Nat.{ℕ, zero, suc, _+_, _-_}
+use Prim.Native.Nat.{ℕ, zero, suc, _+_, _-_, _≤_}
 use native.Mathlib.Omega.{arith}
 use mathlib.Core.Path.{_≡_, ap, _∙_}
-use lib.IntN.{ℤ, pos, subℕ, _+ℤ_}
+use lib.IntN.{ℤ, pos, subℕ, _+ℤ_, _-ℤ_}
+use mir.Syntax.{w32}
+use mir.Val.{SFits, toZ}
+use mir.ValLaws.{toZ-pos}
 use borrow.Author.Tests.{le-ltb}
 
 -- −1 before the first
@@ -22,3 +25,11 @@ moved (suc k) j =
     let q : suc k ≡ k + 1 = omega arith in
     let e : k + (j + 1) ≡ suc k + j = omega arith in
     ap (λ (z : ℤ). z +ℤ pos (j + 1)) (ap before q ∙ before-next k) ∙ ap pos e
+
+-- up to 65,536 it is a signed 32-bit number, and the code finds it by a difference
+pub before-fits : (n : ℕ) → n ≤ 65536 → SFits w32 (before n)
+before-fits zero h = record { sfits = omega arith }
+before-fits (suc k) h = rw (le-ltb (suc k) 1 (omega arith)) (record { sfits = omega arith })
+
+pub before-read : (n : ℕ) → n ≤ 65536 → toZ w32 n -ℤ pos 1 ≡ before n
+before-read n h = ap (λ (z : ℤ). z -ℤ pos 1) (toZ-pos w32 n (omega arith))

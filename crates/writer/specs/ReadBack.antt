@@ -1,5 +1,5 @@
 -- Applying the writer's stream to the base gives the page, with the writer's own numbers, in pages up to 65,536 bytes.
-use Prim.Native.Nat.{ℕ, zero, suc, _+_, _-_, _≤_}
+use Prim.Native.Nat.{ℕ, suc, _+_, _-_, _≤_}
 use native.Mathlib.Omega.{arith}
 use mathlib.Core.Path.{_≡_, refl, sym, ap, _∙_}
 use mathlib.Core.Bool.{Bool, true, false}
@@ -8,7 +8,7 @@ use lib.Dec.{eqb}
 use lib.ListN.{length, set, length-append}
 use lib.Seq.{set-at}
 use lib.IntN.{ℤ, pos, _+ℤ_}
-use borrow.Author.Tests.{eqb-true, le-ltb, lt-ltb}
+use borrow.Author.Tests.{eqb-true, lt-ltb}
 use Rattle.layout.specs.Sizes.{room}
 use Rattle.payload.specs.Entries.{Stream, done, entry, code, inPage, stream, start, payloadStream, whole, sound, entries, last, put}
 use Rattle.payload.specs.Entries.{applied}
