@@ -4,24 +4,29 @@ use native.Mathlib.Omega.{arith}
 use mathlib.Core.Path.{_≡_, refl, sym, ap, _∙_, subst}
 use mathlib.Core.Bool.{Bool, true, false, _&&_, and-false, false≢true}
 use mathlib.Core.List.{List, [], _∷_}
-use lib.Dec.{leb, T}
+use lib.Dec.{leb, ltb, T}
 use lib.ListN.{length, drop, set, length-set}
 use lib.IntN.{ℤ, pos, negsuc, natAbs}
 use lib.Signed.{nonNeg}
 use mir.Syntax.{w32, w64}
 use mir.Val.{Fits, SFits, toZ, ofZ}
 use mir.ValLaws.{toZ-ofZ}
-use borrow.Author.Tests.{le-leb, lt-leb, ltb-true}
+use borrow.Author.Tests.{le-leb, lt-leb, ltb-true, ltb-false}
 use Rattle.layout.specs.Sizes.{room}
 use Rattle.payload.specs.Entries.{Stream, done, unsound, code, inPage, stream, start, payloadStream, whole, sound}
 use Rattle.payload.specs.Entries.{entries, last, used, breaksAt, put, applied}
+use Rattle.payload.specs.Positions.{before, before-next}
 use Rattle.payload.specs.Steps.{Follows, Entered}
 use Rattle.payload.specs.StepLaws.{SoundAs, UnsoundAt}
 use Rattle.payload.specs.declared.Step.{Step}
+use Rattle.payload.proofs.Reading.{at-end, cut}
 
--- A step's answer, once a `match` has told which it is.
-pub told : (n : ℕ) (payload : List ℕ) (place : ℕ) (s : Stream) (r r′ : Step) → r ≡ r′ → Follows n payload place s r → Follows n payload place s r′
-told n payload place s r r′ e f = subst (λ (x : Step). Follows n payload place s x) e f
+-- A step's answer from a position that the code found, once a `match` has told which it is.
+pub told : (n : ℕ) (payload : List ℕ) (place : ℕ) (p p′ : ℤ) (r r′ : Step) → p′ ≡ p → r ≡ r′
+    → Follows n payload place (stream n p′ code (drop place payload)) r → Follows n payload place (stream n p code (drop place payload)) r′
+told n payload place p p′ r r′ e f s =
+    subst (λ (z : ℤ). Follows n payload place (stream n z code (drop place payload)) r′) e
+    (subst (Follows n payload place (stream n p′ code (drop place payload))) f s)
 
 -- A place in the page is a signed 32-bit number, and an index.
 pub place-is : (n : ℕ) (q : ℤ) → inPage n q ≡ true → q ≡ pos (natAbs q)
@@ -41,6 +46,20 @@ place-fits n q h e =
 
 pub place-back : (n : ℕ) (q : ℤ) → n ≤ 65536 → inPage n q ≡ true → toZ w32 (ofZ w32 q) ≡ q
 place-back n q h e = toZ-ofZ w32 q (place-fits n q h e)
+
+-- an index that the code reads back from a place's bits
+pub index-is : (n : ℕ) (q : ℤ) → n ≤ 65536 → inPage n q ≡ true → pos (natAbs (toZ w32 (ofZ w32 q))) ≡ q
+index-is n q h e = ap (λ (z : ℤ). pos (natAbs z)) (place-back n q h e) ∙ sym (place-is n q e)
+
+pub index-in : (n : ℕ) (q : ℤ) → n ≤ 65536 → inPage n q ≡ true → natAbs (toZ w32 (ofZ w32 q)) < n
+index-in n q h e =
+    let f : natAbs (toZ w32 (ofZ w32 q)) ≡ natAbs q = ap natAbs (place-back n q h e) in
+    omega (arith, place-in n q e)
+
+pub index-fits : (n : ℕ) (q : ℤ) → n ≤ 65536 → inPage n q ≡ true → T (nonNeg (toZ w32 (ofZ w32 q))) × Fits w64 (natAbs (toZ w32 (ofZ w32 q)))
+index-fits n q h e =
+    let b : toZ w32 (ofZ w32 q) ≡ pos (natAbs q) = place-back n q h e ∙ place-is n q e in
+    (subst (λ (z : ℤ). T (nonNeg z)) (sym b) tt, record { fits = omega (arith, index-in n q h e) })
 
 -- The check: what is known after the entries before `place`.
 pub record Passed (n : ℕ) (payload : List ℕ) (place : ℕ) (p : ℤ) (count : ℕ) : Type 0 where
@@ -118,25 +137,13 @@ pub record Laid (n : ℕ) (page₀ payload page : List ℕ) (place : ℕ) (p : �
 pub laid-none : (n : ℕ) (page payload : List ℕ) → Laid n page payload page 0 start
 laid-none n page payload = record { on = omega arith; same = refl; still = refl }
 
-put-is : (n : ℕ) (page : List ℕ) (q : ℤ) (v : ℕ) → inPage n q ≡ true → put page q v ≡ set page (natAbs q) v
-unfolding inPage put
-put-is n page (pos k) v e = refl
-put-is n page (negsuc k) v e = absurd (false≢true e)
-
 module _ (n : ℕ) (page₀ payload page : List ℕ) (place : ℕ) (p : ℤ) (h : Laid n page₀ payload page place p) where
-  pub laid-more : (q r : ℤ) (v next : ℕ) → r ≡ q → Entered n payload place (stream n p code (drop place payload)) q v next
-      → Laid n page₀ payload (set page (natAbs r) v) next r
-  unfolding applied
-  laid-more q r v next e m =
-      subst (λ (z : ℤ). Laid n page₀ payload (set page (natAbs z) v) next z) (sym e)
-      (record {
-        on = m .within;
-        same = length-set page (natAbs q) v ∙ h .same;
-        still =
-            h .still
-            ∙ ap (λ (s : Stream). applied page s) (m .is)
-            ∙ ap (λ (l : List ℕ). applied l (stream n q code (drop next payload))) (put-is n page q v (m .lands));
-      })
+  pub laid-more : (at v to : ℕ) → Entered n payload place (stream n p code (drop place payload)) (pos at) v to
+      → Laid n page₀ payload (set page at v) to (before (at + 1))
+  unfolding applied put
+  laid-more at v to m =
+      subst (Laid n page₀ payload (set page at v) to) (sym (before-next at))
+      (record { on = m .within; same = length-set page at v ∙ h .same; still = h .still ∙ ap (λ (s : Stream). applied page s) (m .is) })
 
   pub laid-all : stream n p code (drop place payload) ≡ done → page ≡ applied page₀ (payloadStream n payload)
   unfolding applied
@@ -146,15 +153,10 @@ module _ (n : ℕ) (page₀ payload page : List ℕ) (place : ℕ) (p : ℤ) (h 
   unfolding applied
   laid-broken e = sym (h .still ∙ ap (λ (s : Stream). applied page s) e)
 
--- an index that the code reads back from a place's bits
-pub index-fits : (n : ℕ) (q : ℤ) → n ≤ 65536 → inPage n q ≡ true → T (nonNeg (toZ w32 (ofZ w32 q))) × Fits w64 (natAbs (toZ w32 (ofZ w32 q)))
-index-fits n q h e =
-    let b : toZ w32 (ofZ w32 q) ≡ pos (natAbs q) = place-back n q h e ∙ place-is n q e in
-    let k : natAbs q < n = place-in n q e in
-    let f : natAbs (toZ w32 (ofZ w32 q)) ≡ natAbs q = ap natAbs b in
-    (subst (λ (z : ℤ). T (nonNeg z)) (sym b) tt, record { fits = omega arith })
-
-pub index-in : (n : ℕ) (q : ℤ) → n ≤ 65536 → inPage n q ≡ true → natAbs (toZ w32 (ofZ w32 q)) < n
-index-in n q h e =
-    let f : natAbs (toZ w32 (ofZ w32 q)) ≡ natAbs q = ap natAbs (place-back n q h e) in
-    omega (arith, place-in n q e)
+  -- with one byte left or none no entry follows
+  pub laid-few : length payload - place < 2 → page ≡ applied page₀ (payloadStream n payload)
+  laid-few k = go (ltb place (length payload)) refl
+    where
+      go : (t : Bool) → ltb place (length payload) ≡ t → page ≡ applied page₀ (payloadStream n payload)
+      go true e = laid-broken (cut payload place n p (ltb-true place (length payload) e) k)
+      go false e = laid-all (at-end payload place n p (ltb-false place (length payload) e))

@@ -1,11 +1,12 @@
 -- What the pieces of the reader owe their callers: the step, and the check of a whole payload.
-use Prim.Native.Nat.{ℕ, _-_, _<_, _≤_, min}
+use Prim.Native.Nat.{ℕ, zero, suc, _+_, _-_, _*_, _<_, _≤_, min}
 use mathlib.Core.Path.{_≡_}
-use mathlib.Core.Bool.{Bool, true, false, cond}
+use mathlib.Core.Bool.{Bool, true, false, _||_, cond}
 use mathlib.Core.List.{List}
-use lib.ListN.{length, drop}
+use lib.Dec.{eqb, ltb}
+use lib.ListN.{length, drop, getD}
 use lib.IntN.{ℤ, pos}
-use Rattle.payload.specs.Entries.{Stream, done, unsound, entry, code, inPage, stream, start, payloadStream, sound, breaksAt}
+use Rattle.payload.specs.Entries.{longCode, shortEntry, longEntry, Stream, done, unsound, entry, code, low, value, inPage, stream, start, payloadStream, sound, breaksAt}
 use Rattle.payload.specs.Entries.{entries as entriesOf, last as lastOf}
 use Rattle.payload.specs.declared.Step.{Step}
 use Rattle.payload.specs.declared.Step.the-variants.{End, Broken, Entry}
@@ -37,6 +38,34 @@ Follows n payload place s (Entry q v next) = Entered n payload place s q v next
 abbrev pub landing : Bool → ℤ → ℕ → ℕ → Step
 landing true q v next = Entry q v next
 landing false q v next = Broken
+
+-- the jump of the entry at `place` whose code is the long one: the stream after that code, up to its value; or the farthest jump, if
+-- the entry is cut off or its jump is below 255
+pub record Jumped (payload : List ℕ) (place jump : ℕ) : Type 0 where
+  pub few : jump ≤ farthest
+  pub within : jump < farthest → place + longEntry ≤ length payload
+  pub is : (n : ℕ) (p : ℤ) → jump < farthest → stream n p low (drop (place + 1) payload) ≡ stream n p (value longEntry jump) (drop (place + 3) payload)
+  pub broken : (n : ℕ) (p : ℤ) → farthest ≤ jump → stream n p low (drop (place + 1) payload) ≡ unsound
+
+-- Short entries that the check takes together
+
+abbrev pub together : ℕ
+together = 8
+
+-- whether one of k entries of two bytes each from `place` on starts with the long code, and the sum of their jumps
+unfoldable pub longAmong : List ℕ → ℕ → ℕ → Bool
+longAmong payload place zero = false
+longAmong payload place (suc k) = longAmong payload place k || eqb (getD payload (place + shortEntry * k) 0) longCode
+
+unfoldable pub jumpsOf : List ℕ → ℕ → ℕ → ℕ
+jumpsOf payload place zero = 0
+jumpsOf payload place (suc k) = jumpsOf payload place k + getD payload (place + shortEntry * k) 0
+
+-- the place after the last of them, where the first jumps from `after`; 0 if they are cut off, not all short, or leave a page of n bytes
+unfoldable pub afterTogether : ℕ → List ℕ → ℕ → ℕ → ℕ
+afterTogether n payload place after =
+    let to = after + together + jumpsOf payload place together in
+    cond (ltb (length payload - place) (shortEntry * together)) 0 (cond (longAmong payload place together) 0 (cond (ltb n to) 0 to))
 
 -- The check of a whole payload: the paper's numbers for each case of its answer, 7 where the payload is not sound, and where it breaks
 

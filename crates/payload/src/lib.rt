@@ -3,9 +3,11 @@ pub mod entry;
 
 use layout::Layout;
 ghost use mathlib.Core.Path.{_≡_};
+ghost use Prim.Native.Nat.{_+_, _*_, _≤_};
 ghost use lib.ListN.{length};
 ghost use Rattle.payload.specs.Entries.{longCode, longFrom, shortEntry, longEntry, payloadStream, applied};
-ghost use Rattle.payload.specs.Steps.{farthest, reach, checkedNumbers, checkNumbers};
+ghost use Rattle.payload.specs.Steps.{farthest, reach, together, longAmong, jumpsOf, afterTogether, checkedNumbers, checkNumbers};
+ghost use Rattle.payload.specs.Positions.{before};
 
 // What stands next in a payload: nothing more, an unsound entry, or an entry's place and value, and where the payload goes on after it.
 pub enum Step {
@@ -50,7 +52,71 @@ impl Code {
     {}
 }
 
-// Whether a payload is sound in a page of this size, its number of entries and its last position, or where it breaks.
+// How many short entries the check takes at a go, and the bytes that they take.
+const TOGETHER: usize = 8;
+
+const TOGETHER_WIDTH: usize = TOGETHER * Code::SHORT_WIDTH;
+
+// Whether one of the entries that are taken together would start with a long code. No byte ends the loop, so that all are read at once.
+fn long_among(payload: &[u8], place: usize) -> bool
+    requires { ⌜ place + shortEntry * together ≤ length (now payload) ⌝ }
+    ensures { λ r. ⌜ r ≡ longAmong (now (payload .entry)) place together ⌝ }
+{
+    let mut seen = false;
+    let mut i = 0;
+    while i < TOGETHER {
+        seen = seen | (payload[place + Code::SHORT_WIDTH * i] == Code::LONG);
+        i += 1;
+    }
+    seen
+}
+
+// The sum of their jumps, in a width that the compiler adds up at once.
+fn jumps_of(payload: &[u8], place: usize) -> u16
+    requires { ⌜ place + shortEntry * together ≤ length (now payload) ⌝ }
+    ensures { λ r. ⌜ r ≡ jumpsOf (now (payload .entry)) place together ⌝ }
+{
+    let mut sum: u16 = 0;
+    let mut i = 0;
+    while i < TOGETHER {
+        sum += payload[place + Code::SHORT_WIDTH * i] as u16;
+        i += 1;
+    }
+    sum
+}
+
+// The place after the last of the next short entries together, or 0 where they are cut off, not all short, or leave the page. Positions
+// only grow, so that all are in the page if the last is. The first code is tested by itself: where long codes are many it mostly tells.
+fn after_together(payload: &[u8], place: usize, after: usize, end: usize) -> usize
+    requires { ⌜ (place ≤ length (now payload)) × (after ≤ farthest) ⌝ }
+    ensures { λ r. ⌜ r ≡ afterTogether end (now (payload .entry)) place after ⌝ }
+{
+    if payload.len() - place < TOGETHER_WIDTH {
+        return 0;
+    }
+    if payload[place] == Code::LONG {
+        return 0;
+    }
+    if long_among(payload, place) {
+        return 0;
+    }
+    let to = after + TOGETHER + (jumps_of(payload, place) as usize);
+    if end < to {
+        return 0;
+    }
+    to
+}
+
+// The position before a place: -1 before the first.
+fn position_before(place: usize) -> i32
+    requires { ⌜ place ≤ farthest ⌝ }
+    ensures { λ r. ⌜ r ≡ before place ⌝ }
+{
+    (place as i32) - 1
+}
+
+// Whether a payload is sound in a page of this size, its number of entries and its last position, or where it breaks. Short entries are
+// taken together as long as they can be; the step takes each other one, and finds the first that is unsound.
 pub fn check(payload: &[u8], size: usize) -> Checked
     ensures { λ r. ⌜ checkedNumbers r ≡ checkNumbers (reach size) (now (payload .entry)) ⌝ }
 {
@@ -60,10 +126,19 @@ pub fn check(payload: &[u8], size: usize) -> Checked
     if Layout::ROOM < payload.len() {
         return Checked::Unsound { offset: 0 };
     }
+    let end = span::shorter(size, Code::REACH);
     let mut place = 0;
-    let mut last: i32 = -1;
+    let mut after = 0;
     let mut entries = 0;
     loop {
+        let to = after_together(payload, place, after, end);
+        if to != 0 {
+            after = to;
+            place += TOGETHER_WIDTH;
+            entries += TOGETHER;
+            continue;
+        }
+        let last = position_before(after);
         match entry::step(payload, place, last, size) {
             Step::End => {
                 return Checked::Sound {
@@ -79,7 +154,7 @@ pub fn check(payload: &[u8], size: usize) -> Checked
                 value: _,
                 next,
             } => {
-                last = at;
+                after = (at as usize) + 1;
                 place = next;
                 entries += 1;
             }
@@ -87,31 +162,30 @@ pub fn check(payload: &[u8], size: usize) -> Checked
     }
 }
 
-// Writes each entry's value at its place, up to the payload's end or the first entry that is broken.
+// Writes each entry's value at its place, up to the payload's end or the first entry that is broken. The place after the last position is
+// kept, so that no sum is signed, and one test finds each jump that leaves the page, a broken one among them.
 pub fn overlay(page: &mut [u8], payload: &[u8])
     ensures { λ _. ⌜ now (page .exit)
         ≡ applied (now (page .entry)) (payloadStream (reach (length (now (page .entry)))) (now (payload .entry))) ⌝ }
 {
-    let size = page.len();
+    let end = span::shorter(page.len(), Code::REACH);
     let mut place = 0;
-    let mut position: i32 = -1;
-    loop {
-        match entry::step(payload, place, position, size) {
-            Step::End => {
-                return;
-            }
-            Step::Broken => {
-                return;
-            }
-            Step::Entry {
-                position: at,
-                value,
-                next,
-            } => {
-                page[at as usize] = value;
-                position = at;
-                place = next;
-            }
+    let mut next = 0;
+    while Code::SHORT_WIDTH <= payload.len() - place {
+        let first = payload[place];
+        let mut jump = first as usize;
+        let mut width = Code::SHORT_WIDTH;
+        if first == Code::LONG {
+            jump = entry::long_jump(payload, place);
+            width = Code::LONG_WIDTH;
         }
+        let at = next + jump;
+        if end <= at {
+            return;
+        }
+        let value = payload[place + width - 1];
+        page[at] = value;
+        next = at + 1;
+        place += width;
     }
 }

@@ -1,5 +1,5 @@
 -- What the writer leaves in its room, over plain lists.
-use Prim.Native.Nat.{ℕ, zero, suc, _+_, _-_, _/_, _%_, _≤_, _<_}
+use Prim.Native.Nat.{ℕ, suc, _+_, _-_, _/_, _%_, _≤_, _<_}
 use native.Mathlib.Omega.{arith}
 use native.Mathlib.Decide.{decLt}
 use native.Mathlib.Numerals.{add-one}
@@ -9,10 +9,6 @@ use mathlib.Core.Logic.{_⊎_}
 use mathlib.Core.List.{List, [], _∷_, _++_, append-assoc, append-nil}
 use lib.ListN.{length, take, getD, set, length-append, length-take}
 use lib.Seq.{sets, set-out, take-append-le, take-all, take-nil, length-sets}
-use lib.IntN.{ℤ, pos, subℕ, _-ℤ_}
-use mir.Syntax.{w32}
-use mir.Val.{SFits, toZ}
-use mir.ValLaws.{toZ-pos}
 use borrow.Author.Tests.{lt-ltb, le-ltb}
 use Rattle.span.specs.Bytes.{splice, Put}
 use Rattle.span.specs.Laws.{splice-more, splice-length, splice-none}
@@ -22,15 +18,6 @@ use Rattle.writer.specs.Differences.{Change, spelled, coded, written}
 use Rattle.writer.specs.Steps.{rest, Stored, Numbers, Differs}
 use Rattle.writer.specs.declared.Difference.{Difference}
 use Rattle.writer.proofs.Counting.{rest-ends, rest-more}
-
--- The signed last position
-
-pub before-fits : (n : ℕ) → n ≤ 65536 → SFits w32 (subℕ n 1)
-before-fits zero h = record { sfits = omega arith }
-before-fits (suc k) h = rw (le-ltb (suc k) 1 (omega arith)) (record { sfits = omega arith })
-
-pub before-read : (n : ℕ) → n ≤ 65536 → toZ w32 n -ℤ pos 1 ≡ subℕ n 1
-before-read n h = ap (λ (z : ℤ). z -ℤ pos 1) (toZ-pos w32 n (omega arith))
 
 -- One entry
 

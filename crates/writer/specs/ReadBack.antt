@@ -1,5 +1,5 @@
 -- Applying the writer's stream to the base gives the page, with the writer's own numbers, in pages up to 65,536 bytes.
-use Prim.Native.Nat.{ℕ, zero, suc, _+_, _-_, _≤_}
+use Prim.Native.Nat.{ℕ, suc, _+_, _-_, _≤_}
 use native.Mathlib.Omega.{arith}
 use mathlib.Core.Path.{_≡_, refl, sym, ap, _∙_}
 use mathlib.Core.Bool.{Bool, true, false}
@@ -8,7 +8,7 @@ use lib.Dec.{eqb}
 use lib.ListN.{length, set, length-append}
 use lib.Seq.{set-at}
 use lib.IntN.{ℤ, pos, _+ℤ_}
-use borrow.Author.Tests.{eqb-true, le-ltb, lt-ltb}
+use borrow.Author.Tests.{eqb-true, lt-ltb}
 use Rattle.layout.specs.Sizes.{room}
 use Rattle.payload.specs.Entries.{Stream, done, entry, code, inPage, stream, start, payloadStream, whole, sound, entries, last, put}
 use Rattle.payload.specs.Entries.{applied}
@@ -18,21 +18,8 @@ use Rattle.payload.specs.EntryLaws.{parts-sound}
 use Rattle.payload.specs.Spelling.{Form, takes, bytes}
 use Rattle.payload.specs.SpellingLaws.{wide, wide-is, entry-in}
 use Rattle.writer.specs.Writer.{Rising, Below, diffs-rising, diffs-below, formOf, form-takes, spelled-bytes}
-
 -- the position before the next place, and where a jump from there leads
-pub before-next : (at : ℕ) → before (at + 1) ≡ pos at
-before-next at =
-    let e : at + 1 - 1 ≡ at = omega arith in
-    rw (le-ltb (at + 1) 1 (omega arith)) (ap pos e)
-
-pub moved : (next j : ℕ) → before next +ℤ pos (j + 1) ≡ pos (next + j)
-moved zero j =
-    let e : j + 1 - 1 ≡ 0 + j = omega arith in
-    rw (le-ltb (j + 1) 1 (omega arith)) (ap pos e)
-moved (suc k) j =
-    let q : suc k ≡ k + 1 = omega arith in
-    let e : k + (j + 1) ≡ suc k + j = omega arith in
-    ap (λ (z : ℤ). z +ℤ pos (j + 1)) (ap before q ∙ before-next k) ∙ ap pos e
+pub use Rattle.payload.specs.Positions.{before-next, moved}
 
 -- what the stream of these changes reads as
 abbrev pub entered : ℕ → List Change → Stream

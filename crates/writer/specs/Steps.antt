@@ -3,7 +3,6 @@ use Prim.Native.Nat.{ℕ, _+_, _-_, _*_, _≤_}
 use mathlib.Core.Path.{_≡_}
 use mathlib.Core.List.{List, _++_}
 use lib.ListN.{length, drop, take, length as lengthOf}
-use lib.IntN.{ℤ, subℕ}
 use Rattle.span.specs.Bytes.{part, splice}
 use Rattle.writer.specs.Differences.{Change, diffs, spelled, coded, written, lastPlace}
 use Rattle.payload.specs.Entries.{start, shortEntry}
@@ -11,12 +10,10 @@ use Rattle.differ.specs.Differ.{chunk, nextDiff, Same}
 use Rattle.writer.specs.declared.Difference.{Difference}
 use Rattle.writer.specs.declared.Spelled.{Spelled}
 use Rattle.payload.specs.Steps.{farthest}
-
 -- The writer
 
 -- the position before a place: −1 before the first
-abbrev pub before : ℕ → ℤ
-before next = subℕ next 1
+pub use Rattle.payload.specs.Positions.{before}
 
 -- the part of a page that the writer looks at
 abbrev pub near : List ℕ → List ℕ

@@ -3,7 +3,7 @@ use mir.Val.{toZ}
 use mir.Syntax.{w32}
 use lib.IntN.{pos, _-ℤ_}
 use mathlib.Core.Path.{refl, _∙_}
-use Rattle.writer.proofs.Writing.{before-read, before-fits}
+use Rattle.payload.specs.Positions.{before-read, before-fits}
 use borrow.Author.Needs.{needs}
 use Rattle.writer.proofs.found.Statement.{statement}
 use Rattle.writer.proofs.found.Tie as tie
