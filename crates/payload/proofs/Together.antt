@@ -15,15 +15,7 @@ use Rattle.payload.proofs.Reading.{Opened, opened-short, enters}
 use Rattle.payload.proofs.Turns.{Passed, passed-more}
 
 module _ (s : List ℕ) (at : ℕ) where
-  -- one entry more
-  pub long-next : (k : ℕ) → longAmong s at (k + 1) ≡ (longAmong s at k || eqb (getD s (at + 2 * k) 0) 255)
-  unfolding longAmong
-  long-next k = rw (add-one k)
-
-  pub jumps-next : (k : ℕ) → jumpsOf s at (k + 1) ≡ jumpsOf s at k + getD s (at + 2 * k) 0
-  unfolding jumpsOf
-  jumps-next k = rw (add-one k)
-
+  -- none, and one entry more
   pub long-none : longAmong s at 0 ≡ false
   unfolding longAmong
   long-none = refl
@@ -32,11 +24,21 @@ module _ (s : List ℕ) (at : ℕ) where
   unfolding jumpsOf
   jumps-none = refl
 
+  pub long-next : (k : ℕ) → longAmong s at (k + 1) ≡ (longAmong s at k || eqb (getD s (at + 2 * k) 0) 255)
+  unfolding longAmong
+  long-next k = rw (add-one k)
+
+  pub jumps-next : (k : ℕ) → jumpsOf s at (k + 1) ≡ jumpsOf s at k + getD s (at + 2 * k) 0
+  unfolding jumpsOf
+  jumps-next k = rw (add-one k)
+
+  -- jumps are bytes, so that the sum of few fits
   pub jumps-few : ((i : ℕ) → getD s i 0 < 256) → (k : ℕ) → jumpsOf s at k ≤ 255 * k
   unfolding jumpsOf
   jumps-few b zero = omega arith
   jumps-few b (suc k) = omega (arith, jumps-few b k, b (at + 2 * k))
 
+  -- a long code at the first place is among them
   pub long-first : getD s at 0 ≡ 255 → (k : ℕ) → longAmong s at (suc k) ≡ true
   unfolding longAmong
   long-first e zero =
@@ -44,11 +46,11 @@ module _ (s : List ℕ) (at : ℕ) where
       eq-eqb (getD s (at + 2 * 0) 0) 255 (ap (λ (i : ℕ). getD s i 0) f ∙ e)
   long-first e (suc k) = ap (λ (t : Bool). t || eqb (getD s (at + 2 * suc k) 0) 255) (long-first e k)
 
--- the place after the last of eight
 either : (t : Bool) (x : ℕ) → cond t x x ≡ x
 either true x = refl
 either false x = refl
 
+-- The place after the last of eight, test by test
 module _ (n : ℕ) (s : List ℕ) (place after : ℕ) where
   abbrev all : ℕ
   all = after + 8 + jumpsOf s place 8
@@ -69,7 +71,6 @@ module _ (n : ℕ) (s : List ℕ) (place after : ℕ) where
   unfolding afterTogether
   together-in h e k = rw (le-ltb (length s - place) 16 h, e, le-ltb n all k)
 
--- neither of two of which none is
 neither : (a b : Bool) → (a || b) ≡ false → (a ≡ false) × (b ≡ false)
 neither true b e = absurd (true≢false e)
 neither false b e = (refl, e)
@@ -98,17 +99,17 @@ module _ (n : ℕ) (s : List ℕ) (place after count : ℕ) (h : Passed n s plac
   pub passed-together : place ≤ length s → (to : ℕ) → to ≡ afterTogether n s place after → (to ≡ 0 → ⊥)
       → (to ≤ n) × Passed n s (place + 16) (before to) (count + 8)
   unfolding afterTogether
-  passed-together w to e d = go (ltb (length s - place) 16) (longAmong s place 8) (ltb n (all n s place after)) refl refl refl e
+  passed-together w to e d = go (ltb (length s - place) 16) (longAmong s place 8) (ltb n last) refl refl refl e
     where
-      to′ : ℕ
-      to′ = all n s place after
+      last : ℕ
+      last = all n s place after
 
-      go : (x y z : Bool) → ltb (length s - place) 16 ≡ x → longAmong s place 8 ≡ y → ltb n to′ ≡ z → to ≡ cond x 0 (cond y 0 (cond z 0 to′))
+      go : (x y z : Bool) → ltb (length s - place) 16 ≡ x → longAmong s place 8 ≡ y → ltb n last ≡ z → to ≡ cond x 0 (cond y 0 (cond z 0 last))
           → (to ≤ n) × Passed n s (place + 16) (before to) (count + 8)
       go true y z p q r f = absurd (d f)
       go false true z p q r f = absurd (d f)
       go false false true p q r f = absurd (d f)
       go false false false p q r f =
-          let b : to′ ≤ n = ltb-false n to′ r in
+          let b : last ≤ n = ltb-false n last r in
           let k : 16 ≤ length s - place = ltb-false (length s - place) 16 p in
           (omega arith, rw f (passed-short 8 (omega arith) q b))
