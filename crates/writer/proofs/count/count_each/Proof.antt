@@ -8,8 +8,8 @@ use Rattle.writer.specs.Steps.{Reached}
 use Rattle.writer.specs.declared.Spelled.{Spelled}
 use Rattle.writer.proofs.Counting.{at-on}
 use Rattle.writer.proofs.Spelling.{reached-next, reached-end}
-use Rattle.writer.proofs.count_each.Statement.{statement}
-use Rattle.writer.proofs.count_each.Tie as tie
+use Rattle.writer.proofs.count.count_each.Statement.{statement}
+use Rattle.writer.proofs.count.count_each.Tie as tie
 
 abbrev Inv-loop : tie.InvT-loop
 Inv-loop base page from s₀ past₀ s past = Reached base page past s

@@ -9,8 +9,8 @@ use Rattle.writer.proofs.Spelling.{spells-none, reached-one, spells-one
 use Rattle.writer.specs.Steps.{Reached, Spells}
 use Rattle.writer.specs.Words.{wordBytes, unlike}
 use Rattle.writer.specs.WordLaws.{Bytes}
-use Rattle.writer.proofs.spell_word.Statement.{statement}
-use Rattle.writer.proofs.spell_word.Tie as tie
+use Rattle.writer.proofs.spell.spell_word.Statement.{statement}
+use Rattle.writer.proofs.spell.spell_word.Tie as tie
 
 abbrev Inv-loop : tie.InvT-loop
 Inv-loop base page at room₀ used₀ entries₀ next₀ from₀ left₀ room used entries next from left =

@@ -3,8 +3,8 @@ use native.Mathlib.Omega.{arith}
 use mathlib.Core.List.{List}
 use Rattle.writer.specs.WordLaws.{Bytes, below, or-joined}
 use borrow.Author.Needs.{needs}
-use Rattle.writer.proofs.four.Statement.{statement}
-use Rattle.writer.proofs.four.Tie as tie
+use Rattle.writer.proofs.words.four.Statement.{statement}
+use Rattle.writer.proofs.words.four.Tie as tie
 
 two-requires : tie.Need-two-requires
 two-requires c κs = search needs

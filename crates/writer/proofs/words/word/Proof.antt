@@ -3,8 +3,8 @@ use native.Mathlib.Omega.{arith}
 use mathlib.Core.List.{List}
 use Rattle.writer.specs.WordLaws.{Bytes, below, or-joined}
 use borrow.Author.Needs.{needs}
-use Rattle.writer.proofs.word.Statement.{statement}
-use Rattle.writer.proofs.word.Tie as tie
+use Rattle.writer.proofs.words.word.Statement.{statement}
+use Rattle.writer.proofs.words.word.Tie as tie
 
 four-requires : tie.Need-four-requires
 four-requires c κs = search needs

@@ -4,8 +4,8 @@ use mathlib.Core.Path.{_∙_}
 use mathlib.Core.List.{List}
 use Rattle.writer.specs.WordLaws.{Bytes, one, or-joined}
 use borrow.Author.Needs.{needs}
-use Rattle.writer.proofs.two.Statement.{statement}
-use Rattle.writer.proofs.two.Tie as tie
+use Rattle.writer.proofs.words.two.Statement.{statement}
+use Rattle.writer.proofs.words.two.Tie as tie
 
 shared-slice-read-wide : tie.Need-shared-slice-read-wide
 shared-slice-read-wide c = search needs

@@ -7,8 +7,8 @@ use Rattle.differ.specs.DifferLaws.{chunk-after}
 use Rattle.writer.specs.Steps.{Reached}
 use Rattle.writer.proofs.Spelling.{Chunk, chunk-reached}
 use Rattle.writer.proofs.Chunks.{Marked, marked, marked-few, unlike-at, after}
-use Rattle.writer.proofs.count_rest.Statement.{statement}
-use Rattle.writer.proofs.count_rest.Tie as tie
+use Rattle.writer.proofs.count.count_rest.Statement.{statement}
+use Rattle.writer.proofs.count.count_rest.Tie as tie
 
 abbrev Inv-loop : tie.InvT-loop
 Inv-loop base page from end mark₀ first used₀ entries₀ mark used entries = Marked base page mark used entries

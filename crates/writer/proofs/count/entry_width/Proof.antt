@@ -2,8 +2,8 @@ use mathlib.Core.Path.{sym}
 use native.Mathlib.Omega.{arith}
 use Rattle.writer.proofs.Counting.{width-short, width-long}
 use borrow.Author.Needs.{needs}
-use Rattle.writer.proofs.entry_width.Statement.{statement}
-use Rattle.writer.proofs.entry_width.Tie as tie
+use Rattle.writer.proofs.count.entry_width.Statement.{statement}
+use Rattle.writer.proofs.count.entry_width.Tie as tie
 
 cast-if1 : tie.Need-cast-if1
 cast-if1 c = search needs

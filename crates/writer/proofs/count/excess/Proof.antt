@@ -4,8 +4,8 @@ use mathlib.Core.Path.{ap, _∙_}
 use Rattle.writer.specs.Steps.{widthOf}
 use Rattle.writer.proofs.Counting.{at-on, width-least}
 use borrow.Author.Needs.{needs}
-use Rattle.writer.proofs.excess.Statement.{statement}
-use Rattle.writer.proofs.excess.Tie as tie
+use Rattle.writer.proofs.count.excess.Statement.{statement}
+use Rattle.writer.proofs.count.excess.Tie as tie
 
 next-diff-requires : tie.Need-next-diff-requires
 next-diff-requires c κs = search needs

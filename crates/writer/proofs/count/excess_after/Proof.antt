@@ -5,8 +5,8 @@ use Rattle.differ.specs.DifferLaws.{after-last, chunk-after}
 use Rattle.writer.specs.Steps.{excessOf}
 use Rattle.writer.proofs.Chunks.{excess-none}
 use borrow.Author.Needs.{needs}
-use Rattle.writer.proofs.excess_after.Statement.{statement}
-use Rattle.writer.proofs.excess_after.Tie as tie
+use Rattle.writer.proofs.count.excess_after.Statement.{statement}
+use Rattle.writer.proofs.count.excess_after.Tie as tie
 
 sub-if1 : tie.Need-sub-if1
 sub-if1 c = search needs

@@ -5,8 +5,8 @@ use Rattle.differ.specs.Differ.{stride}
 use Rattle.writer.specs.Steps.{Reached, Spells}
 use Rattle.writer.specs.Words.{wordBytes}
 use Rattle.writer.proofs.Spelling.{spells-none, spells-then}
-use Rattle.writer.proofs.spell_chunk.Statement.{statement}
-use Rattle.writer.proofs.spell_chunk.Tie as tie
+use Rattle.writer.proofs.spell.spell_chunk.Statement.{statement}
+use Rattle.writer.proofs.spell.spell_chunk.Tie as tie
 
 abbrev Inv-loop : tie.InvT-loop
 Inv-loop base page at room₀ s₀ end from₀ room s from =

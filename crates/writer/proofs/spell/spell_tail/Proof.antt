@@ -3,8 +3,8 @@ use native.Mathlib.Omega.{arith}
 use mathlib.Core.Path.{_≡_, subst}
 use Rattle.writer.specs.Steps.{Reached, Spells}
 use Rattle.writer.proofs.Spelling.{spells-none, spells-then}
-use Rattle.writer.proofs.spell_tail.Statement.{statement}
-use Rattle.writer.proofs.spell_tail.Tie as tie
+use Rattle.writer.proofs.spell.spell_tail.Statement.{statement}
+use Rattle.writer.proofs.spell.spell_tail.Tie as tie
 
 abbrev Inv-loop : tie.InvT-loop
 Inv-loop base page from end room₀ s₀ at₀ room s at = (at ≤ end) × Reached base page at s × Spells base page room₀ s₀ room s

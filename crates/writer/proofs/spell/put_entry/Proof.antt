@@ -1,8 +1,8 @@
 use native.Mathlib.Omega.{arith}
 use Rattle.writer.proofs.Writing.{put-short, put-long}
 use borrow.Author.Needs.{needs}
-use Rattle.writer.proofs.put_entry.Statement.{statement}
-use Rattle.writer.proofs.put_entry.Tie as tie
+use Rattle.writer.proofs.spell.put_entry.Statement.{statement}
+use Rattle.writer.proofs.spell.put_entry.Tie as tie
 
 cast-if1 : tie.Need-cast-if1
 cast-if1 c = search needs
