@@ -31,6 +31,10 @@
  *
  *   cc -I include program.c target/staticlib/libthonxiliko.a -o program
  *
+ * For machines that all have AVX2 and the rest of x86-64-v3 there is another archive of the same
+ * functions (`rust/native x86-64-v3` makes it), target/native/x86-64-v3/libthonxiliko.a. A program
+ * links one of the two.
+ *
  * A call takes less than 10 KiB of stack. thx_compare, thx_apply and the reads of blocks keep room
  * for a page of zeros there; the others, carrying out among them, take less than 1 KiB.
  *

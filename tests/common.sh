@@ -10,6 +10,8 @@
 #                compilers for the target
 #   RUN          a command to put before a program of the target, or nothing
 #   CARGO_TARGET the folder below cargo's target folder where programs are put
+#   PLAIN_CPU, V3_CPU
+#                the emulator's processors for the two archives, if the target is x86-64 and emulated
 #
 # and the variables by which cargo builds for the target and runs the result.
 
@@ -62,6 +64,11 @@ else
     # The emulator may hang where two threads change mappings at once.
     RUST_TEST_THREADS=1
     export QEMU_LD_PREFIX CARGO_BUILD_TARGET RUST_TEST_THREADS
+    # The emulator's own choice of a processor has erms: with it the C library clears and copies longer
+    # memory by one instruction, which is emulated byte by byte, at a thirtieth of the speed.
+    PLAIN_CPU=qemu64
+    V3_CPU=qemu64,+ssse3,+sse4.1,+sse4.2,+popcnt,+lahf-lm
+    V3_CPU=$V3_CPU,+xsave,+avx,+avx2,+bmi1,+bmi2,+f16c,+fma,+movbe,+abm
     setting=CARGO_TARGET_$(echo "$TRIPLE" | tr 'a-z-' 'A-Z_')
     export "${setting}_LINKER=$TARGET_CC" "${setting}_RUNNER=$RUN"
 fi
@@ -110,6 +117,32 @@ missing_for_rust() {
     missing_for_c
 }
 
+# Whether the emulator has x86-64-v3. The loader of the target's C library tells.
+emulates_v3() {
+    QEMU_CPU=$V3_CPU "$RUN" "$QEMU_LD_PREFIX$LOADER" --help 2>/dev/null \
+        | grep -q 'x86-64-v3 (supported'
+}
+
+# What stands between this machine and the archive for x86-64-v3; nothing if it runs here.
+missing_for_v3() {
+    missing_to_run
+    if [ -n "$RUN" ]; then
+        emulates_v3 || echo "an emulator that has x86-64-v3"
+        return
+    fi
+    for flag in avx avx2 bmi1 bmi2 f16c fma movbe 'abm|lzcnt'; do
+        grep '^flags' /proc/cpuinfo 2>/dev/null | grep -qwE "$flag" \
+            || echo "a processor that has x86-64-v3 (no $flag)"
+    done
+}
+
+# Programs of x86-64 run with either archive, where the emulator can.
+if [ "$MACHINE" != "$TARGET" ] && [ "$TARGET" = x86-64 ] && [ -z "${QEMU_CPU:-}" ]; then
+    QEMU_CPU=$PLAIN_CPU
+    [ -n "$(missing_for_v3)" ] || QEMU_CPU=$V3_CPU
+    export QEMU_CPU
+fi
+
 # Settles THX_LIB_DIR, the folder of the archive: as given, or below target/, brought up to date where
 # the kit is there. Gives 1 and sets PROBLEM if there is no archive.
 find_archive() {
@@ -137,6 +170,29 @@ make_archive() {
         PROBLEM="'$*' failed"
         return 1
     fi
+}
+
+# Settles THX_LIB_DIR and, if it was not given and the target is x86-64, V3_LIB_DIR too: the folder of the
+# archive for x86-64-v3. Both are made anew from one module; where the kit is not there, one that stands
+# beside another archive is not taken.
+find_archives() {
+    V3_LIB_DIR=
+    if [ -z "$THX_LIB_DIR" ] && [ "$TARGET" = x86-64 ]; then
+        THX_LIB_DIR=$ROOT/target/staticlib
+        V3_LIB_DIR=$ROOT/target/native/x86-64-v3
+        if have rt && ! "$ROOT/rust/native" x86-64-v3; then
+            PROBLEM="'rust/native x86-64-v3' failed"
+            return 1
+        fi
+    fi
+    find_archive
+}
+
+# What stands between the tests and an archive for x86-64-v3 of the same module.
+missing_of_v3() {
+    beside=$(cat "$V3_LIB_DIR/beside" 2>/dev/null)
+    [ "$beside" = "$(cksum <"$THX_LIB_DIR/libthonxiliko.a")" ] \
+        || echo "both archives of one module ('rust/native x86-64-v3' makes them)"
 }
 
 # The folder of PostgreSQL's server programs, or nothing.
