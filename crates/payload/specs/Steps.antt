@@ -8,6 +8,7 @@ use lib.ListN.{length, drop, getD}
 use lib.IntN.{ℤ, pos}
 use Rattle.payload.specs.Entries.{longCode, shortEntry, longEntry, Stream, done, unsound, entry, code, low, value, inPage, stream, start, payloadStream, sound, breaksAt}
 use Rattle.payload.specs.Entries.{entries as entriesOf, last as lastOf}
+use Rattle.payload.specs.Positions.{before}
 use Rattle.payload.specs.declared.Step.{Step}
 use Rattle.payload.specs.declared.Step.the-variants.{End, Broken, Entry}
 use Rattle.payload.specs.declared.Checked.{Checked}
@@ -46,6 +47,13 @@ pub record Jumped (payload : List ℕ) (place jump : ℕ) : Type 0 where
   pub within : jump < farthest → place + longEntry ≤ length payload
   pub is : (n : ℕ) (p : ℤ) → jump < farthest → stream n p low (drop (place + 1) payload) ≡ stream n p (value longEntry jump) (drop (place + 3) payload)
   pub broken : (n : ℕ) (p : ℤ) → farthest ≤ jump → stream n p low (drop (place + 1) payload) ≡ unsound
+
+-- the entry at `place`, read from before `after`, is sound and takes this many bytes, and `to` is the place after its position
+pub record Passes (n : ℕ) (payload : List ℕ) (place after width to : ℕ) : Type 0 where
+  pub value : ℕ
+  pub some : 1 ≤ to
+  pub in-page : to ≤ n
+  pub entered : Entered n payload place (stream n (before after) code (drop place payload)) (pos (to - 1)) value (place + width)
 
 -- Short entries that the check takes together
 

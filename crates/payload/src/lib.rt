@@ -5,8 +5,9 @@ use layout::Layout;
 ghost use mathlib.Core.Path.{_≡_};
 ghost use Prim.Native.Nat.{_+_, _*_, _≤_};
 ghost use lib.ListN.{length};
+ghost use Rattle.layout.specs.Sizes.{room};
 ghost use Rattle.payload.specs.Entries.{longCode, longFrom, shortEntry, longEntry, payloadStream, applied};
-ghost use Rattle.payload.specs.Steps.{farthest, reach, together, longAmong, jumpsOf, afterTogether, checkedNumbers, checkNumbers};
+ghost use Rattle.payload.specs.Steps.{farthest, reach, together, longAmong, jumpsOf, afterTogether, Passes, checkedNumbers, checkNumbers};
 ghost use Rattle.payload.specs.Positions.{before};
 
 // What stands next in a payload: nothing more, an unsound entry, or an entry's place and value, and where the payload goes on after it.
@@ -115,22 +116,43 @@ fn position_before(place: usize) -> i32
     (place as i32) - 1
 }
 
-// Whether a payload is sound in a page of this size, its number of entries and its last position, or where it breaks. Short entries are
-// taken together as long as they can be; the step takes each other one, and finds the first that is unsound.
-pub fn check(payload: &[u8], size: usize) -> Checked
+// The place after the position of the sound entry at `place` that has a long code, or 0 if there is none: in payloads of many long codes
+// quicker than the step.
+fn after_long(payload: &[u8], place: usize, after: usize, end: usize) -> usize
+    requires { ⌜ (place ≤ length (now payload)) × (after ≤ farthest) × (end ≤ farthest) ⌝ }
+    ensures { λ r. ⌜ ((r ≡ 0 → ⊥) → Passes end (now (payload .entry)) place after longEntry r) ⌝ }
+{
+    if payload.len() - place < Code::LONG_WIDTH {
+        return 0;
+    }
+    if payload[place] != Code::LONG {
+        return 0;
+    }
+    let at = after + entry::long_jump(payload, place);
+    if end <= at {
+        return 0;
+    }
+    at + 1
+}
+
+// The check of a payload that has a right length. Long entries are taken as they come and short ones together, as long as they can be; the
+// step takes each other one, and finds the first that is unsound.
+fn check_entries(payload: &[u8], size: usize) -> Checked
+    requires { ⌜ (1 ≤ length (now payload)) × (length (now payload) ≤ room) ⌝ }
     ensures { λ r. ⌜ checkedNumbers r ≡ checkNumbers (reach size) (now (payload .entry)) ⌝ }
 {
-    if payload.len() == 0 {
-        return Checked::Unsound { offset: 0 };
-    }
-    if Layout::ROOM < payload.len() {
-        return Checked::Unsound { offset: 0 };
-    }
     let end = span::shorter(size, Code::REACH);
     let mut place = 0;
     let mut after = 0;
     let mut entries = 0;
     loop {
+        let far = after_long(payload, place, after, end);
+        if far != 0 {
+            after = far;
+            place += Code::LONG_WIDTH;
+            entries += 1;
+            continue;
+        }
         let to = after_together(payload, place, after, end);
         if to != 0 {
             after = to;
@@ -160,6 +182,19 @@ pub fn check(payload: &[u8], size: usize) -> Checked
             }
         }
     }
+}
+
+// Whether a payload is sound in a page of this size, its number of entries and its last position, or where it breaks.
+pub fn check(payload: &[u8], size: usize) -> Checked
+    ensures { λ r. ⌜ checkedNumbers r ≡ checkNumbers (reach size) (now (payload .entry)) ⌝ }
+{
+    if payload.len() == 0 {
+        return Checked::Unsound { offset: 0 };
+    }
+    if Layout::ROOM < payload.len() {
+        return Checked::Unsound { offset: 0 };
+    }
+    check_entries(payload, size)
 }
 
 // Writes each entry's value at its place, up to the payload's end or the first entry that is broken. The place after the last position is
