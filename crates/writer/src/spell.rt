@@ -3,7 +3,6 @@ use crate::Spelled;
 use crate::words::word;
 use differ::Grid;
 use payload::Code;
-ghost use mathlib.Core.Path.{_≡_};
 ghost use Prim.Native.Nat.{_+_, _*_, _≤_, _<_};
 ghost use lib.ListN.{length as lengthOf};
 ghost use Rattle.span.specs.Bytes.{Put};

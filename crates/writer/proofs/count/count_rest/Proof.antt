@@ -1,11 +1,11 @@
-use Prim.Native.Nat.{ℕ, _+_, _-_, _*_, _≤_}
+use Prim.Native.Nat.{ℕ, _+_, _-_, _*_}
 use native.Mathlib.Omega.{arith}
 use mathlib.Core.Path.{sym, subst, _∙_}
 use borrow.Author.Needs.{needs}
 use Rattle.differ.specs.Differ.{chunk}
 use Rattle.differ.specs.DifferLaws.{chunk-after}
 use Rattle.writer.specs.Steps.{Reached}
-use Rattle.writer.proofs.Spelling.{Chunk, chunk-reached}
+use Rattle.writer.proofs.Spelling.{chunk-reached}
 use Rattle.writer.proofs.Chunks.{Marked, marked, marked-few, unlike-at, after}
 use Rattle.writer.proofs.count.count_rest.Statement.{statement}
 use Rattle.writer.proofs.count.count_rest.Tie as tie

@@ -3,7 +3,6 @@ use native.Mathlib.Omega.{arith}
 use mathlib.Core.Path.{_≡_, refl, ap, _∙_}
 use lib.Bits.{bitXor}
 use lib.Count.{trailingZeros}
-use borrow.Author.Needs.{needs}
 use Rattle.writer.specs.declared.Spelled.{Spelled}
 use Rattle.writer.proofs.Spelling.{spells-none, reached-one, spells-one, word-done, next-place, next-within, next-left}
 use Rattle.writer.specs.Steps.{Reached, Spells}
