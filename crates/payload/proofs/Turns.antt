@@ -4,21 +4,22 @@ use native.Mathlib.Omega.{arith}
 use mathlib.Core.Path.{_≡_, refl, sym, ap, _∙_, subst}
 use mathlib.Core.Bool.{Bool, true, false, _&&_, and-false, false≢true}
 use mathlib.Core.List.{List, [], _∷_}
-use lib.Dec.{leb, ltb, T}
-use lib.ListN.{length, drop, set, length-set}
+use lib.Dec.{leb, ltb, eqb, T}
+use lib.ListN.{length, drop, getD, set, length-set}
 use lib.IntN.{ℤ, pos, negsuc, natAbs}
 use lib.Signed.{nonNeg}
 use mir.Syntax.{w32, w64}
 use mir.Val.{Fits, SFits, toZ, ofZ}
 use mir.ValLaws.{toZ-ofZ}
-use borrow.Author.Tests.{le-leb, lt-leb, ltb-true, ltb-false}
+use borrow.Author.Tests.{le-leb, lt-leb, ltb-true, ltb-false, eqb-true, eqb-false}
 use Rattle.layout.specs.Sizes.{room}
 use Rattle.payload.specs.Entries.{Stream, done, unsound, code, inPage, stream, start, payloadStream, whole, sound}
 use Rattle.payload.specs.Entries.{entries, last, used, breaksAt, put, applied}
 use Rattle.payload.specs.Positions.{before, before-next}
-use Rattle.payload.specs.Steps.{Follows, Entered}
+use Rattle.payload.specs.Steps.{Follows, Entered, Laid, Lays, codeAt, Over}
 use Rattle.payload.specs.StepLaws.{SoundAs, UnsoundAt}
 use Rattle.payload.specs.declared.Step.{Step}
+use Rattle.payload.specs.declared.Reached.{Reached}
 use Rattle.payload.proofs.Reading.{at-end, cut}
 
 -- A step's answer from a position that the code found, once a `match` has told which it is.
@@ -128,35 +129,75 @@ unsound-long n payload h = record {
   at = rw (lt-leb (length payload) room h);
 }
 
--- The overlay: what is known after the entries before `place` are written.
-pub record Laid (n : ℕ) (page₀ payload page : List ℕ) (place : ℕ) (p : ℤ) : Type 0 where
-  pub on : place ≤ length payload
-  pub same : length page ≡ length page₀
-  pub still : applied page₀ (payloadStream n payload) ≡ applied page (stream n p code (drop place payload))
+-- The overlay
 
 pub laid-none : (n : ℕ) (page payload : List ℕ) → Laid n page payload page 0 start
 laid-none n page payload = record { on = omega arith; same = refl; still = refl }
 
-module _ (n : ℕ) (page₀ payload page : List ℕ) (place : ℕ) (p : ℤ) (h : Laid n page₀ payload page place p) where
-  pub laid-more : (at v to : ℕ) → Entered n payload place (stream n p code (drop place payload)) (pos at) v to
-      → Laid n page₀ payload (set page at v) to (before (at + 1))
-  unfolding applied put
-  laid-more at v to m =
-      subst (Laid n page₀ payload (set page at v) to) (sym (before-next at))
-      (record { on = m .within; same = length-set page at v ∙ h .same; still = h .still ∙ ap (λ (s : Stream). applied page s) (m .is) })
+laid-more : (n : ℕ) (page₀ payload page : List ℕ) (place : ℕ) (p : ℤ) → Laid n page₀ payload page place p
+    → (at v to : ℕ) → Entered n payload place (stream n p code (drop place payload)) (pos at) v to → Laid n page₀ payload (set page at v) to (before (at + 1))
+unfolding applied put
+laid-more n page₀ payload page place p h at v to m =
+    subst (Laid n page₀ payload (set page at v) to) (sym (before-next at))
+    (record { on = m .within; same = length-set page at v ∙ h .same; still = h .still ∙ ap (λ (s : Stream). applied page s) (m .is) })
 
-  pub laid-all : stream n p code (drop place payload) ≡ done → page ≡ applied page₀ (payloadStream n payload)
+-- what its loops lay: nothing yet, an entry more, and one after the other
+pub lays-none : (n : ℕ) (payload page : List ℕ) (place next : ℕ) → next ≤ 65536 → Lays n payload page place next page (record { place = place; next = next })
+lays-none n payload page place next h = record { on = omega arith; same = refl; few = h; still = λ e. refl; laid = λ page₀ w. w }
+
+pub lays-more : (n : ℕ) (payload page : List ℕ) (from after : ℕ) (page₁ : List ℕ) (r : Reached) → Lays n payload page from after page₁ r → n ≤ 65536
+    → (at v to place : ℕ) → Entered n payload (r .place - 1) (stream n (before (r .next)) code (drop (r .place - 1) payload)) (pos at) v to
+    → at < n → to ≡ place - 1 → r .place < place → Lays n payload page from after (set page₁ at v) (record { place = place; next = at + 1 })
+lays-more n payload page from after page₁ r h m at v to place e k f g = record {
+  on = omega (arith, h .on);
+  same = length-set page₁ at v ∙ h .same;
+  few = omega arith;
+  still = λ q. absurd (omega (arith, h .on, q));
+  laid = λ page₀ w.
+      subst (λ (x : ℕ). Laid n page₀ payload (set page₁ at v) x (before (at + 1))) f
+      (laid-more n page₀ payload page₁ (r .place - 1) (before (r .next)) (h .laid page₀ w) at v to e);
+}
+
+pub lays-then : (n : ℕ) (payload page : List ℕ) (place next : ℕ) (page₁ : List ℕ) (s : Reached) (page₂ : List ℕ) (r : Reached)
+    → Lays n payload page place next page₁ s → Lays n payload page₁ (s .place) (s .next) page₂ r → Lays n payload page place next page₂ r
+lays-then n payload page place next page₁ s page₂ r f g = record {
+  on = omega (arith, f .on, g .on);
+  same = g .same ∙ f .same;
+  few = g .few;
+  still = λ e. g .still (omega (arith, f .on, g .on, e)) ∙ f .still (omega (arith, f .on, g .on, e));
+  laid = λ page₀ w. g .laid page₀ (f .laid page₀ w);
+}
+
+-- where the stream lays nothing more: at an unsound entry, and with one byte left or none
+module _ (n : ℕ) (payload : List ℕ) (r : Reached) where
+  pub over-broken : stream n (before (r .next)) code (drop (r .place - 1) payload) ≡ unsound → Over n payload r
   unfolding applied
-  laid-all e = sym (h .still ∙ ap (λ (s : Stream). applied page s) e)
+  over-broken e page = ap (λ (s : Stream). applied page s) e
 
-  pub laid-broken : stream n p code (drop place payload) ≡ unsound → page ≡ applied page₀ (payloadStream n payload)
+  over-done : stream n (before (r .next)) code (drop (r .place - 1) payload) ≡ done → Over n payload r
   unfolding applied
-  laid-broken e = sym (h .still ∙ ap (λ (s : Stream). applied page s) e)
+  over-done e page = ap (λ (s : Stream). applied page s) e
 
-  -- with one byte left or none no entry follows
-  pub laid-few : length payload - place < 2 → page ≡ applied page₀ (payloadStream n payload)
-  laid-few k = go (ltb place (length payload)) refl
+  pub over-few : length payload ≤ r .place → Over n payload r
+  over-few h = go (ltb (r .place - 1) (length payload)) refl
     where
-      go : (t : Bool) → ltb place (length payload) ≡ t → page ≡ applied page₀ (payloadStream n payload)
-      go true e = laid-broken (cut payload place n p (ltb-true place (length payload) e) k)
-      go false e = laid-all (at-end payload place n p (ltb-false place (length payload) e))
+      go : (t : Bool) → ltb (r .place - 1) (length payload) ≡ t → Over n payload r
+      go true e = over-broken (cut payload (r .place - 1) n (before (r .next)) (ltb-true (r .place - 1) (length payload) e) (omega arith))
+      go false e = over-done (at-end payload (r .place - 1) n (before (r .next)) (ltb-false (r .place - 1) (length payload) e))
+
+-- neither loop moved
+pub over-both : (n : ℕ) (payload : List ℕ) (s r : Reached) → r .place ≡ s .place → r .next ≡ s .next
+    → ((codeAt payload s ≡ 255 → ⊥) → Over n payload s) → (codeAt payload r ≡ 255 → Over n payload r) → Over n payload r
+over-both n payload s r e f g h = go (eqb (codeAt payload r) 255) refl
+  where
+    go : (t : Bool) → eqb (codeAt payload r) 255 ≡ t → Over n payload r
+    go true q = h (eqb-true (codeAt payload r) 255 q)
+    go false q = λ page.
+        ap (λ (x : ℕ). applied page (stream n (before x) code (drop (r .place - 1) payload))) f
+        ∙ ap (λ (x : ℕ). applied page (stream n (before (s .next)) code (drop (x - 1) payload))) e
+        ∙ g (λ z. eqb-false (codeAt payload r) 255 q (ap (λ (x : ℕ). getD payload (x - 1) 0) e ∙ z)) page
+
+-- what the overlay has made of the page there
+pub laid-over : (n : ℕ) (page₀ payload page : List ℕ) (r : Reached) → Laid n page₀ payload page (r .place - 1) (before (r .next)) → Over n payload r
+    → page ≡ applied page₀ (payloadStream n payload)
+laid-over n page₀ payload page r h o = sym (h .still ∙ o page)

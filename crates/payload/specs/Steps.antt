@@ -1,4 +1,4 @@
--- What the pieces of the reader owe their callers: the step, and the check of a whole payload.
+-- What the pieces of the reader owe their callers: the step, the check of a whole payload, and the overlay.
 use Prim.Native.Nat.{ℕ, zero, suc, _+_, _-_, _*_, _<_, _≤_, min}
 use mathlib.Core.Path.{_≡_}
 use mathlib.Core.Bool.{Bool, true, false, _||_, cond}
@@ -7,12 +7,13 @@ use lib.Dec.{eqb, ltb}
 use lib.ListN.{length, drop, getD}
 use lib.IntN.{ℤ, pos}
 use Rattle.payload.specs.Entries.{longCode, shortEntry, longEntry, Stream, done, unsound, entry, code, low, value, inPage, stream, start, payloadStream, sound, breaksAt}
-use Rattle.payload.specs.Entries.{entries as entriesOf, last as lastOf}
+use Rattle.payload.specs.Entries.{applied, entries as entriesOf, last as lastOf}
 use Rattle.payload.specs.Positions.{before}
 use Rattle.payload.specs.declared.Step.{Step}
 use Rattle.payload.specs.declared.Step.the-variants.{End, Broken, Entry}
 use Rattle.payload.specs.declared.Checked.{Checked}
 use Rattle.payload.specs.declared.Checked.the-variants.{Unsound, Sound}
+use Rattle.payload.specs.declared.Reached.{Reached}
 
 -- the most bytes of a page that 16-bit jumps are made for: the pieces look no further
 abbrev pub farthest : ℕ
@@ -92,3 +93,28 @@ checkNumbers n payload =
     cond (sound n payload)
     (record { number = 0; entries = entriesOf (payloadStream n payload); last = lastOf start (payloadStream n payload); offset = 0 })
     (record { number = 7; entries = 0; last = pos 0; offset = breaksAt n payload })
+
+-- The overlay
+
+-- what is known after the entries before `place` are laid over a page
+pub record Laid (n : ℕ) (page₀ payload page : List ℕ) (place : ℕ) (p : ℤ) : Type 0 where
+  pub on : place ≤ length payload
+  pub same : length page ≡ length page₀
+  pub still : applied page₀ (payloadStream n payload) ≡ applied page (stream n p code (drop place payload))
+
+-- what was laid before the entries from `place` up to r is laid after them, whatever the page was at first; `place` and r's place are those of
+-- an entry's second byte
+pub record Lays (n : ℕ) (payload page : List ℕ) (place next : ℕ) (after : List ℕ) (r : Reached) : Type 0 where
+  pub on : place ≤ r .place
+  pub same : length after ≡ length page
+  pub few : r .next ≤ farthest
+  pub still : r .place ≡ place → r .next ≡ next
+  pub laid : (page₀ : List ℕ) → Laid n page₀ payload page (place - 1) (before next) → Laid n page₀ payload after (r .place - 1) (before (r .next))
+
+-- the first byte of the entry that comes next
+abbrev pub codeAt : List ℕ → Reached → ℕ
+codeAt payload r = getD payload (r .place - 1) 0
+
+-- from there on the stream lays nothing more
+abbrev pub Over : ℕ → List ℕ → Reached → Type 0
+Over n payload r = (page : List ℕ) → applied page (stream n (before (r .next)) code (drop (r .place - 1) payload)) ≡ page

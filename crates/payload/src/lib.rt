@@ -7,7 +7,7 @@ ghost use Prim.Native.Nat.{_+_, _*_, _≤_};
 ghost use lib.ListN.{length};
 ghost use Rattle.layout.specs.Sizes.{room};
 ghost use Rattle.payload.specs.Entries.{longCode, longFrom, shortEntry, longEntry, payloadStream, applied};
-ghost use Rattle.payload.specs.Steps.{farthest, reach, together, longAmong, jumpsOf, afterTogether, Passes, checkedNumbers, checkNumbers};
+ghost use Rattle.payload.specs.Steps.{farthest, reach, Lays, codeAt, Over, together, longAmong, jumpsOf, afterTogether, Passes, checkedNumbers, checkNumbers};
 ghost use Rattle.payload.specs.Positions.{before};
 
 // What stands next in a payload: nothing more, an unsound entry, or an entry's place and value, and where the payload goes on after it.
@@ -197,6 +197,66 @@ pub fn check(payload: &[u8], size: usize) -> Checked
     check_entries(payload, size)
 }
 
+// How far a payload is laid over a page: the place of the next entry's second byte, so that one test finds an entry cut off, and the place
+// after the last position.
+struct Reached {
+    place: usize,
+    next: usize,
+}
+
+// Lays the short entries that come next. In a loop of their own no entry waits for the width of the one before.
+fn lay_shorts(page: &mut [u8], payload: &[u8], from: usize, after: usize, end: usize) -> Reached
+    requires { ⌜ (1 ≤ from) × (after ≤ farthest) × (end ≡ reach (length (now page))) ⌝ }
+    ensures { λ r. ⌜ Lays end (now (payload .entry)) (now (page .entry)) from after (now (page .exit)) r
+        × ((codeAt (now (payload .entry)) r ≡ longCode → ⊥) → Over end (now (payload .entry)) r) ⌝ }
+{
+    let mut place = from;
+    let mut next = after;
+    while place < payload.len() {
+        let first = payload[place - 1];
+        if first == Code::LONG {
+            break;
+        }
+        let at = next + (first as usize);
+        if end <= at {
+            break;
+        }
+        page[at] = payload[place];
+        next = at + 1;
+        place += Code::SHORT_WIDTH;
+    }
+    Reached {
+        place: place,
+        next: next,
+    }
+}
+
+// Lays the long entries that come next.
+fn lay_longs(page: &mut [u8], payload: &[u8], from: usize, after: usize, end: usize) -> Reached
+    requires { ⌜ (1 ≤ from) × (after ≤ farthest) × (end ≡ reach (length (now page))) ⌝ }
+    ensures { λ r. ⌜ Lays end (now (payload .entry)) (now (page .entry)) from after (now (page .exit)) r
+        × (codeAt (now (payload .entry)) r ≡ longCode → Over end (now (payload .entry)) r) ⌝ }
+{
+    let mut place = from;
+    let mut next = after;
+    while place < payload.len() {
+        if payload[place - 1] != Code::LONG {
+            break;
+        }
+        let at = next + entry::long_jump(payload, place - 1);
+        if end <= at {
+            break;
+        }
+        page[at] = payload[place + 2];
+        next = at + 1;
+        place += Code::LONG_WIDTH;
+    }
+    Reached {
+        place: place,
+        next: next,
+    }
+}
+
 // Writes each entry's value at its place, up to the payload's end or the first entry that is broken. The place after the last position is
 // kept, so that no sum is signed, and one test finds each jump that leaves the page, a broken one among them.
 pub fn overlay(page: &mut [u8], payload: &[u8])
@@ -204,23 +264,15 @@ pub fn overlay(page: &mut [u8], payload: &[u8])
         ≡ applied (now (page .entry)) (payloadStream (reach (length (now (page .entry)))) (now (payload .entry))) ⌝ }
 {
     let end = span::shorter(page.len(), Code::REACH);
-    let mut place = 0;
+    let mut place = 1;
     let mut next = 0;
-    while Code::SHORT_WIDTH <= payload.len() - place {
-        let first = payload[place];
-        let mut jump = first as usize;
-        let mut width = Code::SHORT_WIDTH;
-        if first == Code::LONG {
-            jump = entry::long_jump(payload, place);
-            width = Code::LONG_WIDTH;
-        }
-        let at = next + jump;
-        if end <= at {
+    loop {
+        let short = lay_shorts(page, payload, place, next, end);
+        let long = lay_longs(page, payload, short.place, short.next, end);
+        if long.place == place {
             return;
         }
-        let value = payload[place + width - 1];
-        page[at] = value;
-        next = at + 1;
-        place += width;
+        place = long.place;
+        next = long.next;
     }
 }

@@ -1,23 +1,21 @@
 use Prim.Native.Nat.{ℕ, _+_, _-_, _≤_}
-use mathlib.Core.Path.{_≡_}
-use mathlib.Core.Logic.{⊎-elim}
-use mathlib.Core.List.{List}
+use mathlib.Core.Path.{_≡_, _∙_, subst}
 use native.Mathlib.Omega.{arith}
-use lib.ListN.{length, getD}
+use lib.ListN.{length}
+use Rattle.payload.specs.Entries.{payloadStream, applied}
 use Rattle.payload.specs.Positions.{before}
-use Rattle.payload.specs.Steps.{reach}
-use Rattle.payload.proofs.Reading.{Opened, opened-short, opened-long, enters, leaves}
-use Rattle.payload.proofs.Turns.{Laid, laid-none, laid-more, laid-broken, laid-few}
+use Rattle.payload.specs.Steps.{reach, Laid, Lays}
+use Rattle.payload.proofs.Turns.{laid-none, lays-then, laid-over, over-both}
 use borrow.Author.Needs.{needs}
 use Rattle.payload.proofs.overlay.Statement.{statement}
 use Rattle.payload.proofs.overlay.Tie as tie
 
 abbrev Inv-loop : tie.InvT-loop
 Inv-loop page₀ payload end place₀ next₀ page place next =
-    (end ≡ reach (length page₀)) × (next ≤ 65536) × Laid (reach (length page₀)) page₀ payload page place (before next)
+    (1 ≤ place) × (next ≤ 65536) × (end ≡ reach (length page₀)) × Laid end page₀ payload page (place - 1) (before next)
 
 abbrev μ-loop : tie.MeasureT-loop
-μ-loop page₀ payload end place₀ next₀ page place next = length payload - place
+μ-loop page₀ payload end place₀ next₀ page place next = length payload + 1 - place
 
 shorter-requires : tie.Need-shorter-requires Inv-loop μ-loop
 shorter-requires c κs = search needs
@@ -25,107 +23,56 @@ shorter-requires c κs = search needs
 loop-holds : tie.Need-loop-holds Inv-loop μ-loop
 loop-holds c =
     let a = c .before .before .before .args in
-    (c .shorter .ensures, omega arith, laid-none (reach (length (a .page .now))) (a .page .now) (a .payload .now))
+    (omega arith, omega arith, c .shorter .ensures, laid-none (c .shorter .result) (a .page .now) (a .payload .now))
 
-sub-loop : tie.Need-sub-loop Inv-loop μ-loop
-sub-loop c = search needs
+lay-shorts-requires : tie.Need-lay-shorts-requires Inv-loop μ-loop
+lay-shorts-requires c κs =
+    let l = c .before .loop in
+    (l .inv .0, l .inv .1, omega (arith, l .inv .2, l .inv .3 .same))
 
-shared-slice-read-first : tie.Need-shared-slice-read-first Inv-loop μ-loop
-shared-slice-read-first c = search needs
+lay-longs-requires : tie.Need-lay-longs-requires Inv-loop μ-loop
+lay-longs-requires c κs =
+    let l = c .before .before .before .before .before .loop in
+    let short = c .before .before .before .lay-shorts in
+    (omega (arith, l .inv .0, short .ensures .0 .on), short .ensures .0 .few, omega (arith, l .inv .2, l .inv .3 .same, short .ensures .0 .same))
 
-cast-jump : tie.Need-cast-jump Inv-loop μ-loop
-cast-jump c = omega (arith, c .shared-slice-known2 .given (c .before .before .loop .place))
-
-long-jump-requires : tie.Need-long-jump-requires Inv-loop μ-loop
-long-jump-requires c κs = search needs
-
--- the entry at `place`, by either code
-opened : (c : tie.Joined1 Inv-loop μ-loop)
-    → let a = c .before .before .before .before .before .before .before .args in
-    let l = c .before .before .before .loop in
-    Opened (a .payload .now) (l .place) (c .if1 .jump) (c .if1 .width)
-opened c =
-    let a = c .before .before .before .before .before .before .before .args in
-    let l = c .before .before .before .loop in
-    let s : List ℕ = a .payload .now in
-    let known = c .before .shared-slice-known2 .given (l .place) in
-    ⊎-elim
-    (λ w. rw (w .2, w .3) (opened-long s (l .place) (w .1 .result) (omega arith) (w .0 .taken) (w .1 .ensures)))
-    (λ w. rw (w .1, w .2) (opened-short s (l .place) (omega arith) (omega (arith, known)) (w .0 .left)))
-    (c .if1 .came)
-
-add-at : tie.Need-add-at Inv-loop μ-loop
-add-at c = omega (arith, opened (c .before) .few)
+-- both together
+both : (c : tie.After-lay-longs Inv-loop μ-loop)
+    → let a = c .before .before .before .before .before .before .before .before .before .before .args in
+    let l = c .before .before .before .before .before .before .loop in
+    Lays (c .before .before .before .before .before .before .before .shorter .result) (a .payload .now) (l .page) (l .place) (l .next) (c .lay-longs .last .0) (c .lay-longs .result)
+both c =
+    let a = c .before .before .before .before .before .before .before .before .before .before .args in
+    let l = c .before .before .before .before .before .before .loop in
+    let short = c .before .before .before .before .lay-shorts in
+    lays-then (c .before .before .before .before .before .before .before .shorter .result) (a .payload .now) (l .page) (l .place) (l .next) (short .last .0) (short .result) (c .lay-longs .last .0)
+    (c .lay-longs .result) (short .ensures .0) (c .lay-longs .ensures .0)
 
 same-length : tie.Need-same-length Inv-loop μ-loop
-same-length c = search needs
+same-length c = both (c .before .before .before .before) .same ∙ c .before .before .before .before .before .before .before .before .before .before .loop .inv .3 .same
 
 returns : tie.Need-returns Inv-loop μ-loop
 returns c =
-    let a = c .before .before .before .before .before .before .before .before .before .args in
-    let l = c .before .before .before .before .before .loop in
-    let n : ℕ = reach (length (a .page .now)) in
-    let j = c .before .before .if1 .jump in
-    let w = c .before .before .if1 .width in
-    let o : Opened (a .payload .now) (l .place) j w = opened (c .before .before) in
-    laid-broken n (a .page .now) (a .payload .now) (l .page) (l .place) (before (l .next)) (l .inv .2)
-    (leaves (a .payload .now) (l .place) j w (l .place + w - 1) o (omega (arith, o .some)) n (l .next) (omega arith))
-
-add-value : tie.Need-add-value Inv-loop μ-loop
-add-value c =
-    let o = opened (c .before .before .before) in
-    omega (arith, o .within (omega arith))
-
-sub-value : tie.Need-sub-value Inv-loop μ-loop
-sub-value c =
-    let o = opened (c .before .before .before) in
-    omega (arith, o .some)
-
-shared-slice-read-value : tie.Need-shared-slice-read-value Inv-loop μ-loop
-shared-slice-read-value c =
-    let o = opened (c .before .before .before .before) in
-    omega (arith, o .some, o .within (omega arith))
-
-slice-write-page : tie.Need-slice-write-page Inv-loop μ-loop
-slice-write-page c = search needs
-
-add-next : tie.Need-add-next Inv-loop μ-loop
-add-next c = search needs
-
-add-place : tie.Need-add-place Inv-loop μ-loop
-add-place c =
-    let o = opened (c .before .before .before .before) in
-    omega (arith, o .some, o .within (omega arith))
+    let a = c .before .before .before .before .before .before .before .before .before .before .before .before .before .before .args in
+    let l = c .before .before .before .before .before .before .before .before .before .before .loop in
+    let short = c .before .before .before .before .before .before .before .before .lay-shorts in
+    let long = c .before .before .before .before .lay-longs in
+    let n : ℕ = c .before .before .before .before .before .before .before .before .before .before .before .shorter .result in
+    let e : long .result .place ≡ short .result .place = omega (arith, c .if1 .taken, short .ensures .0 .on, long .ensures .0 .on) in
+    subst (λ (x : ℕ). long .last .0 ≡ applied (a .page .now) (payloadStream x (a .payload .now))) (l .inv .2)
+    (laid-over n (a .page .now) (a .payload .now) (long .last .0) (long .result) (both (c .before .before .before .before) .laid (a .page .now) (l .inv .3))
+    (over-both n (a .payload .now) (short .result) (long .result) e (long .ensures .0 .still e) (short .ensures .1) (long .ensures .1)))
 
 loop-less : tie.Need-loop-less Inv-loop μ-loop
 loop-less c =
-    let o = opened (c .before .before .before .before) in
-    omega (arith, o .some, o .within (omega arith))
+    let w = both (c .before .before .before .before) in
+    omega (arith, w .on, c .if1 .left, w .laid (c .before .before .before .before .before .before .before .before .before .before .before .before .before .before .args .page .now) (c .before .before .before .before .before .before .before .before .before .before .loop .inv .3) .on)
 
 loop-again : tie.Need-loop-again Inv-loop μ-loop
 loop-again c =
-    let a = c .before .before .before .before .before .before .before .before .before .before .before .args in
-    let l = c .before .before .before .before .before .before .before .loop in
-    let n : ℕ = reach (length (a .page .now)) in
-    let j = c .before .before .before .before .if1 .jump in
-    let w = c .before .before .before .before .if1 .width in
-    let k : ℕ = l .place + w - 1 in
-    let o : Opened (a .payload .now) (l .place) j w = opened (c .before .before .before .before) in (
-      l .inv .0,
-      omega arith,
-      laid-more n (a .page .now) (a .payload .now) (l .page) (l .place) (before (l .next)) (l .inv .2) (l .next + j) (getD (a .payload .now) k 0)
-          (l .place + w)
-          (enters (a .payload .now) (l .place) j w k o (omega (arith, o .some)) n (l .next) (omega arith) (omega arith)),
-    )
-
-same-length-2 : tie.Need-same-length-2 Inv-loop μ-loop
-same-length-2 c = search needs
-
-returns-2 : tie.Need-returns-2 Inv-loop μ-loop
-returns-2 c =
-    let a = c .before .before .before .before .before .args in
-    let l = c .before .loop in
-    laid-few (reach (length (a .page .now))) (a .page .now) (a .payload .now) (l .page) (l .place) (before (l .next)) (l .inv .2) (c .loop-test .left)
+    let l = c .before .before .before .before .before .before .before .before .before .before .loop in
+    let w = both (c .before .before .before .before) in
+    (omega (arith, l .inv .0, w .on), w .few, l .inv .2, w .laid (c .before .before .before .before .before .before .before .before .before .before .before .before .before .before .args .page .now) (l .inv .3))
 
 pub overlay-spec : {M : Type 1} → statement M
 overlay-spec =
@@ -135,20 +82,9 @@ overlay-spec =
     μ-loop
     shorter-requires
     loop-holds
-    sub-loop
-    shared-slice-read-first
-    cast-jump
-    long-jump-requires
-    add-at
+    lay-shorts-requires
+    lay-longs-requires
     same-length
     returns
-    add-value
-    sub-value
-    shared-slice-read-value
-    slice-write-page
-    add-next
-    add-place
     loop-less
-    loop-again
-    same-length-2
-    returns-2)
+    loop-again)
