@@ -6,8 +6,8 @@ use mathlib.Core.List.{List}
 use Rattle.payload.specs.Steps.{longAmong}
 use Rattle.payload.proofs.Together.{long-first, together-cut, together-long, together-out, together-in}
 use borrow.Author.Needs.{needs}
-use Rattle.payload.proofs.after_together.Statement.{statement}
-use Rattle.payload.proofs.after_together.Tie as tie
+use Rattle.payload.proofs.walk.after_together.Statement.{statement}
+use Rattle.payload.proofs.walk.after_together.Tie as tie
 
 sub-if1 : tie.Need-sub-if1
 sub-if1 c = search needs

@@ -5,8 +5,8 @@ use mir.Val.{toZ}
 use mir.ValLaws.{toZ-ofZ}
 use Rattle.payload.specs.Positions.{before-read, before-fits}
 use borrow.Author.Needs.{needs}
-use Rattle.payload.proofs.position_before.Statement.{statement}
-use Rattle.payload.proofs.position_before.Tie as tie
+use Rattle.payload.proofs.walk.position_before.Statement.{statement}
+use Rattle.payload.proofs.walk.position_before.Tie as tie
 
 cast-result : tie.Need-cast-result
 cast-result c = search needs

@@ -15,8 +15,8 @@ use Rattle.payload.specs.declared.Step.the-variants.{End, Broken, Entry}
 use Rattle.payload.proofs.Together.{passed-together}
 use Rattle.payload.proofs.Turns.{told, index-is, index-in, index-fits, Passed, passed-none, passed-more, passed-all, passed-broken}
 use borrow.Author.Needs.{needs}
-use Rattle.payload.proofs.check_entries.Statement.{statement}
-use Rattle.payload.proofs.check_entries.Tie as tie
+use Rattle.payload.proofs.walk.check_entries.Statement.{statement}
+use Rattle.payload.proofs.walk.check_entries.Tie as tie
 
 abbrev Inv-loop : tie.InvT-loop
 Inv-loop payload size end place₀ after₀ entries₀ place after entries =

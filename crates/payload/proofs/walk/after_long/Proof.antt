@@ -9,8 +9,8 @@ use Rattle.payload.specs.Positions.{before}
 use Rattle.payload.specs.Steps.{Entered}
 use Rattle.payload.proofs.Reading.{opened-long, enters}
 use borrow.Author.Needs.{needs}
-use Rattle.payload.proofs.after_long.Statement.{statement}
-use Rattle.payload.proofs.after_long.Tie as tie
+use Rattle.payload.proofs.walk.after_long.Statement.{statement}
+use Rattle.payload.proofs.walk.after_long.Tie as tie
 
 sub-if1 : tie.Need-sub-if1
 sub-if1 c = search needs
