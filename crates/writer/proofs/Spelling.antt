@@ -123,6 +123,11 @@ module _ (base page : List ℕ) (from : ℕ) (s : Spelled) (w : Reached base pag
 
 -- A word: what the bits in which both words differ still tell, before `end`
 
+pub record NextIn (base page : List ℕ) (from end bits i : ℕ) : Type 0 where
+  pub within : from + i < end
+  pub place : from + i ≡ nextDiff base page from
+  pub left : bits / 2 ^ (8 * i) / 2 ^ 8 ≡ unlike base page (from + i + 1) (end - (from + i + 1))
+
 module _ (base page : List ℕ) (wb : Bytes base) (wp : Bytes page) (from end left : ℕ) (l : end ≤ length base) (m : end ≤ length page) (h : from ≤ end)
     (e : left ≡ unlike base page from (end - from)) (s : Spelled) (w : Reached base page from s) where
   -- nothing
@@ -136,16 +141,14 @@ module _ (base page : List ℕ) (wb : Bytes base) (wp : Bytes page) (from end le
     abbrev i : ℕ
     i = trailingZeros 64 left / 8
 
-    pub next-byte : FirstIn base page from (end - from) left i
+    next-byte : FirstIn base page from (end - from) left i
     next-byte = first-in base page wb wp (end - from) from 8 left i (omega arith) e some refl
 
-    pub next-place : from + i ≡ nextDiff base page from
-    next-place = first-next base page wb wp from (end - from) left i (omega arith) (omega arith) next-byte
-
-    pub next-within : from + i < end
-    next-within = omega (arith, next-byte .within)
-
-    pub next-left : left / 2 ^ (8 * i) / 2 ^ 8 ≡ unlike base page (from + i + 1) (end - (from + i + 1))
-    next-left =
+    pub next-in-word : NextIn base page from end left i
+    next-in-word =
         let r : end - from - (i + 1) ≡ end - (from + i + 1) = omega arith in
-        next-byte .left ∙ ap (unlike base page (from + i + 1)) r
+        record {
+          within = omega (arith, next-byte .within);
+          place = first-next base page wb wp from (end - from) left i (omega arith) (omega arith) next-byte;
+          left = next-byte .left ∙ ap (unlike base page (from + i + 1)) r;
+        }

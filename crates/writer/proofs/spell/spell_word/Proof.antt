@@ -4,7 +4,7 @@ use mathlib.Core.Path.{_≡_, refl, ap, _∙_}
 use lib.Bits.{bitXor}
 use lib.Count.{trailingZeros}
 use Rattle.writer.specs.declared.Spelled.{Spelled}
-use Rattle.writer.proofs.Spelling.{spells-none, reached-one, spells-one, word-done, next-place, next-within, next-left}
+use Rattle.writer.proofs.Spelling.{spells-none, reached-one, spells-one, word-done, NextIn, next-in-word}
 use Rattle.writer.specs.Steps.{Reached, Spells}
 use Rattle.writer.specs.Words.{wordBytes, unlike}
 use Rattle.writer.specs.WordLaws.{Bytes}
@@ -37,66 +37,34 @@ loop-holds c =
       spells-none (a .base .now) (a .page .now) (a .room .now) (a .before),
     )
 
-cast-alike : tie.Need-cast-alike Inv-loop μ-loop
-cast-alike c =
+-- where the next difference is, as each turn finds it
+found : (c : tie.In-loop Inv-loop μ-loop)
+    → let a = c .before .before .before .before .before .before .before .args in
+    let l = c .before .loop in
+    NextIn (a .base .now) (a .page .now) (l .from) (a .at + wordBytes) (l .left) (trailingZeros 64 (l .left) / 8) × (a .at + wordBytes ≤ 65536)
+found c =
     let a = c .before .before .before .before .before .before .before .args in
     let l = c .before .loop in
+    let most = c .before .before .before .before .before .before .before .pre in
     let s : Spelled = record { used = l .used; entries = l .entries; next = l .next } in
     let wb : Bytes (a .base .now) = λ i. c .before .before .before .before .before .before .shared-slice-known .given i .fits in
-    let wp : Bytes (a .page .now) = λ i. c .before .before .before .before .before .shared-slice-known2 .given i .fits in
-    omega (
-      arith,
-      c .before .before .before .before .before .before .before .pre .1,
-      c .before .before .before .before .before .before .before .pre .2,
-      next-within (a .base .now) (a .page .now) wb wp (l .from) (a .at + wordBytes) (l .left) (c .before .before .before .before .before .before .before .pre .0) (c .before .before .before .before .before .before .before .pre .1) (l .inv .1)
-          (l .inv .2) s (l .inv .3) (omega arith) (c .loop-test .taken),
+    let wp : Bytes (a .page .now) = λ i. c .before .before .before .before .before .shared-slice-known2 .given i .fits in (
+      next-in-word (a .base .now) (a .page .now) wb wp (l .from) (a .at + wordBytes) (l .left) (most .0) (most .1) (l .inv .1) (l .inv .2) s (l .inv .3)
+          (omega arith) (c .loop-test .taken),
+      omega (arith, most .1, most .2),
     )
+
+cast-alike : tie.Need-cast-alike Inv-loop μ-loop
+cast-alike c = omega (arith, found c .0 .within, found c .1)
 
 add-from : tie.Need-add-from Inv-loop μ-loop
-add-from c =
-    let a = c .before .before .before .before .before .before .before .args in
-    let l = c .before .loop in
-    let s : Spelled = record { used = l .used; entries = l .entries; next = l .next } in
-    let wb : Bytes (a .base .now) = λ i. c .before .before .before .before .before .before .shared-slice-known .given i .fits in
-    let wp : Bytes (a .page .now) = λ i. c .before .before .before .before .before .shared-slice-known2 .given i .fits in
-    omega (
-      arith,
-      c .before .before .before .before .before .before .before .pre .1,
-      c .before .before .before .before .before .before .before .pre .2,
-      next-within (a .base .now) (a .page .now) wb wp (l .from) (a .at + wordBytes) (l .left) (c .before .before .before .before .before .before .before .pre .0) (c .before .before .before .before .before .before .before .pre .1) (l .inv .1)
-          (l .inv .2) s (l .inv .3) (omega arith) (c .loop-test .taken),
-    )
+add-from c = omega (arith, found c .0 .within, found c .1)
 
 sub-put-entry : tie.Need-sub-put-entry Inv-loop μ-loop
-sub-put-entry c =
-    let a = c .before .before .before .before .before .before .before .before .args in
-    let l = c .before .before .loop in
-    let s : Spelled = record { used = l .used; entries = l .entries; next = l .next } in
-    let wb : Bytes (a .base .now) = λ i. c .before .before .before .before .before .before .before .shared-slice-known .given i .fits in
-    let wp : Bytes (a .page .now) = λ i. c .before .before .before .before .before .before .shared-slice-known2 .given i .fits in
-    omega (
-      arith,
-      c .before .before .before .before .before .before .before .before .pre .1,
-      c .before .before .before .before .before .before .before .before .pre .2,
-      l .inv .3 .on,
-      next-within (a .base .now) (a .page .now) wb wp (l .from) (a .at + wordBytes) (l .left) (c .before .before .before .before .before .before .before .before .pre .0) (c .before .before .before .before .before .before .before .before .pre .1) (l .inv .1)
-          (l .inv .2) s (l .inv .3) (omega arith) (c .before .loop-test .taken),
-    )
+sub-put-entry c = omega (arith, c .before .before .loop .inv .3 .on, found (c .before) .0 .within, found (c .before) .1)
 
 shared-slice-read-put-entry : tie.Need-shared-slice-read-put-entry Inv-loop μ-loop
-shared-slice-read-put-entry c =
-    let a = c .before .before .before .before .before .before .before .before .before .args in
-    let l = c .before .before .before .loop in
-    let s : Spelled = record { used = l .used; entries = l .entries; next = l .next } in
-    let wb : Bytes (a .base .now) = λ i. c .before .before .before .before .before .before .before .before .shared-slice-known .given i .fits in
-    let wp : Bytes (a .page .now) = λ i. c .before .before .before .before .before .before .before .shared-slice-known2 .given i .fits in
-    omega (
-      arith,
-      c .before .before .before .before .before .before .before .before .before .pre .1,
-      c .before .before .before .before .before .before .before .before .before .pre .2,
-      next-within (a .base .now) (a .page .now) wb wp (l .from) (a .at + wordBytes) (l .left) (c .before .before .before .before .before .before .before .before .before .pre .0) (c .before .before .before .before .before .before .before .before .before .pre .1) (l .inv .1)
-          (l .inv .2) s (l .inv .3) (omega arith) (c .before .before .loop-test .taken),
-    )
+shared-slice-read-put-entry c = omega (arith, found (c .before .before) .0 .within, c .before .before .before .before .before .before .before .before .before .pre .1)
 
 put-entry-requires : tie.Need-put-entry-requires Inv-loop μ-loop
 put-entry-requires c κs =
@@ -104,105 +72,37 @@ put-entry-requires c κs =
     omega (arith, counted .short, counted .on, c .before .before .before .before .before .before .before .before .before .pre .2)
 
 add-entries : tie.Need-add-entries Inv-loop μ-loop
-add-entries c =
-    let a = c .before .before .before .before .before .before .before .before .before .before .before .before .args in
-    let l = c .before .before .before .before .before .before .loop in
-    let s : Spelled = record { used = l .used; entries = l .entries; next = l .next } in
-    let wb : Bytes (a .base .now) = λ i. c .before .before .before .before .before .before .before .before .before .before .before .shared-slice-known .given i .fits in
-    let wp : Bytes (a .page .now) = λ i. c .before .before .before .before .before .before .before .before .before .before .shared-slice-known2 .given i .fits in
-    omega (
-      arith,
-      c .before .before .before .before .before .before .before .before .before .before .before .before .pre .1,
-      c .before .before .before .before .before .before .before .before .before .before .before .before .pre .2,
-      l .inv .3 .on,
-      l .inv .3 .counted .few,
-      next-within (a .base .now) (a .page .now) wb wp (l .from) (a .at + wordBytes) (l .left) (c .before .before .before .before .before .before .before .before .before .before .before .before .pre .0) (c .before .before .before .before .before .before .before .before .before .before .before .before .pre .1) (l .inv .1)
-          (l .inv .2) s (l .inv .3) (omega arith) (c .before .before .before .before .before .loop-test .taken),
-    )
+add-entries c = omega (arith, c .before .before .before .before .before .before .loop .inv .3 .on, c .before .before .before .before .before .before .loop .inv .3 .counted .few, found (c .before .before .before .before .before) .0 .within, found (c .before .before .before .before .before) .1)
 
 add-from-2 : tie.Need-add-from-2 Inv-loop μ-loop
-add-from-2 c =
-    let a = c .before .before .before .before .before .before .before .before .before .before .before .before .args in
-    let l = c .before .before .before .before .before .before .loop in
-    let s : Spelled = record { used = l .used; entries = l .entries; next = l .next } in
-    let wb : Bytes (a .base .now) = λ i. c .before .before .before .before .before .before .before .before .before .before .before .shared-slice-known .given i .fits in
-    let wp : Bytes (a .page .now) = λ i. c .before .before .before .before .before .before .before .before .before .before .shared-slice-known2 .given i .fits in
-    omega (
-      arith,
-      c .before .before .before .before .before .before .before .before .before .before .before .before .pre .1,
-      c .before .before .before .before .before .before .before .before .before .before .before .before .pre .2,
-      next-within (a .base .now) (a .page .now) wb wp (l .from) (a .at + wordBytes) (l .left) (c .before .before .before .before .before .before .before .before .before .before .before .before .pre .0) (c .before .before .before .before .before .before .before .before .before .before .before .before .pre .1) (l .inv .1)
-          (l .inv .2) s (l .inv .3) (omega arith) (c .before .before .before .before .before .loop-test .taken),
-    )
+add-from-2 c = omega (arith, found (c .before .before .before .before .before) .0 .within, found (c .before .before .before .before .before) .1)
 
 mul-left : tie.Need-mul-left Inv-loop μ-loop
-mul-left c =
-    let a = c .before .before .before .before .before .before .before .before .before .before .before .before .args in
-    let l = c .before .before .before .before .before .before .loop in
-    let s : Spelled = record { used = l .used; entries = l .entries; next = l .next } in
-    let wb : Bytes (a .base .now) = λ i. c .before .before .before .before .before .before .before .before .before .before .before .shared-slice-known .given i .fits in
-    let wp : Bytes (a .page .now) = λ i. c .before .before .before .before .before .before .before .before .before .before .shared-slice-known2 .given i .fits in
-    omega (
-      arith,
-      c .before .before .before .before .before .before .before .before .before .before .before .before .pre .1,
-      c .before .before .before .before .before .before .before .before .before .before .before .before .pre .2,
-      next-within (a .base .now) (a .page .now) wb wp (l .from) (a .at + wordBytes) (l .left) (c .before .before .before .before .before .before .before .before .before .before .before .before .pre .0) (c .before .before .before .before .before .before .before .before .before .before .before .before .pre .1) (l .inv .1)
-          (l .inv .2) s (l .inv .3) (omega arith) (c .before .before .before .before .before .loop-test .taken),
-    )
+mul-left c = omega (arith, found (c .before .before .before .before .before) .0 .within, c .before .before .before .before .before .before .loop .inv .0)
 
 shr-left : tie.Need-shr-left Inv-loop μ-loop
-shr-left c =
-    let a = c .before .before .before .before .before .before .before .before .before .before .before .before .args in
-    let l = c .before .before .before .before .before .before .loop in
-    let s : Spelled = record { used = l .used; entries = l .entries; next = l .next } in
-    let wb : Bytes (a .base .now) = λ i. c .before .before .before .before .before .before .before .before .before .before .before .shared-slice-known .given i .fits in
-    let wp : Bytes (a .page .now) = λ i. c .before .before .before .before .before .before .before .before .before .before .shared-slice-known2 .given i .fits in
-    omega (
-      arith,
-      c .before .before .before .before .before .before .before .before .before .before .before .before .pre .1,
-      c .before .before .before .before .before .before .before .before .before .before .before .before .pre .2,
-      next-within (a .base .now) (a .page .now) wb wp (l .from) (a .at + wordBytes) (l .left) (c .before .before .before .before .before .before .before .before .before .before .before .before .pre .0) (c .before .before .before .before .before .before .before .before .before .before .before .before .pre .1) (l .inv .1)
-          (l .inv .2) s (l .inv .3) (omega arith) (c .before .before .before .before .before .loop-test .taken),
-    )
+shr-left c = omega (arith, found (c .before .before .before .before .before) .0 .within, c .before .before .before .before .before .before .loop .inv .0)
 
 loop-less : tie.Need-loop-less Inv-loop μ-loop
-loop-less c =
-    let a = c .before .before .before .before .before .before .before .before .before .before .before .before .args in
-    let l = c .before .before .before .before .before .before .loop in
-    let s : Spelled = record { used = l .used; entries = l .entries; next = l .next } in
-    let wb : Bytes (a .base .now) = λ i. c .before .before .before .before .before .before .before .before .before .before .before .shared-slice-known .given i .fits in
-    let wp : Bytes (a .page .now) = λ i. c .before .before .before .before .before .before .before .before .before .before .shared-slice-known2 .given i .fits in
-    omega (
-      arith,
-      c .before .before .before .before .before .before .before .before .before .before .before .before .pre .1,
-      c .before .before .before .before .before .before .before .before .before .before .before .before .pre .2,
-      next-within (a .base .now) (a .page .now) wb wp (l .from) (a .at + wordBytes) (l .left) (c .before .before .before .before .before .before .before .before .before .before .before .before .pre .0) (c .before .before .before .before .before .before .before .before .before .before .before .before .pre .1) (l .inv .1)
-          (l .inv .2) s (l .inv .3) (omega arith) (c .before .before .before .before .before .loop-test .taken),
-    )
+loop-less c = omega (arith, found (c .before .before .before .before .before) .0 .within, found (c .before .before .before .before .before) .1)
 
 loop-again : tie.Need-loop-again Inv-loop μ-loop
 loop-again c =
     let a = c .before .before .before .before .before .before .before .before .before .before .before .before .args in
     let l = c .before .before .before .before .before .before .loop in
+    let most = c .before .before .before .before .before .before .before .before .before .before .before .before .pre in
+    let next = found (c .before .before .before .before .before) .0 in
     let s : Spelled = record { used = l .used; entries = l .entries; next = l .next } in
-    let wb : Bytes (a .base .now) = λ i. c .before .before .before .before .before .before .before .before .before .before .before .shared-slice-known .given i .fits in
-    let wp : Bytes (a .page .now) = λ i. c .before .before .before .before .before .before .before .before .before .before .shared-slice-known2 .given i .fits in
-    let i : ℕ = trailingZeros 64 (l .left) / 8 in
-    let within = next-within (a .base .now) (a .page .now) wb wp (l .from) (a .at + wordBytes) (l .left) (c .before .before .before .before .before .before .before .before .before .before .before .before .pre .0) (c .before .before .before .before .before .before .before .before .before .before .before .before .pre .1) (l .inv .1)
-    (l .inv .2) s (l .inv .3) (omega arith) (c .before .before .before .before .before .loop-test .taken) in
-    let place = next-place (a .base .now) (a .page .now) wb wp (l .from) (a .at + wordBytes) (l .left) (c .before .before .before .before .before .before .before .before .before .before .before .before .pre .0) (c .before .before .before .before .before .before .before .before .before .before .before .before .pre .1) (l .inv .1)
-    (l .inv .2) s (l .inv .3) (omega arith) (c .before .before .before .before .before .loop-test .taken) in
+    let at : ℕ = l .from + trailingZeros 64 (l .left) / 8 in
     let put = c .before .before .put-entry in
-    let r : Spelled = record { used = put .result; entries = l .entries + 1; next = l .from + i + 1 } in
-    let most = c .before .before .before .before .before .before .before .before .before .before .before .before .pre in (
+    let r : Spelled = record { used = put .result; entries = l .entries + 1; next = at + 1 } in (
       omega arith,
-      omega arith,
-      next-left (a .base .now) (a .page .now) wb wp (l .from) (a .at + wordBytes) (l .left) (c .before .before .before .before .before .before .before .before .before .before .before .before .pre .0) (c .before .before .before .before .before .before .before .before .before .before .before .before .pre .1) (l .inv .1)
-          (l .inv .2) s (l .inv .3) (omega arith) (c .before .before .before .before .before .loop-test .taken),
-      reached-one (a .base .now) (a .page .now) (l .from) s (l .inv .3) (l .from + i) place (omega (arith, most .0)) (omega (arith, most .1))
-          (l .room) (put .last .0) r (put .ensures, refl, refl),
-      spells-one (a .base .now) (a .page .now) (l .from) s (l .inv .3) (l .from + i) place (omega (arith, most .0)) (omega (arith, most .1))
-          (l .room) (put .last .0) r (put .ensures, refl, refl) (a .before) (a .room .now) (l .inv .4),
+      omega (arith, next .within),
+      next .left,
+      reached-one (a .base .now) (a .page .now) (l .from) s (l .inv .3) at (next .place) (omega (arith, most .0, next .within))
+          (omega (arith, most .1, next .within)) (l .room) (put .last .0) r (put .ensures, refl, refl),
+      spells-one (a .base .now) (a .page .now) (l .from) s (l .inv .3) at (next .place) (omega (arith, most .0, next .within))
+          (omega (arith, most .1, next .within)) (l .room) (put .last .0) r (put .ensures, refl, refl) (a .before) (a .room .now) (l .inv .4),
     )
 
 same-length : tie.Need-same-length Inv-loop μ-loop
