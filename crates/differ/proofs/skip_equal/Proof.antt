@@ -19,8 +19,10 @@ sub-loop : tie.Need-sub-loop Inv-loop μ-loop
 sub-loop c = c .loop .inv .within
 
 differs-requires : tie.Need-differs-requires Inv-loop μ-loop
-differs-requires c κs =
-    (omega (arith, c .before .loop .inv .within, c .before .before .before .before .pre .1), omega (arith, c .before .loop .inv .within, c .before .before .before .before .pre .1))
+differs-requires c κs = (
+  omega (arith, c .before .loop .inv .within, c .before .before .before .before .pre .1),
+  omega (arith, c .before .loop .inv .within, c .before .before .before .before .pre .1),
+)
 
 returns : tie.Need-returns Inv-loop μ-loop
 returns c =

@@ -66,13 +66,22 @@ returns c =
 loop-less : tie.Need-loop-less Inv-loop μ-loop
 loop-less c =
     let w = both (c .before .before .before .before) in
-    omega (arith, w .on, c .if1 .left, w .laid (c .before .before .before .before .before .before .before .before .before .before .before .before .before .before .args .page .now) (c .before .before .before .before .before .before .before .before .before .before .loop .inv .3) .on)
+    omega (
+      arith,
+      w .on,
+      c .if1 .left,
+      w .laid (c .before .before .before .before .before .before .before .before .before .before .before .before .before .before .args .page .now) (c .before .before .before .before .before .before .before .before .before .before .loop .inv .3) .on,
+    )
 
 loop-again : tie.Need-loop-again Inv-loop μ-loop
 loop-again c =
     let l = c .before .before .before .before .before .before .before .before .before .before .loop in
-    let w = both (c .before .before .before .before) in
-    (omega (arith, l .inv .0, w .on), w .few, l .inv .2, w .laid (c .before .before .before .before .before .before .before .before .before .before .before .before .before .before .args .page .now) (l .inv .3))
+    let w = both (c .before .before .before .before) in (
+      omega (arith, l .inv .0, w .on),
+      w .few,
+      l .inv .2,
+      w .laid (c .before .before .before .before .before .before .before .before .before .before .before .before .before .before .args .page .now) (l .inv .3),
+    )
 
 pub overlay-spec : {M : Type 1} → statement M
 overlay-spec =

@@ -27,28 +27,34 @@ loop-holds c =
 next-stride-requires : tie.Need-next-stride-requires Inv-loop μ-loop
 next-stride-requires c κs = search needs
 
-sub-if1 : tie.Need-sub-if1 Inv-loop μ-loop
-sub-if1 c =
+-- where the next chunk is that differs
+chunk-at : (c : tie.After-next-stride Inv-loop μ-loop)
+    → let a = c .before .before .before .before .before .before .args in
+    let l = c .before .loop in
+    Chunk (a .base .now) (a .page .now) (l .at) (c .before .before .shorter .result) (c .next-stride .result) (l .s)
+chunk-at c =
     let a = c .before .before .before .before .before .before .args in
     let l = c .before .loop in
     let end = c .before .before .shorter in
-    let next = c .next-stride in
-    let at : Chunk (a .base .now) (a .page .now) (l .at) (end .result) (next .result) (l .s) =
-    chunk-reached stride (a .base .now) (a .page .now) (l .at) (end .result) (next .result) (l .s) (l .inv .0) (end .ensures) (l .inv .1) (next .ensures) in
-    at .within
+    chunk-reached stride (a .base .now) (a .page .now) (l .at) (end .result) (c .next-stride .result) (l .s) (l .inv .0) (end .ensures) (l .inv .1)
+    (c .next-stride .ensures)
+
+sub-if1 : tie.Need-sub-if1 Inv-loop μ-loop
+sub-if1 c = chunk-at c .within
 
 spell-tail-requires : tie.Need-spell-tail-requires Inv-loop μ-loop
 spell-tail-requires c κs =
-    let a = c .before .before .before .before .before .before .before .before .args in
-    let l = c .before .before .before .loop in
-    let end = c .before .before .before .before .shorter in
-    let next = c .before .before .next-stride in
-    let at : Chunk (a .base .now) (a .page .now) (l .at) (end .result) (next .result) (l .s) =
-    chunk-reached stride (a .base .now) (a .page .now) (l .at) (end .result) (next .result) (l .s) (l .inv .0) (end .ensures) (l .inv .1) (next .ensures) in
-    (at .within, omega (arith, end .ensures), omega (arith, end .ensures), c .before .before .before .before .before .before .before .before .pre, at .reached)
+    let at = chunk-at (c .before .before) in
+    let e = c .before .before .before .before .shorter .ensures in
+    (at .within, omega (arith, e), omega (arith, e), c .before .before .before .before .before .before .before .before .pre, at .reached)
 
 found-requires : tie.Need-found-requires Inv-loop μ-loop
-found-requires c κs = omega (arith, c .before .before .spell-tail .ensures .0 .on, c .before .before .before .before .before .before .before .shorter .ensures, c .before .before .before .before .before .before .before .before .before .before .before .pre)
+found-requires c κs = omega (
+  arith,
+  c .before .before .spell-tail .ensures .0 .on,
+  c .before .before .before .before .before .before .before .shorter .ensures,
+  c .before .before .before .before .before .before .before .before .before .before .before .pre,
+)
 
 same-length : tie.Need-same-length Inv-loop μ-loop
 same-length c =
@@ -66,13 +72,9 @@ returns c =
 
 count-rest-requires : tie.Need-count-rest-requires Inv-loop μ-loop
 count-rest-requires c κs =
-    let a = c .before .before .before .before .before .before .before .before .before .args in
-    let l = c .before .before .before .before .loop in
-    let end = c .before .before .before .before .before .shorter in
-    let next = c .before .before .before .next-stride in
-    let at : Chunk (a .base .now) (a .page .now) (l .at) (end .result) (next .result) (l .s) =
-    chunk-reached stride (a .base .now) (a .page .now) (l .at) (end .result) (next .result) (l .s) (l .inv .0) (end .ensures) (l .inv .1) (next .ensures) in
-    (omega (arith, at .within, end .ensures), omega (arith, at .within, end .ensures), c .before .before .before .before .before .before .before .before .before .pre, at .reached)
+    let at = chunk-at (c .before .before .before) in
+    let e = c .before .before .before .before .before .shorter .ensures in
+    (omega (arith, at .within, e), omega (arith, at .within, e), c .before .before .before .before .before .before .before .before .before .pre, at .reached)
 
 same-length-2 : tie.Need-same-length-2 Inv-loop μ-loop
 same-length-2 c = c .before .before .before .before .before .loop .inv .2 .kept
@@ -86,44 +88,40 @@ returns-2 c =
 
 spell-chunk-requires : tie.Need-spell-chunk-requires Inv-loop μ-loop
 spell-chunk-requires c κs =
-    let a = c .before .before .before .before .before .before .before .before .before .before .args in
-    let l = c .before .before .before .before .before .loop in
-    let end = c .before .before .before .before .before .before .shorter in
-    let next = c .before .before .before .before .next-stride in
-    let at : Chunk (a .base .now) (a .page .now) (l .at) (end .result) (next .result) (l .s) =
-    chunk-reached stride (a .base .now) (a .page .now) (l .at) (end .result) (next .result) (l .s) (l .inv .0) (end .ensures) (l .inv .1) (next .ensures) in
-    (omega (arith, end .ensures, at .within, c .before .before .before .if1 .left), omega (arith, end .ensures, at .within, c .before .before .before .if1 .left), c .before .before .before .before .before .before .before .before .before .before .pre, at .reached)
+    let at = chunk-at (c .before .before .before .before) in
+    let e = c .before .before .before .before .before .before .shorter .ensures in
+    let whole = c .before .before .before .if1 .left in (
+      omega (arith, e, at .within, whole),
+      omega (arith, e, at .within, whole),
+      c .before .before .before .before .before .before .before .before .before .before .pre,
+      at .reached,
+    )
 
 add-at : tie.Need-add-at Inv-loop μ-loop
-add-at c =
-    let a = c .before .before .before .before .before .before .before .before .before .before .before .before .before .args in
-    let l = c .before .before .before .before .before .before .before .before .loop in
-    let end = c .before .before .before .before .before .before .before .before .before .shorter in
-    let next = c .before .before .before .before .before .before .before .next-stride in
-    let at : Chunk (a .base .now) (a .page .now) (l .at) (end .result) (next .result) (l .s) =
-    chunk-reached stride (a .base .now) (a .page .now) (l .at) (end .result) (next .result) (l .s) (l .inv .0) (end .ensures) (l .inv .1) (next .ensures) in
-    omega (arith, at .within, end .ensures, c .before .before .before .before .before .before .before .before .before .before .before .before .before .pre)
+add-at c = omega (
+  arith,
+  chunk-at (c .before .before .before .before .before .before .before) .within,
+  c .before .before .before .before .before .before .before .before .before .shorter .ensures,
+  c .before .before .before .before .before .before .before .before .before .before .before .before .before .pre,
+)
 
 loop-less : tie.Need-loop-less Inv-loop μ-loop
-loop-less c =
-    let a = c .before .before .before .before .before .before .before .before .before .before .before .before .before .args in
-    let l = c .before .before .before .before .before .before .before .before .loop in
-    let end = c .before .before .before .before .before .before .before .before .before .shorter in
-    let next = c .before .before .before .before .before .before .before .next-stride in
-    let at : Chunk (a .base .now) (a .page .now) (l .at) (end .result) (next .result) (l .s) =
-    chunk-reached stride (a .base .now) (a .page .now) (l .at) (end .result) (next .result) (l .s) (l .inv .0) (end .ensures) (l .inv .1) (next .ensures) in
-    omega (arith, at .on, at .within, c .before .before .before .before .before .before .if1 .left)
+loop-less c = omega (
+  arith,
+  chunk-at (c .before .before .before .before .before .before .before) .on,
+  chunk-at (c .before .before .before .before .before .before .before) .within,
+  c .before .before .before .before .before .before .if1 .left,
+)
 
 loop-again : tie.Need-loop-again Inv-loop μ-loop
 loop-again c =
     let a = c .before .before .before .before .before .before .before .before .before .before .before .before .before .args in
     let l = c .before .before .before .before .before .before .before .before .loop in
-    let end = c .before .before .before .before .before .before .before .before .before .shorter in
-    let next = c .before .before .before .before .before .before .before .next-stride in
-    let at : Chunk (a .base .now) (a .page .now) (l .at) (end .result) (next .result) (l .s) =
-    chunk-reached stride (a .base .now) (a .page .now) (l .at) (end .result) (next .result) (l .s) (l .inv .0) (end .ensures) (l .inv .1) (next .ensures) in
-    let spelt = c .before .before .spell-chunk in
-    (omega (arith, at .within, c .before .before .before .before .before .before .if1 .left), spelt .ensures .0, spelt .ensures .1 .1 (a .room .now) (l .inv .2))
+    let spelt = c .before .before .spell-chunk in (
+      omega (arith, chunk-at (c .before .before .before .before .before .before .before) .within, c .before .before .before .before .before .before .if1 .left),
+      spelt .ensures .0,
+      spelt .ensures .1 .1 (a .room .now) (l .inv .2),
+    )
 
 pub encode-spec : {M : Type 1} → statement M
 encode-spec =

@@ -30,7 +30,12 @@ spell-word-requires c κs =
     (omega (arith, most .0, l .inv .2, c .before .loop-test .taken), omega (arith, most .1, l .inv .2, c .before .loop-test .taken), most .2, l .inv .3)
 
 add-from : tie.Need-add-from Inv-loop μ-loop
-add-from c = omega (arith, c .before .before .before .before .before .loop .inv .1, c .before .before .before .before .before .before .before .before .before .pre .1, c .before .before .before .before .before .before .before .before .before .pre .2)
+add-from c = omega (
+  arith,
+  c .before .before .before .before .before .loop .inv .1,
+  c .before .before .before .before .before .before .before .before .before .pre .1,
+  c .before .before .before .before .before .before .before .before .before .pre .2,
+)
 
 loop-less : tie.Need-loop-less Inv-loop μ-loop
 loop-less c = omega (arith, c .before .before .before .before .loop-test .taken)

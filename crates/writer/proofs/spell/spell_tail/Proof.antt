@@ -24,7 +24,12 @@ spell-byte-requires c κs =
     (omega (arith, most .1, c .before .loop-test .taken), omega (arith, most .2, c .before .loop-test .taken), most .3, l .inv .1)
 
 add-at : tie.Need-add-at Inv-loop μ-loop
-add-at c = omega (arith, c .before .before .before .before .loop-test .taken, c .before .before .before .before .before .before .before .before .before .pre .2, c .before .before .before .before .before .before .before .before .before .pre .3)
+add-at c = omega (
+  arith,
+  c .before .before .before .before .loop-test .taken,
+  c .before .before .before .before .before .before .before .before .before .pre .2,
+  c .before .before .before .before .before .before .before .before .before .pre .3,
+)
 
 loop-less : tie.Need-loop-less Inv-loop μ-loop
 loop-less c = omega (arith, c .before .before .before .before .loop-test .taken)

@@ -64,7 +64,11 @@ sub-put-entry : tie.Need-sub-put-entry Inv-loop μ-loop
 sub-put-entry c = omega (arith, c .before .before .loop .inv .3 .on, found (c .before) .0 .within, found (c .before) .1)
 
 shared-slice-read-put-entry : tie.Need-shared-slice-read-put-entry Inv-loop μ-loop
-shared-slice-read-put-entry c = omega (arith, found (c .before .before) .0 .within, c .before .before .before .before .before .before .before .before .before .pre .1)
+shared-slice-read-put-entry c = omega (
+  arith,
+  found (c .before .before) .0 .within,
+  c .before .before .before .before .before .before .before .before .before .pre .1,
+)
 
 put-entry-requires : tie.Need-put-entry-requires Inv-loop μ-loop
 put-entry-requires c κs =
@@ -72,7 +76,13 @@ put-entry-requires c κs =
     omega (arith, counted .short, counted .on, c .before .before .before .before .before .before .before .before .before .pre .2)
 
 add-entries : tie.Need-add-entries Inv-loop μ-loop
-add-entries c = omega (arith, c .before .before .before .before .before .before .loop .inv .3 .on, c .before .before .before .before .before .before .loop .inv .3 .counted .few, found (c .before .before .before .before .before) .0 .within, found (c .before .before .before .before .before) .1)
+add-entries c = omega (
+  arith,
+  c .before .before .before .before .before .before .loop .inv .3 .on,
+  c .before .before .before .before .before .before .loop .inv .3 .counted .few,
+  found (c .before .before .before .before .before) .0 .within,
+  found (c .before .before .before .before .before) .1,
+)
 
 add-from-2 : tie.Need-add-from-2 Inv-loop μ-loop
 add-from-2 c = omega (arith, found (c .before .before .before .before .before) .0 .within, found (c .before .before .before .before .before) .1)
