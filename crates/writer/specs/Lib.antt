@@ -4,5 +4,6 @@ pub mod StepLaws
 pub mod Steps
 pub mod Words
 pub mod WordLaws
+pub mod MarkLaws
 pub mod Writer
 pub mod LastPlace

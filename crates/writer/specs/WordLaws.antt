@@ -98,16 +98,16 @@ unlike-none a b wa wb (suc k) at e i h l =
 
 -- The zeros below the lowest digit that is set
 
-zeros-even : (k n : ℕ) → n % 2 ≡ 0 → trailingZeros (suc k) n ≡ suc (trailingZeros k (n / 2))
+pub zeros-even : (k n : ℕ) → n % 2 ≡ 0 → trailingZeros (suc k) n ≡ suc (trailingZeros k (n / 2))
 unfolding trailingZeros
 zeros-even k n e = ap (λ (r : ℕ). under r (trailingZeros k (n / 2))) e
 
-zeros-odd : (k n : ℕ) → n % 2 ≡ 1 → trailingZeros (suc k) n ≡ 0
+pub zeros-odd : (k n : ℕ) → n % 2 ≡ 1 → trailingZeros (suc k) n ≡ 0
 unfolding trailingZeros
 zeros-odd k n e = ap (λ (r : ℕ). under r (trailingZeros k (n / 2))) e
 
 -- of a number that was moved up j digits
-zeros-shifted : (j w x : ℕ) → trailingZeros (j + w) (x * 2 ^ j) ≡ j + trailingZeros w x
+pub zeros-shifted : (j w x : ℕ) → trailingZeros (j + w) (x * 2 ^ j) ≡ j + trailingZeros w x
 zeros-shifted zero w x =
     let q : 0 + w ≡ w = omega arith in
     let p : x * 2 ^ 0 ≡ x = omega arith in

@@ -10,10 +10,13 @@ ghost use Rattle.differ.specs.Differ.{stride};
 ghost use Rattle.payload.specs.Steps.{farthest};
 ghost use Rattle.writer.specs.Differences.{spelled};
 ghost use Rattle.writer.specs.Steps.{Reached, Spells};
-ghost use Rattle.writer.specs.Words.{wordBytes};
+ghost use mathlib.Core.Path.{_≡_};
+ghost use Rattle.writer.specs.Words.{wordBytes, strideWords, marks};
 
 // How many bytes are compared at one go where a chunk differs: as many as a register of every machine has.
 const WORD: usize = 8;
+
+const STRIDE_WORDS: usize = Grid::STRIDE / WORD;
 
 // Stores an entry as far as there is room, and answers the place after it, room or not.
 fn put_entry(room: &mut [u8], used: usize, jump: usize, value: u8) -> usize
@@ -61,7 +64,22 @@ fn spell_word(base: &[u8], page: &[u8], at: usize, room: &mut [u8], before: Spel
     }
 }
 
-// The entries of the differences in one chunk of the grid, a word after the other.
+// Which words of a chunk of the grid differ, a bit each, the first in the lowest. No word ends the loop, so that all are compared at once.
+fn marks_of(base: &[u8], page: &[u8], at: usize) -> u64
+    requires { ⌜ (at + stride ≤ lengthOf (now base)) × (at + stride ≤ lengthOf (now page)) ⌝ }
+    ensures { λ r. ⌜ r ≡ marks (now (base .entry)) (now (page .entry)) at strideWords ⌝ }
+{
+    let mut seen: u64 = 0;
+    let mut i = 0;
+    while i < STRIDE_WORDS {
+        let other = word(base, at + WORD * i) != word(page, at + WORD * i);
+        seen = seen | ((other as u64) << i);
+        i += 1;
+    }
+    seen
+}
+
+// The entries of the differences in one chunk of the grid: only words that differ are looked at, so that how far apart they are is no branch.
 pub(crate) fn spell_chunk(
     base: &[u8],
     page: &[u8],
@@ -75,11 +93,11 @@ pub(crate) fn spell_chunk(
         × Spells (now (base .entry)) (now (page .entry)) (now (room .entry)) before (now (room .exit)) r ⌝ }
 {
     let mut s = before;
-    let end = at + Grid::STRIDE;
-    let mut from = at;
-    while from < end {
-        s = spell_word(base, page, from, room, s);
-        from += WORD;
+    let mut left = marks_of(base, page, at);
+    while left != 0 {
+        let words = u64::trailing_zeros(left) as usize;
+        s = spell_word(base, page, at + WORD * words, room, s);
+        left = left & (left - 1);
     }
     s
 }
