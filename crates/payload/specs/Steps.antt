@@ -56,7 +56,7 @@ pub record Passes (n : ℕ) (payload : List ℕ) (place after width to : ℕ) : 
   pub in-page : to ≤ n
   pub entered : Entered n payload place (stream n (before after) code (drop place payload)) (pos (to - 1)) value (place + width)
 
--- Short entries that the check takes together
+-- Short entries that are taken together
 
 abbrev pub together : ℕ
 together = 8
@@ -110,6 +110,10 @@ pub record Lays (n : ℕ) (payload page : List ℕ) (place next : ℕ) (after : 
   pub few : r .next ≤ farthest
   pub still : r .place ≡ place → r .next ≡ next
   pub laid : (page₀ : List ℕ) → Laid n page₀ payload page (place - 1) (before next) → Laid n page₀ payload after (r .place - 1) (before (r .next))
+
+-- the same, of these numbers
+abbrev pub LaysTo : ℕ → List ℕ → List ℕ → ℕ → ℕ → List ℕ → ℕ → ℕ → Type 0
+LaysTo n payload page from next after place to = Lays n payload page from next after (record { place = place; next = to })
 
 -- the first byte of the entry that comes next
 abbrev pub codeAt : List ℕ → Reached → ℕ

@@ -82,7 +82,8 @@ pub fn overlay(page: &mut [u8], payload: &[u8])
     let mut place = 1;
     let mut next = 0;
     loop {
-        let short = lay::lay_shorts(page, payload, place, next, end);
+        let many = lay::lay_together(page, payload, place, next, end);
+        let short = lay::lay_shorts(page, payload, many.place, many.next, end);
         let long = lay::lay_longs(page, payload, short.place, short.next, end);
         if long.place == place {
             return;

@@ -12,10 +12,10 @@ ghost use Rattle.payload.specs.Entries.{shortEntry, longEntry};
 ghost use Rattle.payload.specs.Steps.{farthest, reach, together, longAmong, jumpsOf, afterTogether, Passes, checkedNumbers, checkNumbers};
 ghost use Rattle.payload.specs.Positions.{before};
 
-// How many short entries the check takes at a go, and the bytes that they take.
-const TOGETHER: usize = 8;
+// How many short entries are taken at a go, and the bytes that they take.
+pub(crate) const TOGETHER: usize = 8;
 
-const TOGETHER_WIDTH: usize = TOGETHER * Code::SHORT_WIDTH;
+pub(crate) const TOGETHER_WIDTH: usize = TOGETHER * Code::SHORT_WIDTH;
 
 // Whether one of the entries that are taken together would start with a long code. No byte ends the loop, so that all are read at once.
 fn long_among(payload: &[u8], place: usize) -> bool
@@ -47,7 +47,7 @@ fn jumps_of(payload: &[u8], place: usize) -> u16
 
 // The place after the last of the next short entries together, or 0 where they are cut off, not all short, or leave the page. Positions
 // only grow, so that all are in the page if the last is. The first code is tested by itself: where long codes are many it mostly tells.
-fn after_together(payload: &[u8], place: usize, after: usize, end: usize) -> usize
+pub(crate) fn after_together(payload: &[u8], place: usize, after: usize, end: usize) -> usize
     requires { ⌜ (place ≤ length (now payload)) × (after ≤ farthest) ⌝ }
     ensures { λ r. ⌜ r ≡ afterTogether end (now (payload .entry)) place after ⌝ }
 {

@@ -81,7 +81,7 @@ short c =
     let l = c .before .before .before .before .loop in
     let n : ℕ = reach (a .size) in
     let e = c .before .after-together .ensures in
-    passed-together n (a .payload .now) (l .place) (l .after) (l .entries) (l .inv .2) (omega arith) (l .inv .2 .on) (c .before .after-together .result)
+    passed-together n (a .payload .now) (l .place) (l .after) (l .entries) (l .inv .2) (omega arith) (c .before .after-together .result)
     (rw (l .inv .0) at e) (c .if2 .taken)
 
 add-place-2 : tie.Need-add-place-2 Inv-loop μ-loop
