@@ -10,7 +10,7 @@ use mathlib.Core.Path.{_≡_}
 
 -- how many bytes the code moves at one go
 abbrev pub bulk : ℕ
-bulk = 4 * 1024
+bulk = 8 * 1024
 
 -- n zero bytes
 unfoldable pub zeros : ℕ → List ℕ

@@ -7,8 +7,11 @@ ghost use lib.Dec.{eqb};
 ghost use lib.ListN.{length, set, take};
 ghost use Rattle.span.specs.Bytes.{bulk, zeros, splice, emptied, part as partOf, partFrom, same as sameBytes};
 
-// How many bytes are moved at one go.
-const BULK: usize = 4 * 1024;
+// How many bytes are moved at one go: a page's worth, so that a page is one move.
+const BULK: usize = 8 * 1024;
+
+// How many bytes are cleared at one go, or left if they are zero: what a file system gives room to at least.
+const HOLE: usize = 4 * 1024;
 
 // How many bytes a test for zeros looks at before it may end: many registers' worth, and few of a page that is not zero.
 const STRETCH: usize = 256;
@@ -43,14 +46,14 @@ fn clear(dst: &mut [u8])
     fill_bytes(dst);
 }
 
-// Every byte becomes zero. What is zero already is not written, a bulk at a time: the holes of a sparse file stay holes.
+// Every byte becomes zero. What is zero already is not written, a few at a time: the holes of a sparse file stay holes.
 pub fn fill(dst: &mut [u8])
     ensures { λ _. ⌜ now (dst .exit) ≡ zeros (length (now (dst .entry))) ⌝ }
 {
     let end = dst.len();
     let mut at = 0;
-    while BULK <= end - at {
-        let to = at + BULK;
+    while HOLE <= end - at {
+        let to = at + HOLE;
         clear(&mut dst[at..to]);
         at = to;
     }

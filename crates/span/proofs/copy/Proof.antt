@@ -61,8 +61,8 @@ loop-again c =
     let a = c .before .before .before .before .before .before .before .before .before .before .args in
     let l = c .before .before .before .before .before .before .loop in
     let bulk = c .before .before .copy-bulk in
-    let n : ℕ = l .at + 4096 - l .at in
-    let q : l .at + n ≡ l .at + 4096 = omega arith in
+    let n : ℕ = l .at + 8192 - l .at in
+    let q : l .at + n ≡ l .at + 8192 = omega arith in
     let long : length (drop (l .at) (a .src .now)) ≡ length (a .src .now) - l .at = length-drop (l .at) (a .src .now) in
     let m : length (bulk .last .0) ≡ n = ap (λ (x : List ℕ). length x) (bulk .ensures) ∙ length-take-le n (drop (l .at) (a .src .now)) (omega arith) in (
       search needs,
