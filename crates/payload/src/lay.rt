@@ -20,9 +20,9 @@ fn lay_each(page: &mut [u8], payload: &[u8], from: usize, after: usize, end: usi
     let mut next = after;
     let mut i = 0;
     while i < TOGETHER {
-        let place = from + Code::SHORT_WIDTH * i;
-        let at = next + (payload[place - 1] as usize);
-        page[at] = payload[place];
+        let second = from + Code::SHORT_WIDTH * i;
+        let at = next + (payload[second - 1] as usize);
+        page[at] = payload[second];
         next = at + 1;
         i += 1;
     }

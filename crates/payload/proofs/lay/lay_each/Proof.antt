@@ -41,11 +41,11 @@ known c =
     let t : Taken (a .end) (a .payload .now) (a .from - 1) (a .after) = taken (a .end) (a .payload .now) (a .from - 1) (a .after) (pre .2) in
     (few, t, lands-in (a .end) (a .payload .now) (a .page .now) (a .from) (a .after) few (pre .0) t (l .i) (l .next) (c .loop-test .taken) (l .inv .1))
 
-mul-place : tie.Need-mul-place Inv-loop μ-loop
-mul-place c = record { fits = omega (arith, c .loop-test .taken) }
+mul-second : tie.Need-mul-second Inv-loop μ-loop
+mul-second c = record { fits = omega (arith, c .loop-test .taken) }
 
-add-place : tie.Need-add-place Inv-loop μ-loop
-add-place c = record { fits = omega (arith, known c .1 .within, c .loop-test .taken, c .before .before .pre .0) }
+add-second : tie.Need-add-second Inv-loop μ-loop
+add-second c = record { fits = omega (arith, known c .1 .within, c .loop-test .taken, c .before .before .pre .0) }
 
 sub-at : tie.Need-sub-at Inv-loop μ-loop
 sub-at c = omega (arith, c .before .before .pre .0)
@@ -117,8 +117,8 @@ lay-each-spec =
     Inv-loop
     μ-loop
     loop-holds
-    mul-place
-    add-place
+    mul-second
+    add-second
     sub-at
     shared-slice-read-at
     cast-at
