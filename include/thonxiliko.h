@@ -262,9 +262,9 @@
  *     before. Slots come first, since m is at most n. Then zeros to a map that is kept, up to n / 4
  *     bytes, rounded up, then places. A stop between two of these steps leaves a sound store.
  *     ftruncate appends zeros. A mapping does not grow with its file: map it anew.
- *   - A FILE THAT WAS CUT MAY NOT BE NOTICED. Cut between two slots it is an area of fewer blocks,
- *     and refused only if m is over n now. Cut between two places it is refused only if a FULL_REF
- *     block has lost its place. So keep n and m elsewhere too.
+ *   - A FILE THAT HAS LOST ITS END MAY PASS. Cut off between two slots it is an area of fewer
+ *     blocks, which thx_build accepts unless m is over n now. Cut off between two places it is
+ *     accepted unless a FULL_REF block has lost its place. So keep n and m elsewhere too.
  *   - HOLES. Zeros need no room in a file that may have holes. Formatting, cutting, sweeping and
  *     clearing a block's place leave alone what is zeros already, so no hole is filled. The library
  *     punches none either: a place that it has cleared keeps its room until the program gives it
@@ -273,9 +273,9 @@
  *     too (fsync), before a write to what was appended.
  *   - ONE WRITER AT A TIME. What is said below of threads (BUFFERS) holds for processes that map
  *     the same files. The library takes no lock.
- *   - NEVER CUT A FILE WHILE IT IS MAPPED, by this process or another. A call that then looks past
- *     the end of the file gets a signal (SIGBUS) in the middle of its work, and so does one that
- *     writes to a hole when the disk is full; posix_fallocate takes the room before. This is
+ *   - NEVER SHORTEN A FILE WHILE IT IS MAPPED, by this process or another. A call that then looks
+ *     past the end of the file gets a signal (SIGBUS) in the middle of its work, and so does one
+ *     that writes to a hole when the disk is full; posix_fallocate takes the room before. This is
  *     outside every promise: nothing is said of what such a call leaves.
  *   - KEEP A CHECKSUM of both files beside them when they are closed, with the name of the base,
  *     and hold it against them before they are opened again. The layout has none: a slot that was
@@ -339,38 +339,41 @@
  *       8,192 or 0. For a block past the end of the base file lend a base of length 0.
  *    2  See what you lend: another file, the two areas exchanged, the length of another file, or m
  *       over n. Places were appended before slots: append the slots. Appending zeros was stopped
- *       halfway: append the rest. Else the file was cut: restore it. Do not fill it up with zeros:
- *       what was cut off would read as its base. thx_judge takes a slot of 512 bytes, thx_look_up
- *       and thx_tally the store's own n.
+ *       halfway: append the rest. Else the file has lost its end: restore it. Do not fill it up
+ *       with zeros: what was lost would read as its base or as zeros. thx_judge takes a slot of 512
+ *       bytes, thx_look_up and thx_tally the store's own n.
  *    3  The file is no area, or its header is damaged: lend the right one, or restore it. If it is
  *       new, format it. Formatting drops all that both areas hold.
  *    4  The file is an area of another version of the layout: use the software that wrote it. If it
  *       was this one, the header is damaged: restore it. Do not write another version into it.
- *    5  The number is wrong, or the block is past the area. If the area was longer once it was cut:
- *       restore it. If not, nothing is kept of the block, and its page is its base. To write it,
- *       append slots of zeros until it is below n, and zeros to a map that is kept. A cut with k
- *       above n has nothing to drop: leave it. Block 131,072 is block 0 of the next segment, which
- *       has areas of its own.
- *    6  Carrying out: give a kind that a thx_compare with number 0 gave. thx_read_mapped: the map
- *       may be wrong; build it anew and read again. Else a slot is damaged; thx_build names the
- *       block. Restore both areas, or write the block's page again if you have it: carrying out
- *       does not look at what the block held.
+ *    5  The number is wrong, or the block is past the area. If the area was longer once, and is not
+ *       shorter by your own doing (CUTTING A TABLE SHORT), it has lost its end: restore it. If not,
+ *       nothing is kept of the block, and its page is its base. To write it, append slots of zeros
+ *       until it is below n, and zeros to a map that is kept. A cut with k above n has nothing to
+ *       drop: leave it. Block 131,072 is block 0 of the next segment, which has its own areas.
+ *    6  Carrying out: give a kind that a thx_compare with number 0 gave. Else a slot is damaged;
+ *       thx_build names the block. Restore both areas, or write the block's page again if you have
+ *       it: carrying out does not look at what the block held. thx_read_mapped: if the map may have
+ *       missed a write, a cut or a sweep, build it anew and read again. If it has missed none, the
+ *       slot was lost: restore, and do not build before. thx_build may accept what is left, and the
+ *       block then reads as its base.
  *    7  Carrying out and thx_apply: the payload that you lend is not sound. Lend the first c.length
  *       bytes of thx_compare's buffer and no more; thx_apply tells where it breaks. Else the
- *       payload of a slot is damaged: as with 6, restore, or write the page again.
+ *       payload of a slot is damaged: as with 6 restore, or write the page again.
  *    8  Carrying out, with a full area: append places of 8,192 zeros until the block is below m,
  *       and carry out again. With none: make one of 4,096 bytes, by thx_format with a scratch patch
  *       area of 512 bytes, never with the store's own, and append places to it.
- *       The reads, thx_build and thx_sweep: the full area was cut or lost, or is another store's.
- *       Restore it. Do not append places: the block would read as zeros. thx_read_mapped: as with 6
- *       build the map first.
+ *       The reads, thx_build and thx_sweep: the full area has lost its end, or all, or is another
+ *       store's. Restore both areas. Do not append places: the block would read as zeros.
+ *       thx_read_mapped: it may be the map that is wrong, as with 6.
  *    9  Lend a longer buffer: thx_compare takes 504 bytes, whatever the page, and a map is n / 4
  *       bytes, rounded up. If a map is kept and n has grown, append zeros to it.
- *   10  After a write that is known to have been stopped: thx_sweep, then thx_build again. If none
- *       is known, a slot is lost, or the two areas are not of one time, and this may be the only
- *       copy of a page. Restore both areas. Do not sweep: it erases the page, and the block reads
- *       as its base.
- *   11  The map is damaged, not one of this store, or n is not its own. Build it anew.
+ *   10  After a write that is known to have been stopped: thx_sweep, then thx_build again; on files
+ *       with a sync before and after, see A WRITE THAT IS STOPPED. If none is known, a slot is
+ *       lost, or the two areas are not of one time, and this may be the only copy of a page.
+ *       Restore both areas. Do not sweep: it erases the page, and the block reads as its base.
+ *   11  The map is damaged, or another store's: build it anew. thx_look_up and thx_tally take the
+ *       store's own n.
  *
  * 2, 3 and 4 do not say which area is at fault. thx_highest is lent the patch area alone: if it
  * gives the same number, it is that one; if not, it is the full area, or, with 2, m is over n.
@@ -508,19 +511,19 @@ static inline const char *thx_refusal_advice(uint32_t number) {
     case THX_BAD_PAGE_LENGTH:
         return "lend a page of 8,192 bytes, a base of 8,192, or of 0 past the base file's end";
     case THX_BAD_AREA_LENGTH:
-        return "see what is lent: another file, areas exchanged, m over n; if cut, restore it";
+        return "see what is lent: another file, areas exchanged, m over n; else restore it";
     case THX_BAD_HEADER:
         return "lend the right file, or restore it; format it only if it is new";
     case THX_BAD_VERSION:
         return "use the software that wrote this version, or restore the area";
     case THX_BAD_BLOCK:
-        return "mend the number, or append slots of zeros; if the area was cut, restore it";
+        return "mend the number, or append slots of zeros; if the area lost its end, restore";
     case THX_BAD_SLOT:
-        return "carrying out: mend the kind; by a map: build it; else restore, or write again";
+        return "carrying out: mend the kind; a map that missed a write: build it; else restore";
     case THX_BAD_PAYLOAD:
         return "carrying out, apply: lend Compare's payload alone; else restore, or write again";
     case THX_NO_FULL_PAGE:
-        return "carrying out: append places of zeros; by a map: build it; else restore";
+        return "carrying out: append places of zeros; another store's map: build it; else restore";
     case THX_SHORT_BUFFER:
         return "lend a longer buffer: 504 bytes for a payload, n / 4 rounded up for a map";
     case THX_STRAY_PAGE:

@@ -155,7 +155,7 @@ static void page_lengths(void) {
     CHECK(memcmp(again, seven, 8192) == 0);
 }
 
-/* 2: what is lent, m over n, zeros that were appended in part, a file that was cut. */
+/* 2: what is lent, m over n, zeros that were appended in part, a file that has lost its end. */
 static void area_lengths(void) {
     begin();
     GIVES(thx_build(made.full, made.full_len, made.patch, made.patch_len, made.map, 1),
@@ -302,10 +302,17 @@ static void slots(void) {
     GIVES(highest(), THX_DONE);
     GIVES(sweep(), THX_DONE);
     as_begun();
-    made.map[0] = 0x29; /* says PATCH of block 2 */
+    made.map[0] = 0x29; /* as if it had missed that block 2 became EMPTY */
     GIVES(read_mapped(2), THX_BAD_SLOT);
     GIVES(build(), THX_DONE);
     as_begun();
+    memset(made.patch + 1024, 0, 512); /* block 1, of which the map has missed nothing */
+    GIVES(read_mapped(1), THX_BAD_SLOT);
+    restore();
+    memset(made.patch + 1024, 0, 512);
+    GIVES(build(), THX_DONE); /* in the place of restoring */
+    reads_as(1, THX_KIND_EMPTY, base);
+    restore();
 }
 
 /* 7: more than the payload is lent; a payload that is damaged. */
@@ -361,7 +368,7 @@ static void no_place(void) {
     reads_as(1, THX_KIND_EMPTY, base);
 }
 
-/* 8 from the others: a full area that was cut or lost is restored, or the block reads as zeros. */
+/* 8 from the others: a full area that has lost its end is restored, or a block reads as zeros. */
 static void lost_places(size_t full_len) {
     thx_built built;
     begin();
@@ -380,7 +387,7 @@ static void lost_places(size_t full_len) {
         reads_as(0, THX_KIND_FULL, zeros);
         restore();
     }
-    made.map[0] = 0x19; /* says FULL of block 2 */
+    made.map[0] = 0x19; /* another store's: says FULL of block 2 */
     GIVES(read_mapped(2), THX_NO_FULL_PAGE);
     GIVES(build(), THX_DONE);
     as_begun();
