@@ -8,7 +8,7 @@
 #   ROWS               how many consignments there are (default 60000, at least 1000, at most 50000000)
 
 ROWS=${ROWS:-60000}
-# More would pass what the server counts by.
+# With more rows some numbers below would leave the 32 bits that they have.
 case $ROWS in
     *[!0-9]* | ?????????*) false ;;
     *) [ "$ROWS" -ge 1000 ] && [ "$ROWS" -le 50000000 ] ;;
