@@ -338,7 +338,7 @@ static void payloads(void) {
 
 /* 8 from carrying out: places are appended, to a full area or to a new one. */
 static void no_place(void) {
-    uint8_t scratch[512];
+    uint8_t scratch[512] = {0};
     begin();
     GIVES(put(2, fives), THX_NO_FULL_PAGE);
     append_places(1);
