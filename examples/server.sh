@@ -57,10 +57,7 @@ clean_up() {
 
 # own_folder PARENT: a new folder of the server's user, by its whole path.
 own_folder() {
-    if ! made=$(mktemp -d "$1/thx.XXXXXX") || ! made=$(cd "$made" && pwd); then
-        echo "set TMPDIR to a folder that can be written to" >&2
-        return 1
-    fi
+    made=$(mktemp -d "$1/thx.XXXXXX") && made=$(cd "$made" && pwd) || return 1
     if [ -n "$SERVER_USER" ]; then
         chown "$SERVER_USER:$(id -g "$SERVER_USER")" "$made" || return 1
     fi
@@ -71,6 +68,10 @@ own_folder() {
 must_be_open() {
     if [ -z "$SERVER_USER" ] || as_user test -w "$WORK"; then
         return
+    fi
+    if ! as_user true; then
+        echo "root cannot run anything as the user $SERVER_USER: run this as another user" >&2
+        exit 2
     fi
     closed=$WORK
     while parent=$(dirname "$closed") && [ "$parent" != / ] && ! as_user test -x "$parent"; do
@@ -94,10 +95,16 @@ start_workplace() {
     trap clean_up EXIT
     trap 'exit 130' INT
     trap 'exit 143' TERM HUP
-    WORK=$(own_folder "${TMPDIR:-/tmp}") || exit 2
+    WORK=$(own_folder "${TMPDIR:-/tmp}") || {
+        echo "set TMPDIR to a folder that can be written to" >&2
+        exit 2
+    }
     must_be_open
     SOCKETS=$WORK
-    fits_socket "$WORK" || SOCKETS=$(own_folder /tmp) || exit 2
+    fits_socket "$WORK" || SOCKETS=$(own_folder /tmp) || {
+        echo "set TMPDIR to a folder with a shorter or plainer name" >&2
+        exit 2
+    }
     # The user may not be allowed to stand where the script was started.
     cd "$WORK" || exit 2
 }
