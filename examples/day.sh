@@ -5,9 +5,17 @@
 #   evening            makes the tables, in a database of their own (dispatch), and a checkpoint
 #   morning            first_scan, which is the day's first look at the tables, and morning_updates
 #   afternoon          more changes, inserts, deletes, and vacuum, which shortens two files
-#   ROWS               how many consignments there are (default 60000, at least 1000)
+#   ROWS               how many consignments there are (default 60000, at least 1000, at most 50000000)
 
 ROWS=${ROWS:-60000}
+# With more rows some numbers below would leave the 32 bits that they have.
+case $ROWS in
+    *[!0-9]* | ?????????*) false ;;
+    *) [ "$ROWS" -ge 1000 ] && [ "$ROWS" -le 50000000 ] ;;
+esac || {
+    echo "ROWS is a number from 1000 to 50000000, not '$ROWS'" >&2
+    exit 2
+}
 
 # Indexes come before the rows: building one later would scan the table and set the hint bits that
 # the first scan of the day is to set.

@@ -3,12 +3,14 @@
 # on a private socket in a temporary folder, gone again however the script ends.
 #
 #   choose_user         who the server runs as; to be called before start_workplace
-#   start_workplace     makes $WORK, a temporary folder, and sees to its removal
+#   start_workplace     makes $WORK, a temporary folder, and $SOCKETS, the socket's, which is the same if
+#                       it can be; sees to their removal
 #   new_folder DATA     initdb with data checksums
 #   start DATA, stop    a server on that folder; stop is a clean one
 #   ask SQL...          runs SQL, answers without decoration
 
 WORK=
+SOCKETS=
 SERVER_DATA=
 SERVER_USER=
 
@@ -48,19 +50,61 @@ clean_up() {
         as_user "$PG/pg_ctl" -D "$SERVER_DATA" -m immediate -w stop >/dev/null 2>&1
     fi
     if [ -n "$WORK" ]; then
-        cd / && rm -rf "$WORK"
+        cd / && rm -rf "$WORK" ${SOCKETS:+"$SOCKETS"}
     fi
     exit "$status"
+}
+
+# own_folder PARENT: a new folder of the server's user, by its whole path.
+own_folder() {
+    made=$(mktemp -d "$1/thx.XXXXXX") && made=$(cd "$made" && pwd) || return 1
+    if [ -n "$SERVER_USER" ]; then
+        chown "$SERVER_USER:$(id -g "$SERVER_USER")" "$made" || return 1
+    fi
+    echo "$made"
+}
+
+# The server's user must get there: a folder on the way may be open to root alone.
+must_be_open() {
+    if [ -z "$SERVER_USER" ] || as_user test -w "$WORK"; then
+        return
+    fi
+    if ! as_user true; then
+        echo "root cannot run anything as the user $SERVER_USER: run this as another user" >&2
+        exit 2
+    fi
+    closed=$WORK
+    while parent=$(dirname "$closed") && [ "$parent" != / ] && ! as_user test -x "$parent"; do
+        closed=$parent
+    done
+    echo "the server runs as the user $SERVER_USER, to whom this folder is closed: $closed" >&2
+    echo "set TMPDIR to a folder that is open to all, /tmp for instance" >&2
+    exit 2
+}
+
+# A socket's path has at most 107 bytes, and the server takes its folders as a list with commas.
+fits_socket() {
+    case $1 in
+        *[!A-Za-z0-9/._-]*) return 1 ;;
+    esac
+    socket=$1/.s.PGSQL.5432
+    [ ${#socket} -le 107 ]
 }
 
 start_workplace() {
     trap clean_up EXIT
     trap 'exit 130' INT
     trap 'exit 143' TERM HUP
-    WORK=$(mktemp -d "${TMPDIR:-/tmp}/thx.XXXXXX") || exit 2
-    if [ -n "$SERVER_USER" ]; then
-        chown "$SERVER_USER:$(id -g "$SERVER_USER")" "$WORK"
-    fi
+    WORK=$(own_folder "${TMPDIR:-/tmp}") || {
+        echo "set TMPDIR to a folder that can be written to" >&2
+        exit 2
+    }
+    must_be_open
+    SOCKETS=$WORK
+    fits_socket "$WORK" || SOCKETS=$(own_folder /tmp) || {
+        echo "set TMPDIR to a folder with a shorter or plainer name" >&2
+        exit 2
+    }
     # The user may not be allowed to stand where the script was started.
     cd "$WORK" || exit 2
 }
@@ -79,7 +123,7 @@ new_folder() {
         --auth=trust --wal-segsize=1
     as_user tee -a "$1/postgresql.conf" >/dev/null <<CONF || exit 1
 listen_addresses = ''
-unix_socket_directories = '$WORK'
+unix_socket_directories = '$SOCKETS'
 unix_socket_permissions = 0700
 autovacuum = off
 max_wal_senders = 0
@@ -106,7 +150,7 @@ stop() {
 
 # ask DATABASE SQL
 ask() {
-    as_user "$PG/psql" -X -q -A -t -v ON_ERROR_STOP=1 -h "$WORK" -U courier -d "$1" -c "$2"
+    as_user "$PG/psql" -X -q -A -t -v ON_ERROR_STOP=1 -h "$SOCKETS" -U courier -d "$1" -c "$2"
 }
 
 # The path, name and owner (user or system) of every relation with a file, by tabs.

@@ -252,6 +252,36 @@
  *     A sweep can be made again, too.
  *
  *
+ * AREAS IN FILES
+ *
+ * The library knows no files. A program that keeps its areas in files, read and written whole or
+ * mapped, sees to the rest. n and m stand nowhere in an area: its length is all that says them.
+ *
+ *   - TO GROW, APPEND ZEROS. A longer patch area has more EMPTY slots, a longer full area more
+ *     places that are empty. Every block reads as before, and thx_build accepts the areas if it did
+ *     before. Slots come first, since m is at most n. Then zeros to a map that is kept, up to n / 4
+ *     bytes, rounded up, then places. A stop between two of these steps leaves a sound store.
+ *     ftruncate appends zeros. A mapping does not grow with its file: map it anew.
+ *   - A FILE THAT HAS LOST ITS END MAY PASS. Cut off between two slots it is an area of fewer
+ *     blocks, which thx_build accepts unless m is over n now. Cut off between two places it is
+ *     accepted unless a FULL_REF block has lost its place. So keep n and m elsewhere too.
+ *   - HOLES. Zeros need no room in a file that may have holes. Formatting, cutting, sweeping and
+ *     clearing a block's place leave alone what is zeros already, so no hole is filled. The library
+ *     punches none either: a place that it has cleared keeps its room until the program gives it
+ *     back (on Linux by fallocate), which changes no byte.
+ *   - SYNC as shown above, in A WRITE THAT IS STOPPED. After a file has grown sync it, its length
+ *     too (fsync), before a write to what was appended.
+ *   - ONE WRITER AT A TIME. What is said below of threads (BUFFERS) holds for processes that map
+ *     the same files. The library takes no lock.
+ *   - NEVER SHORTEN A FILE WHILE IT IS MAPPED, by this process or another. A call that then looks
+ *     past the end of the file gets a signal (SIGBUS) in the middle of its work, and so does one
+ *     that writes to a hole when the disk is full; posix_fallocate takes the room before. This is
+ *     outside every promise: nothing is said of what such a call leaves.
+ *   - KEEP A CHECKSUM of both files beside them when they are closed, with the name of the base,
+ *     and hold it against them before they are opened again. The layout has none: a slot that was
+ *     lost reads as its base, in silence. docs/TRUST.md says what is noticed without one.
+ *
+ *
  * ANSWERS
  *
  * Every function but thx_show, which has no number, answers with a struct whose first member
@@ -301,6 +331,59 @@
  * entry after it, and the payload breaks further on. thx_next steps through it from the beginning.
  *
  *
+ * ON REFUSAL N, DO THIS
+ *
+ * A refused call has changed nothing. So mend the cause, and make the same call again.
+ *
+ *    1  Your lengths are wrong; no area was looked at. Lend a page of 8,192 bytes and a base of
+ *       8,192 or 0. For a block past the end of the base file lend a base of length 0.
+ *    2  See what you lend: another file, the two areas exchanged, the length of another file, or m
+ *       over n. Places were appended before slots: append the slots. Appending zeros was stopped
+ *       halfway: append the rest. Else the file has lost its end: restore it. Do not fill it up
+ *       with zeros: what was lost would read as its base or as zeros. thx_judge takes a slot of 512
+ *       bytes, thx_look_up and thx_tally the store's own n.
+ *    3  The file is no area, or its header is damaged: lend the right one, or restore it. If it is
+ *       new, format it. Formatting drops all that both areas hold.
+ *    4  The file is an area of another version of the layout: use the software that wrote it. If it
+ *       was this one, the header is damaged: restore it. Do not write another version into it.
+ *    5  The number is wrong, or the block is past the area. If the area was longer once, and is not
+ *       shorter by your own doing (CUTTING A TABLE SHORT), it has lost its end: restore it. If not,
+ *       nothing is kept of the block, and its page is its base. To write it, append slots of zeros
+ *       until it is below n, and zeros to a map that is kept. A cut with k above n has nothing to
+ *       drop: leave it. Block 131,072 is block 0 of the next segment, which has its own areas.
+ *    6  Carrying out: give a kind that a thx_compare with number 0 gave. Else a slot is damaged;
+ *       thx_build names the block. Restore both areas, or write the block's page again if you have
+ *       it: carrying out does not look at what the block held. thx_read_mapped: if the map may have
+ *       missed a write, a cut or a sweep, build it anew and read again. If it has missed none, the
+ *       slot was lost: restore, and do not build before. thx_build may accept what is left, and the
+ *       block then reads as its base.
+ *    7  Carrying out and thx_apply: the payload that you lend is not sound. Lend the first c.length
+ *       bytes of thx_compare's buffer and no more; thx_apply tells where it breaks. Else the
+ *       payload of a slot is damaged: as with 6 restore, or write the page again.
+ *    8  Carrying out, with a full area: append places of 8,192 zeros until the block is below m,
+ *       and carry out again. With none: make one of 4,096 bytes, by thx_format with a scratch patch
+ *       area of 512 bytes, never with the store's own, and append places to it.
+ *       The reads, thx_build and thx_sweep: the full area has lost its end, or all, or is another
+ *       store's. Restore both areas. Do not append places: the block would read as zeros.
+ *       thx_read_mapped: it may be the map that is wrong, as with 6.
+ *    9  Lend a longer buffer: thx_compare takes 504 bytes, whatever the page, and a map is n / 4
+ *       bytes, rounded up. If a map is kept and n has grown, append zeros to it.
+ *   10  After a write that is known to have been stopped: thx_sweep, then thx_build again; on files
+ *       with a sync before and after, see A WRITE THAT IS STOPPED. If none is known, a slot is
+ *       lost, or the two areas are not of one time, and this may be the only copy of a page.
+ *       Restore both areas. Do not sweep: it erases the page, and the block reads as its base.
+ *   11  The map is damaged, or another store's: build it anew. thx_look_up and thx_tally take the
+ *       store's own n.
+ *
+ * 2, 3 and 4 do not say which area is at fault. thx_highest is lent the patch area alone: if it
+ * gives the same number, it is that one; if not, it is the full area, or, with 2, m is over n.
+ *
+ * To restore is to put both areas back from a copy of one time, and then to build the map. Writes
+ * and cuts since that copy are made again.
+ *
+ * thx_refusal_text and thx_refusal_advice have a number's meaning, and this table, in a line each.
+ *
+ *
  * BUFFERS
  *
  * A buffer is a pointer and its length in bytes. Any length is allowed; a wrong one is refused by
@@ -331,6 +414,31 @@
 
 #ifdef __cplusplus
 extern "C" {
+#endif
+
+/*
+ * The version of this interface: 0.7.0 is 700, as in #if THX_VERSION >= 700. The second number is
+ * the last request of the paper that has landed: it grows when a call, a number or an answer is new
+ * or another, and the third is 0 then. The third grows when this header gains something and every
+ * program that was right stays right. The first is 0 while requests are still coming. An archive
+ * has no version in it: take it and the header from one tree.
+ */
+#define THX_VERSION_MAJOR 0
+#define THX_VERSION_MINOR 7
+#define THX_VERSION_PATCH 0
+#define THX_VERSION (THX_VERSION_MAJOR * 10000 + THX_VERSION_MINOR * 100 + THX_VERSION_PATCH)
+#define THX_VERSION_STRING "0.7.0"
+
+/*
+ * Stands before every call: GCC and clang warn where an answer is not looked at. A program that
+ * defines it as nothing before it includes this header is not warned.
+ */
+#ifndef THX_MUST_USE
+#ifdef __GNUC__
+#define THX_MUST_USE __attribute__((warn_unused_result))
+#else
+#define THX_MUST_USE
+#endif
 #endif
 
 /* Sizes in bytes. */
@@ -377,6 +485,54 @@ extern "C" {
 #define THX_PAIR_FULL 1
 #define THX_PAIR_PATCH 2
 
+/* What a number means, in words, for a message. */
+static inline const char *thx_refusal_text(uint32_t number) {
+    switch (number) {
+    case THX_DONE: return "done";
+    case THX_BAD_PAGE_LENGTH: return "a page has a wrong length";
+    case THX_BAD_AREA_LENGTH: return "an area or slot has a wrong length, or too many blocks";
+    case THX_BAD_HEADER: return "a header is wrong";
+    case THX_BAD_VERSION: return "the version in a header is wrong";
+    case THX_BAD_BLOCK: return "the store has no such block";
+    case THX_BAD_SLOT: return "the slot is not sound";
+    case THX_BAD_PAYLOAD: return "the payload is not sound";
+    case THX_NO_FULL_PAGE: return "the full area has no place for the block";
+    case THX_SHORT_BUFFER: return "the payload or map buffer is too short";
+    case THX_STRAY_PAGE: return "the full area holds a page that no slot refers to";
+    case THX_BAD_PAIR: return "a pair of the map is wrong";
+    default: return "no number of this library";
+    }
+}
+
+/* What to do then: the table ON REFUSAL N, DO THIS, which says more, in a line each. */
+static inline const char *thx_refusal_advice(uint32_t number) {
+    switch (number) {
+    case THX_DONE: return "nothing is to be done";
+    case THX_BAD_PAGE_LENGTH:
+        return "lend a page of 8,192 bytes, a base of 8,192, or of 0 past the base file's end";
+    case THX_BAD_AREA_LENGTH:
+        return "see what is lent: another file, areas exchanged, m over n; else restore it";
+    case THX_BAD_HEADER:
+        return "lend the right file, or restore it; format it only if it is new";
+    case THX_BAD_VERSION:
+        return "use the software that wrote this version, or restore the area";
+    case THX_BAD_BLOCK:
+        return "mend the number, or append slots of zeros; if the area lost its end, restore";
+    case THX_BAD_SLOT:
+        return "carrying out: mend the kind; a map that missed a write: build it; else restore";
+    case THX_BAD_PAYLOAD:
+        return "carrying out, apply: lend Compare's payload alone; else restore, or write again";
+    case THX_NO_FULL_PAGE:
+        return "carrying out: append places of zeros; another store's map: build it; else restore";
+    case THX_SHORT_BUFFER:
+        return "lend a longer buffer: 504 bytes for a payload, n / 4 rounded up for a map";
+    case THX_STRAY_PAGE:
+        return "after a known stop sweep, then build; else restore, and do not sweep";
+    case THX_BAD_PAIR: return "build the map anew";
+    default: return "take the header and the archive from one tree";
+    }
+}
+
 typedef struct { uint32_t number; } thx_done;
 typedef struct { uint32_t number, kind, length, entries; int32_t last; } thx_compared;
 typedef struct { uint32_t number, entries; int32_t last; uint32_t offset; } thx_applied;
@@ -398,6 +554,7 @@ typedef struct { uint32_t number; uint64_t blocks; } thx_extent; /* the highest 
  * Writes: every byte of both areas, the headers and then zeros. Pass full_len 0 for a store without
  * a full area.
  */
+THX_MUST_USE
 thx_done thx_format(uint8_t *patch, size_t patch_len, uint8_t *full, size_t full_len);
 
 /*
@@ -416,6 +573,7 @@ thx_done thx_format(uint8_t *patch, size_t patch_len, uint8_t *full, size_t full
  *          last    the last position that differs, -1 if there is none.
  * If it is refused, nothing is decided: kind 0 does not mean SAME then.
  */
+THX_MUST_USE
 thx_compared thx_compare(const uint8_t *base, size_t base_len, const uint8_t *page, size_t page_len,
                          uint8_t *payload, size_t payload_len);
 
@@ -429,6 +587,7 @@ thx_compared thx_compare(const uint8_t *base, size_t base_len, const uint8_t *pa
  *          last    the position of the last one;
  *          offset  with 7, where the payload breaks; else 0.
  */
+THX_MUST_USE
 thx_applied thx_apply(const uint8_t *base, size_t base_len, const uint8_t *payload,
                       size_t payload_len, uint8_t *page, size_t page_len);
 
@@ -464,6 +623,7 @@ thx_applied thx_apply(const uint8_t *base, size_t base_len, const uint8_t *paylo
  *   else
  *       printf("stopped at offset %u\n", (unsigned)e.at);
  */
+THX_MUST_USE
 thx_entry thx_next(const uint8_t *payload, size_t payload_len, uint64_t at, int32_t position);
 
 /*
@@ -473,6 +633,7 @@ thx_entry thx_next(const uint8_t *payload, size_t payload_len, uint64_t at, int3
  * Writes: nothing.
  * Answers: kind, and the payload length for THX_KIND_PATCH (0 for the others).
  */
+THX_MUST_USE
 thx_judged thx_judge(const uint8_t *slot, size_t slot_len);
 
 /*
@@ -483,6 +644,7 @@ thx_judged thx_judge(const uint8_t *slot, size_t slot_len);
  * Writes: nothing.
  * Answers: the payload is patch[at] to patch[at + len - 1].
  */
+THX_MUST_USE
 thx_part thx_show(const uint8_t *patch, size_t patch_len, uint64_t block);
 
 /*
@@ -498,6 +660,7 @@ thx_part thx_show(const uint8_t *patch, size_t patch_len, uint64_t block);
  * Answers: kind    of the block's slot;
  *          offset  with 7, where the block's payload breaks; else 0.
  */
+THX_MUST_USE
 thx_reading thx_read(const uint8_t *patch, size_t patch_len, const uint8_t *full, size_t full_len,
                      uint64_t block, const uint8_t *base, size_t base_len, uint8_t *page,
                      size_t page_len);
@@ -525,6 +688,7 @@ thx_reading thx_read(const uint8_t *patch, size_t patch_len, const uint8_t *full
  *          length  of the payload for PATCH; 0 for EMPTY and FULL_REF, whatever was lent.
  *          Both are the same whatever `stores` is.
  */
+THX_MUST_USE
 thx_written thx_carry_out(uint8_t *patch, size_t patch_len, uint8_t *full, size_t full_len,
                           uint64_t block, uint32_t kind, const uint8_t *payload,
                           size_t payload_len, const uint8_t *page, size_t page_len,
@@ -545,6 +709,7 @@ thx_written thx_carry_out(uint8_t *patch, size_t patch_len, uint8_t *full, size_
  * them too. Told 0 or 1 the whole map stays.
  * Answers: kind and length, as in thx_carry_out.
  */
+THX_MUST_USE
 thx_written thx_carry_out_mapped(uint8_t *patch, size_t patch_len, uint8_t *full, size_t full_len,
                                  uint8_t *map, size_t map_len, uint64_t block, uint32_t kind,
                                  const uint8_t *payload, size_t payload_len, const uint8_t *page,
@@ -568,6 +733,7 @@ thx_written thx_carry_out_mapped(uint8_t *patch, size_t patch_len, uint8_t *full
  * Answers: kind    the one that the pair stands for: 0, 1 or 2 for pair 0, 2 or 1;
  *          offset  with 7, where the block's payload breaks; else 0.
  */
+THX_MUST_USE
 thx_reading thx_read_mapped(const uint8_t *patch, size_t patch_len, const uint8_t *full,
                             size_t full_len, const uint8_t *map, size_t map_len, uint64_t block,
                             const uint8_t *base, size_t base_len, uint8_t *page, size_t page_len);
@@ -583,6 +749,7 @@ thx_reading thx_read_mapped(const uint8_t *patch, size_t patch_len, const uint8_
  * their places in the full area. Nothing else: both headers and blocks below k keep every byte.
  * Answers: the number alone.
  */
+THX_MUST_USE
 thx_done thx_cut(uint8_t *patch, size_t patch_len, uint8_t *full, size_t full_len, uint64_t k);
 
 /*
@@ -598,6 +765,7 @@ thx_done thx_cut(uint8_t *patch, size_t patch_len, uint8_t *full, size_t full_le
  * among them too.
  * Answers: the number alone.
  */
+THX_MUST_USE
 thx_done thx_cut_mapped(uint8_t *patch, size_t patch_len, uint8_t *full, size_t full_len,
                         uint8_t *map, size_t map_len, uint64_t k);
 
@@ -611,6 +779,7 @@ thx_done thx_cut_mapped(uint8_t *patch, size_t patch_len, uint8_t *full, size_t 
  * Writes: nothing.
  * Answers: blocks, one more than the highest block whose slot is not EMPTY; 0 if all are EMPTY.
  */
+THX_MUST_USE
 thx_extent thx_highest(const uint8_t *patch, size_t patch_len);
 
 /*
@@ -627,6 +796,7 @@ thx_extent thx_highest(const uint8_t *patch, size_t patch_len);
  * changes, nor does it when swept again.
  * Answers: the number alone; no block is named.
  */
+THX_MUST_USE
 thx_done thx_sweep(const uint8_t *patch, size_t patch_len, uint8_t *full, size_t full_len);
 
 /*
@@ -643,6 +813,7 @@ thx_done thx_sweep(const uint8_t *patch, size_t patch_len, uint8_t *full, size_t
  * Answers: block   the block at fault with 6, 7, 8 and 10, else 0;
  *          offset  with 7, where the payload of that block breaks; else 0.
  */
+THX_MUST_USE
 thx_built thx_build(const uint8_t *patch, size_t patch_len, const uint8_t *full, size_t full_len,
                     uint8_t *map, size_t map_len);
 
@@ -654,6 +825,7 @@ thx_built thx_build(const uint8_t *patch, size_t patch_len, const uint8_t *full,
  * Writes: nothing.
  * Answers: pair, one of THX_PAIR_EMPTY, THX_PAIR_FULL and THX_PAIR_PATCH.
  */
+THX_MUST_USE
 thx_pair thx_look_up(const uint8_t *map, size_t map_len, uint64_t n, uint64_t block);
 
 /*
@@ -665,6 +837,7 @@ thx_pair thx_look_up(const uint8_t *map, size_t map_len, uint64_t n, uint64_t bl
  * Writes: nothing.
  * Answers: patch, the number of PATCH pairs; full, the number of full pairs.
  */
+THX_MUST_USE
 thx_tallied thx_tally(const uint8_t *map, size_t map_len, uint64_t n);
 
 #ifdef __cplusplus

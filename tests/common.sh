@@ -15,8 +15,13 @@
 #
 # and the variables by which cargo builds for the target and runs the result.
 
-ROOT=$(cd "$(dirname "$0")/.." && pwd)
+ROOT=$(cd "$(dirname "$(readlink -f "$0")")/.." && pwd)
 : "${THX_LIB_DIR:=}"
+# The scripts do not stay where they were started.
+case $THX_LIB_DIR in
+    '' | /*) ;;
+    *) THX_LIB_DIR=$PWD/$THX_LIB_DIR ;;
+esac
 
 case $(uname -m) in
     x86_64 | amd64) MACHINE=x86-64 ;;

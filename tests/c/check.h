@@ -86,8 +86,8 @@ thx_written write_by_pair(const store *to, uint64_t block, const uint8_t *base, 
                           const uint8_t *page, size_t page_len);
 
 /*
- * refusals.c, lengths.c, payloads.c, maps.c, tally.c, cuts.c, decisions.c, stops.c and sweeps.c:
- * tests.
+ * refusals.c, lengths.c, payloads.c, maps.c, tally.c, cuts.c, decisions.c, stops.c, sweeps.c,
+ * advice.c and files.c: tests.
  */
 void every_refusal(void);
 void every_fault_left(void);
@@ -102,5 +102,7 @@ void every_highest(void);
 void every_decision(void);
 void every_stop(void);
 void every_sweep(void);
+void every_advice(void);
+void every_file(void);
 
 #endif

@@ -447,6 +447,8 @@ int main(void) {
         every_decision();
         every_stop();
         every_sweep();
+        every_advice();
+        every_file();
     }
     printf("%lu checks, %lu failed\n", checks, failures);
     return failures == 0 ? EXIT_SUCCESS : EXIT_FAILURE;
