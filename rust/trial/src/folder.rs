@@ -7,17 +7,35 @@ use std::path::{Path, PathBuf};
 
 use thonxiliko::PAGE_SIZE;
 
-use crate::Outcome;
+use crate::problem::{At, Outcome, Problem};
+use crate::spelled::spelled;
 
 /// The paths below a folder, relative to it, in order.
 #[derive(Default)]
 pub struct Listing {
     pub files: BTreeSet<PathBuf>,
     pub folders: BTreeSet<PathBuf>,
+    /// Neither files nor folders: links, sockets and the like.
+    pub others: BTreeSet<PathBuf>,
 }
 
 impl Listing {
+    /// All that is below a folder. A tablespace or a log elsewhere would silently be left out, so what is
+    /// neither file nor folder is refused.
     pub fn of(root: &Path) -> Outcome<Listing> {
+        let listing = Listing::with_others(root)?;
+        match listing.others.iter().next() {
+            Some(path) => {
+                let problem =
+                    "this is neither file nor folder: put the file or folder in its place";
+                Err(Problem::not_done(problem).of(&root.join(path)))
+            }
+            None => Ok(listing),
+        }
+    }
+
+    pub fn with_others(root: &Path) -> Outcome<Listing> {
+        must_be_folder(root)?;
         let mut listing = Listing::default();
         listing.add(root, Path::new(""))?;
         Ok(listing)
@@ -25,20 +43,17 @@ impl Listing {
 
     fn add(&mut self, root: &Path, below: &Path) -> Outcome<()> {
         let folder = root.join(below);
-        let entries =
-            fs::read_dir(&folder).map_err(|error| format!("{}: {error}", folder.display()))?;
-        for entry in entries {
-            let entry = entry?;
+        for entry in fs::read_dir(&folder).at(&folder)? {
+            let entry = entry.at(&folder)?;
             let path = below.join(entry.file_name());
-            let kind = entry.file_type()?;
+            let kind = entry.file_type().at(&root.join(&path))?;
             if kind.is_dir() {
                 self.folders.insert(path.clone());
                 self.add(root, &path)?;
             } else if kind.is_file() {
                 self.files.insert(path);
             } else {
-                // A tablespace or a log elsewhere would silently be left out.
-                return Err(format!("{} is neither file nor folder", path.display()).into());
+                self.others.insert(path);
             }
         }
         Ok(())
@@ -85,7 +100,10 @@ fn is_number(text: &str) -> bool {
 
 /// A file of whole pages, read one page at a time. A file that is not there has none.
 pub struct Pages {
+    path: PathBuf,
     file: Option<BufReader<File>>,
+    /// The next page.
+    at: u64,
     pub count: u64,
 }
 
@@ -94,34 +112,28 @@ impl Pages {
         let file = match File::open(path) {
             Ok(file) => file,
             Err(error) if error.kind() == ErrorKind::NotFound => {
-                return Ok(Pages { file: None, count: 0 });
+                return Ok(Pages { path: path.to_path_buf(), file: None, at: 0, count: 0 });
             }
-            Err(error) => return Err(format!("{}: {error}", path.display()).into()),
+            Err(error) => return Err(error).at(path),
         };
-        let length = file.metadata()?.len();
+        let length = file.metadata().at(path)?.len();
         if length % PAGE_SIZE as u64 != 0 {
-            return Err(format!("{}: {length} bytes are no whole pages", path.display()).into());
+            let problem =
+                format!("{length} bytes are no whole pages: stop the server, copy it anew");
+            return Err(Problem::not_done(problem).of(path));
         }
-        let count = length / PAGE_SIZE as u64;
-        Ok(Pages { file: Some(BufReader::with_capacity(1 << 20, file)), count })
+        let (count, path) = (length / PAGE_SIZE as u64, path.to_path_buf());
+        Ok(Pages { path, file: Some(BufReader::with_capacity(1 << 20, file)), at: 0, count })
     }
 
-    /// The next page; an empty one past the end, which the library takes for a base of zeros.
+    /// The next page; an empty one past the end, which the library takes for a base of zeros. All the
+    /// pages that the file had when it was opened must be there.
     pub fn next_page(&mut self, page: &mut Vec<u8>) -> Outcome<()> {
-        page.resize(PAGE_SIZE, 0);
-        let mut filled = 0;
-        if let Some(file) = &mut self.file {
-            while filled < PAGE_SIZE {
-                match file.read(&mut page[filled..])? {
-                    0 => break,
-                    read => filled += read,
-                }
-            }
-        }
-        match filled {
-            0 => page.clear(),
-            PAGE_SIZE => {}
-            _ => return Err("a file became shorter while it was read".into()),
+        page.clear();
+        if let (Some(file), true) = (&mut self.file, self.at < self.count) {
+            page.resize(PAGE_SIZE, 0);
+            file.read_exact(page).at(&self.path)?;
+            self.at += 1;
         }
         Ok(())
     }
@@ -132,7 +144,8 @@ pub fn page_of(path: &Path, number: u64) -> Outcome<Vec<u8>> {
     let mut pages = Pages::open(path)?;
     let mut page = Vec::new();
     if let (Some(file), true) = (&mut pages.file, number < pages.count) {
-        file.seek(SeekFrom::Start(number * PAGE_SIZE as u64))?;
+        file.seek(SeekFrom::Start(number * PAGE_SIZE as u64)).at(path)?;
+        pages.at = number;
         pages.next_page(&mut page)?;
     }
     Ok(page)
@@ -142,8 +155,9 @@ pub fn page_of(path: &Path, number: u64) -> Outcome<Vec<u8>> {
 pub fn page_there(path: &Path, number: u64) -> Outcome<Vec<u8>> {
     let page = page_of(path, number)?;
     if page.is_empty() {
-        let path = path.display();
-        return Err(format!("{path}: the file is not there, or has no page {number}").into());
+        let problem =
+            format!("the file is not there, or has no page {number}: give one that has it");
+        return Err(Problem::not_done(problem).of(path));
     }
     Ok(page)
 }
@@ -151,25 +165,31 @@ pub fn page_there(path: &Path, number: u64) -> Outcome<Vec<u8>> {
 /// Refuses what is no folder: every file of it would be taken for one that is not there.
 pub fn must_be_folder(folder: &Path) -> Outcome<()> {
     if !folder.is_dir() {
-        return Err(format!("{}: this is no folder", folder.display()).into());
+        return Err(
+            Problem::not_done("this is no folder: see whether the name is right").of(folder)
+        );
     }
     Ok(())
 }
 
 pub fn same_bytes(one: &Path, other: &Path) -> Outcome<bool> {
-    if fs::metadata(one)?.len() != fs::metadata(other)?.len() {
+    let open = |path: &Path| -> Outcome<(BufReader<File>, u64)> {
+        let file = File::open(path).at(path)?;
+        let length = file.metadata().at(path)?.len();
+        Ok((BufReader::with_capacity(1 << 20, file), length))
+    };
+    let ((mut left, length), (mut right, other_length)) = (open(one)?, open(other)?);
+    if length != other_length {
         return Ok(false);
     }
-    let mut one = BufReader::with_capacity(1 << 20, File::open(one)?);
-    let mut other = BufReader::with_capacity(1 << 20, File::open(other)?);
-    let (mut left, mut right) = (vec![0; 1 << 16], vec![0; 1 << 16]);
+    let (mut ours, mut theirs) = (vec![0; 1 << 16], vec![0; 1 << 16]);
     loop {
-        let read = one.read(&mut left)?;
+        let read = left.read(&mut ours).at(one)?;
         if read == 0 {
             return Ok(true);
         }
-        other.read_exact(&mut right[..read])?;
-        if left[..read] != right[..read] {
+        right.read_exact(&mut theirs[..read]).at(other)?;
+        if ours[..read] != theirs[..read] {
             return Ok(false);
         }
     }
@@ -178,26 +198,57 @@ pub fn same_bytes(one: &Path, other: &Path) -> Outcome<bool> {
 /// Refuses a folder that has anything in it: a file that is not written again there would be taken for
 /// today's.
 pub fn must_be_empty(folder: &Path) -> Outcome<()> {
-    if folder.exists() && fs::read_dir(folder)?.next().is_some() {
-        return Err(format!("{}: the folder is not empty", folder.display()).into());
+    let mut entries = match fs::read_dir(folder) {
+        Err(error) if error.kind() == ErrorKind::NotFound => return Ok(()),
+        entries => entries.at(folder)?,
+    };
+    if entries.next().is_some() {
+        let problem = "the folder is not empty: give a new one, or one with nothing in it";
+        return Err(Problem::not_done(problem).of(folder));
     }
     Ok(())
 }
 
-/// Makes a folder with the permissions of another; PostgreSQL starts only on a private one.
-pub fn make_like(folder: &Path, model: &Path) -> Outcome<()> {
-    fs::create_dir_all(folder)?;
-    fs::set_permissions(folder, fs::metadata(model)?.permissions())?;
-    Ok(())
+/// Gives a file or folder the permissions of another; PostgreSQL starts only on a private folder.
+pub fn permit_like(path: &Path, model: &Path) -> Outcome<()> {
+    let permissions = fs::metadata(model).at(model)?.permissions();
+    fs::set_permissions(path, permissions).at(path)
+}
+
+/// Makes the folder of a file, if need be.
+pub fn make_parent(path: &Path) -> Outcome<()> {
+    path.parent().map_or(Ok(()), |parent| fs::create_dir_all(parent).at(parent))
+}
+
+/// The folder in which a file or folder is.
+pub fn parent_of(path: &Path) -> &Path {
+    match path.parent() {
+        Some(parent) if parent.as_os_str().is_empty() => Path::new("."),
+        Some(parent) => parent,
+        None => path,
+    }
 }
 
 /// Copies a file, its folder being made if need be.
 pub fn copy(from: &Path, to: &Path) -> Outcome<()> {
-    if let Some(parent) = to.parent() {
-        fs::create_dir_all(parent)?;
-    }
-    fs::copy(from, to).map_err(|error| format!("{}: {error}", from.display()))?;
+    make_parent(to)?;
+    // The system's message is about either file.
+    fs::copy(from, to).at(to).at(from)?;
     Ok(())
+}
+
+/// Waits until a file or a folder is on disk, as far as the system tells.
+pub fn sync(path: &Path) -> Outcome<()> {
+    File::open(path).and_then(|file| file.sync_all()).at(path)
+}
+
+/// The same of a folder and all that is below it.
+pub fn sync_tree(root: &Path) -> Outcome<()> {
+    let listing = Listing::of(root)?;
+    for path in listing.files.union(&listing.folders) {
+        sync(&root.join(path))?;
+    }
+    sync(root)
 }
 
 pub struct Differences {
@@ -215,10 +266,10 @@ pub fn differences(one: &Path, other: &Path) -> Outcome<Differences> {
             _ if same_bytes(&one.join(path), &other.join(path))? => continue,
             _ => "other bytes",
         };
-        found.push(format!("{}: {what}", path.display()));
+        found.push(format!("{}: {what}", spelled(path)));
     }
     for path in left.folders.symmetric_difference(&right.folders) {
-        found.push(format!("{}: a folder in only one", path.display()));
+        found.push(format!("{}: a folder in only one", spelled(path)));
     }
     Ok(Differences { files: left.files.union(&right.files).count(), found })
 }

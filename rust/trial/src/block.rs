@@ -1,0 +1,114 @@
+//! One block of a kept segment, written or read. Each of these is one process of `examples/run`.
+
+use std::io::{self, Write};
+use std::path::Path;
+
+use mapped::end_now;
+use thonxiliko::{compare, Kind, Refusal, Stores, PAGE_SIZE, PAYLOAD_SIZE};
+
+use crate::areas::AreaFiles;
+use crate::folder::{page_of, page_there};
+use crate::held::Held;
+use crate::kept::Kept;
+use crate::problem::{advice, At, Outcome, Problem};
+use crate::spelled::spelled;
+
+/// A block of a segment, and where its store and its base are.
+#[derive(Clone, Copy)]
+pub struct Block<'p> {
+    pub base: &'p Path,
+    pub kept: &'p Path,
+    pub path: &'p Path,
+    pub number: u64,
+}
+
+impl Block<'_> {
+    /// The page in the base, which may have no such file or page.
+    fn base_page(&self) -> Outcome<Vec<u8>> {
+        page_of(&self.base.join(self.path), self.number)
+    }
+
+    /// A page of a file that must have it, unless it is the block's own in the base: zeros are that, too.
+    fn page_from(&self, from: &Path, page: u64) -> Outcome<Vec<u8>> {
+        if page != self.number || from != self.base.join(self.path) {
+            return page_there(from, page);
+        }
+        let mut page = self.base_page()?;
+        page.resize(PAGE_SIZE, 0);
+        Ok(page)
+    }
+
+    /// The base file and the areas are held against the manifest before anything is made of them.
+    fn held(&self, kept: &Kept) -> Outcome<Held> {
+        kept.segment(self.path)?;
+        kept.check_base_file(self.base, self.path)?;
+        let held = kept.held_as_listed(self.path)?;
+        if self.number >= held.blocks() {
+            let problem =
+                format!("the store has {} blocks: {}", held.blocks(), advice(Refusal::Block));
+            return Err(self.not_done(problem));
+        }
+        Ok(held)
+    }
+
+    fn not_done(&self, problem: String) -> Problem {
+        Problem::not_done(problem).of_block(self.number).of(self.path)
+    }
+
+    /// Writes a page of a file. The segment is live before the first store. Told fewer stores than all,
+    /// this process ends right after them, as it would if the machine tripped there.
+    pub fn write(&self, from: &Path, page: u64, stores: Stores) -> Outcome<()> {
+        let mut kept = Kept::to_write(self.kept)?;
+        let held = self.held(&kept)?;
+        let (base, page) = (self.base_page()?, self.page_from(from, page)?);
+        let mut payload = [0; PAYLOAD_SIZE];
+        let decision = compare(&base, &page, &mut payload)?;
+        let (holds, takes) = (held.kind(self.number).at(self.path)?, decision.kind());
+        if takes == Kind::Full && held.place(self.number).is_none() {
+            return Err(self.not_done(format!("{}", Refusal::NoFullPage)));
+        }
+        drop(held);
+        kept.mark_live(self.path)?;
+        let mut files = AreaFiles::open(&kept.area_paths(self.path))?;
+        let what = format!("{self}: held {}, takes {}", in_words(holds), in_words(takes));
+        if stores == Stores::All {
+            files.write_safely(self.number, &decision).at(self.path)?;
+            println!("{what}; written");
+            return Ok(());
+        }
+        files.carry_out(self.number, &decision, stores).at(self.path)?;
+        println!(
+            "{what}; stopped after {} of its stores, and the process with it",
+            stores.number()
+        );
+        // Said or not, it ends here.
+        let _ = io::stdout().flush();
+        end_now()
+    }
+
+    /// Reads the block by its slot into a file.
+    pub fn read(&self, to: &Path) -> Outcome<()> {
+        let kept = Kept::to_read(self.kept)?;
+        let held = self.held(&kept)?;
+        let mut page = vec![0; PAGE_SIZE];
+        let kind = held.read(self.number, &self.base_page()?, &mut page).at(self.path)?;
+        std::fs::write(to, page).at(to)?;
+        let live = if kept.segment(self.path)?.is_live() { "; the segment is live" } else { "" };
+        println!("{self}: holds {} and was read{live}", in_words(kind));
+        Ok(())
+    }
+}
+
+impl std::fmt::Display for Block<'_> {
+    fn fmt(&self, f: &mut std::fmt::Formatter<'_>) -> std::fmt::Result {
+        write!(f, "{}, block {}", spelled(self.path), self.number)
+    }
+}
+
+fn in_words(kind: Kind) -> &'static str {
+    match kind {
+        Kind::Empty => "nothing",
+        Kind::Patch => "a patch",
+        Kind::Full => "a full page",
+    }
+}
