@@ -25,6 +25,7 @@ extern "C" {
     fn munmap(addr: *mut c_void, length: usize) -> c_int;
     fn raise(signal: c_int) -> c_int;
     fn isatty(fd: c_int) -> c_int;
+    fn signal(signal: c_int, handler: usize) -> usize;
 }
 
 // The values of Linux on x86-64 and aarch64.
@@ -36,6 +37,9 @@ const LOCK_SH: c_int = 1;
 const LOCK_EX: c_int = 2;
 const LOCK_NB: c_int = 4;
 const LOCK_UN: c_int = 8;
+
+const SIGPIPE: c_int = 13;
+const SIG_DFL: usize = 0;
 
 /// The signal that no process can catch or put off.
 pub const SIGKILL: c_int = 9;
@@ -212,6 +216,12 @@ impl View {
 pub fn errors_are_on_a_terminal() -> bool {
     // SAFETY: any number may be asked about.
     unsafe { isatty(io::stderr().as_raw_fd()) == 1 }
+}
+
+/// From now on this process ends quietly where nobody reads on what it prints, as others do.
+pub fn end_with_the_reader() {
+    // SAFETY: the system's own handler takes the place of the runtime's.
+    unsafe { signal(SIGPIPE, SIG_DFL) };
 }
 
 /// Ends this process on the spot, as a kill from elsewhere would: nothing is flushed, dropped or undone.

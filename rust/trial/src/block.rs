@@ -7,7 +7,8 @@ use mapped::end_now;
 use thonxiliko::{compare, Kind, Refusal, Stores, PAGE_SIZE, PAYLOAD_SIZE};
 
 use crate::areas::AreaFiles;
-use crate::folder::{page_of, page_there};
+use crate::folder::{must_be_outside, page_of, page_there};
+use crate::grow::give_place;
 use crate::held::Held;
 use crate::kept::Kept;
 use crate::problem::{advice, At, Outcome, Problem};
@@ -64,12 +65,15 @@ impl Block<'_> {
         let mut payload = [0; PAYLOAD_SIZE];
         let decision = compare(&base, &page, &mut payload)?;
         let (holds, takes) = (held.kind(self.number).at(self.path)?, decision.kind());
-        if takes == Kind::Full && held.place(self.number).is_none() {
-            return Err(self.not_done(format!("{}", Refusal::NoFullPage)));
-        }
+        let no_place = held.place(self.number).is_none();
         drop(held);
         kept.mark_live(self.path)?;
-        let mut files = AreaFiles::open(&kept.area_paths(self.path))?;
+        let paths = kept.area_paths(self.path);
+        if takes == Kind::Full && no_place {
+            // Carried out as it is, it would be refused with 8.
+            give_place(&paths.1, self.number)?;
+        }
+        let mut files = AreaFiles::open(&paths)?;
         let what = format!("{self}: held {}, takes {}", in_words(holds), in_words(takes));
         if stores == Stores::All {
             files.write_safely(self.number, &decision).at(self.path)?;
@@ -90,6 +94,8 @@ impl Block<'_> {
     pub fn read(&self, to: &Path) -> Outcome<()> {
         let kept = Kept::to_read(self.kept)?;
         let held = self.held(&kept)?;
+        must_be_outside(to, self.base)?;
+        must_be_outside(to, self.kept)?;
         let mut page = vec![0; PAGE_SIZE];
         let kind = held.read(self.number, &self.base_page()?, &mut page).at(self.path)?;
         std::fs::write(to, page).at(to)?;

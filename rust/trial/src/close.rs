@@ -24,7 +24,11 @@ pub fn close(folder: &Path, progress: &mut Progress) -> Outcome<u8> {
         return Ok(status);
     }
     let live: Vec<_> = kept.manifest.live().cloned().collect();
-    progress.start("checksums", Unit::Bytes, 0);
+    let mut bytes = 0;
+    for path in &live {
+        bytes += kept.held(path)?.bytes();
+    }
+    progress.start("checksums", Unit::Bytes, bytes);
     for path in &live {
         let segment = closed(&kept, path, progress)?;
         println!("{}: closed", spelled(path));

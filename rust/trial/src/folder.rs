@@ -209,6 +209,21 @@ pub fn must_be_empty(folder: &Path) -> Outcome<()> {
     Ok(())
 }
 
+/// Refuses what is within a folder: what is made there would change that folder.
+pub fn must_be_outside(path: &Path, folder: &Path) -> Outcome<()> {
+    must_be_folder(folder)?;
+    let folder = fs::canonicalize(folder).at(folder)?;
+    let here =
+        |part: &Path| if part.as_os_str().is_empty() { ".".into() } else { part.to_path_buf() };
+    let mut parts = path.ancestors().map(here);
+    let there = parts.find_map(|part| fs::canonicalize(part).ok());
+    if there.map_or(false, |there| there.starts_with(&folder)) {
+        let problem = format!("this is within {}: give one outside", spelled(&folder));
+        return Err(Problem::not_done(problem).of(path));
+    }
+    Ok(())
+}
+
 /// Gives a file or folder the permissions of another; PostgreSQL starts only on a private folder.
 pub fn permit_like(path: &Path, model: &Path) -> Outcome<()> {
     let permissions = fs::metadata(model).at(model)?.permissions();

@@ -89,6 +89,11 @@ impl Held {
         self.full.view.as_ref().map(|_| pages as u64)
     }
 
+    /// How many bytes both files have.
+    pub fn bytes(&self) -> u64 {
+        (self.patch().len() + self.full().len()) as u64
+    }
+
     /// What is not as the manifest says: files, lengths and, where the segment is closed, checksums.
     pub fn faults(&self, segment: &Segment, progress: &mut Progress) -> Vec<Problem> {
         let mut faults = self.length_faults(segment);

@@ -11,13 +11,14 @@ use std::path::{Path, PathBuf};
 use mapped::Lock;
 
 use crate::folder::must_be_folder;
+use crate::grow::new_name;
 use crate::held::Held;
 use crate::manifest::{Manifest, Segment, NEW_NAME};
 use crate::problem::{At, Outcome, Problem};
 use crate::progress::Progress;
 
 /// A path with another ending put behind the whole name.
-fn with_suffix(path: &Path, suffix: &str) -> PathBuf {
+pub fn with_suffix(path: &Path, suffix: &str) -> PathBuf {
     let mut name = path.as_os_str().to_os_string();
     name.push(suffix);
     PathBuf::from(name)
@@ -62,13 +63,21 @@ impl Kept {
     /// To be written to, alone.
     pub fn to_write(folder: &Path) -> Outcome<Kept> {
         let lock = lock(folder, true)?;
-        let manifest = Manifest::load(folder)?;
-        // Left where writing it was stopped; nobody reads it.
-        let new = folder.join(NEW_NAME);
-        match fs::remove_file(&new) {
-            Err(error) if error.kind() != ErrorKind::NotFound => return Err(error).at(&new),
-            _ => Ok(Kept { folder: folder.into(), manifest, _lock: lock }),
+        let kept = Kept { folder: folder.into(), manifest: Manifest::load(folder)?, _lock: lock };
+        kept.remove_half_made()?;
+        Ok(kept)
+    }
+
+    /// Removes files that a stop has left before they got their names. Nobody reads them.
+    fn remove_half_made(&self) -> Outcome<()> {
+        let areas = self.manifest.live().map(|path| new_name(&self.area_paths(path).1));
+        for path in areas.chain([self.folder.join(NEW_NAME)]) {
+            match fs::remove_file(&path) {
+                Err(error) if error.kind() != ErrorKind::NotFound => return Err(error).at(&path),
+                _ => {}
+            }
         }
+        Ok(())
     }
 
     /// The segment of a file, which must have one.

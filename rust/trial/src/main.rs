@@ -11,6 +11,7 @@ mod check;
 mod close;
 mod decided;
 mod folder;
+mod grow;
 mod held;
 mod info;
 mod kept;
@@ -47,6 +48,7 @@ fn run() -> problem::Outcome<u8> {
 }
 
 fn main() -> ExitCode {
+    mapped::end_with_the_reader();
     match run() {
         Ok(status) => ExitCode::from(status),
         Err(problem) => {

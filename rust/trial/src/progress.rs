@@ -1,8 +1,12 @@
-//! A line that says how far the work is.
+//! A line that says how far long work is.
 
 use std::io::{self, Write};
+use std::time::{Duration, Instant};
 
 use mapped::errors_are_on_a_terminal;
+
+/// Work that takes no longer goes without a line.
+const LONG: Duration = Duration::from_secs(1);
 
 /// What is counted.
 #[derive(Clone, Copy, Debug, PartialEq, Eq)]
@@ -27,7 +31,9 @@ pub struct Progress {
     unit: Unit,
     total: u64,
     done: u64,
-    shown: u64,
+    /// When the work was started, and the percent that the line has.
+    since: Instant,
+    shown: Option<u64>,
 }
 
 impl Progress {
@@ -42,12 +48,12 @@ impl Progress {
     }
 
     fn by(way: Way) -> Progress {
-        Progress { way, doing: "", unit: Unit::Blocks, total: 0, done: 0, shown: 0 }
+        let (unit, since) = (Unit::Blocks, Instant::now());
+        Progress { way, doing: "", unit, total: 0, done: 0, since, shown: None }
     }
 
     pub fn start(&mut self, doing: &'static str, unit: Unit, total: u64) {
         *self = Progress { doing, unit, total, ..Progress::by(self.way) };
-        self.show();
     }
 
     /// One more block is done.
@@ -58,27 +64,26 @@ impl Progress {
     pub fn add(&mut self, more: u64) {
         self.done += more;
         let step = if self.way == Way::Over { 1 } else { 25 };
-        if self.percent() >= self.shown + step {
-            self.shown = self.percent();
+        let percent = self.percent();
+        if percent >= self.shown.unwrap_or(0) + step && self.since.elapsed() >= LONG {
+            self.shown = Some(percent);
             self.show();
         }
     }
 
     pub fn done(&mut self) {
-        if self.way == Way::Over && !self.doing.is_empty() {
+        if self.way == Way::Over && self.shown.is_some() {
             eprintln!();
         }
         *self = Progress::by(self.way);
     }
 
     fn percent(&self) -> u64 {
+        // What was not started has no line.
         100 * self.done.min(self.total) / self.total.max(1)
     }
 
     fn show(&self) {
-        if self.doing.is_empty() {
-            return;
-        }
         let of = match self.unit {
             Unit::Blocks => format!("{} blocks", self.total),
             Unit::Bytes => format!("{:.1} MiB", self.total as f64 / 1_048_576.0),

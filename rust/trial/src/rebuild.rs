@@ -9,7 +9,8 @@ use thonxiliko::PAGE_SIZE;
 
 use crate::check;
 use crate::folder::{
-    copy, make_parent, must_be_empty, parent_of, permit_like, sync, sync_tree, Pages,
+    copy, make_parent, must_be_empty, must_be_outside, parent_of, permit_like, sync, sync_tree,
+    Pages,
 };
 use crate::held::Held;
 use crate::kept::{whole_path, Kept};
@@ -56,6 +57,8 @@ impl Drop for Making {
 /// was kept is looked at. Gives the exit status.
 pub fn rebuild(base: &Path, folder: &Path, to: &Path, progress: &mut Progress) -> Outcome<u8> {
     must_be_empty(to)?;
+    must_be_outside(to, base)?;
+    must_be_outside(to, folder)?;
     let kept = Kept::to_read(folder)?;
     if let Some(path) = kept.manifest.live().next() {
         let problem =

@@ -34,7 +34,7 @@ pub fn unspelled(text: &str) -> Option<PathBuf> {
         return None;
     }
     let path = PathBuf::from(OsString::from_vec(bytes));
-    (spelled(&path) == text).then(|| path)
+    (spelled(&path) == text).then_some(path)
 }
 
 fn digit(byte: u8) -> Option<u8> {

@@ -3,7 +3,7 @@
 use std::path::Path;
 
 use crate::block::Block;
-use crate::folder::must_be_empty;
+use crate::folder::{must_be_empty, must_be_outside};
 use crate::problem::Outcome;
 use crate::progress::Progress;
 use crate::store::{base_sums, store, Folders};
@@ -227,6 +227,9 @@ fn run_store(words: &Words) -> Outcome<u8> {
     let folders = Folders { base: words.path(0), noon, changed: words.path(1) };
     let (kept, names, mut progress) = (words.path(2), words.names()?, Progress::new());
     must_be_empty(kept)?;
+    for folder in [Some(folders.base), noon, Some(folders.changed)].into_iter().flatten() {
+        must_be_outside(kept, folder)?;
+    }
     let base = base_sums(folders.base, &mut progress)?;
     let decided = folders.decide(&mut progress)?;
     table::print_would_take(&decided);

@@ -295,3 +295,46 @@ fn a_manifest_that_was_being_written_is_cleared_up() {
     place.run("close kept").must(0, &[]);
     place.run("check base kept").must(0, &[]);
 }
+
+/// A full page on a block that has no place for it: the full area is made, or becomes longer. What is
+/// there then is what would have been stored.
+#[test]
+fn a_full_area_grows() {
+    let place = Place::with_folders("grow");
+    place.put("base/base/1/18", &pages(4, &[]));
+    place.put("new/base/1/18", &pages(4, &[(0, 300), (3, 9)]));
+    place.store("kept").must(0, &[]);
+    place.put("new/base/1/18", &pages(4, &[(0, 300), (2, 300), (3, 9)]));
+    place.put("new/base/1/12", &pages(3, &[(0, 5), (1, 300)]));
+    place.store("wanted").must(0, &[]);
+    for (file, block) in [("18", 2), ("12", 1)] {
+        let line = format!("write base kept =base/1/{file} ={block} new/base/1/{file} ={block}");
+        place.run(&line).must(0, &["held nothing, takes a full page; written"]);
+        place.run("check base kept").must(0, &["live"]);
+    }
+    // What a stop leaves of an area that was being made is in nobody's way.
+    place.put("kept/pages/base/1/12.full.new", b"");
+    place.run("close kept").must(0, &["2 segments closed"]);
+    place.run("check base kept").must(0, &[]);
+    place.run("compare kept wanted").must(0, &["0 differ"]);
+    place.run("rebuild base kept again").must(0, &[]);
+    place.run("compare new again").must(0, &[]);
+}
+
+/// Nothing is made within a folder that must stay as it is.
+#[test]
+fn folders_within_others_are_refused() {
+    let place = Place::stored("within");
+    let before = [place.files("base"), place.files("new"), place.files("kept")];
+    for kept in ["base/kept", "new/kept", "new/base/more/kept"] {
+        place.store(kept).must(2, &["/kept: this is within "]);
+    }
+    for folder in ["base/again", "kept/again", "kept/pages/again"] {
+        place.run(&format!("rebuild base kept {folder}")).must(2, &["/again: this is within "]);
+    }
+    for to in ["base/base/1/11", "kept/to"] {
+        let line = format!("read base kept =base/1/11 =1 {to}");
+        place.run(&line).must(2, &[&format!("{to}: this is within ")]);
+    }
+    assert!([place.files("base"), place.files("new"), place.files("kept")] == before);
+}

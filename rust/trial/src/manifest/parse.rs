@@ -68,8 +68,8 @@ fn record(manifest: &mut Manifest, line: &str) -> Option<()> {
         ["segment", blocks, places, patch, full, path] => {
             put(&mut manifest.segments, path, segment(blocks, places, patch, full)?)
         }
-        ["gone", path] => manifest.gone.insert(unspelled(path)?).then(|| ()),
-        ["folder", path] => manifest.folders.insert(unspelled(path)?).then(|| ()),
+        ["gone", path] => manifest.gone.insert(unspelled(path)?).then_some(()),
+        ["folder", path] => manifest.folders.insert(unspelled(path)?).then_some(()),
         _ => None,
     }
 }
@@ -101,13 +101,13 @@ fn segment(blocks: &str, places: &str, patch: &str, full: &str) -> Option<Segmen
     };
     let full_fits = sums.map_or(true, |sums| sums.full.is_some() == places.is_some());
     let sound = blocks <= MAX_BLOCKS && places.unwrap_or(0) <= blocks && full_fits;
-    sound.then(|| Segment { blocks, places, sums })
+    sound.then_some(Segment { blocks, places, sums })
 }
 
 /// Digits alone, and no zero before them.
 fn number(text: &str) -> Option<u64> {
     let number: u64 = text.parse().ok()?;
-    (number.to_string() == text).then(|| number)
+    (number.to_string() == text).then_some(number)
 }
 
 /// A file comes from one place, and only what the base has can be gone.
