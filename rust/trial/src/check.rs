@@ -3,13 +3,14 @@
 use std::collections::BTreeSet;
 use std::path::{Path, PathBuf};
 
-use thonxiliko::{full_area_len, patch_area_len};
+use thonxiliko::{full_area_len, patch_area_len, BuildRefusal};
 
 use crate::folder::{must_be_folder, Listing};
 use crate::kept::{area_paths, beyond_base, whole_path, Kept};
 use crate::manifest::{Segment, NAME, NEW_NAME};
 use crate::problem::{Outcome, Problem, Sort, NOT_AS_CLOSED};
 use crate::progress::{Progress, Unit};
+use crate::spelled::spelled;
 
 /// All problems that are found. None of them ends the search.
 pub fn everything(base: &Path, kept: &Kept, progress: &mut Progress) -> Outcome<Vec<Problem>> {
@@ -37,7 +38,7 @@ pub fn report(problems: &[Problem]) -> u8 {
     match (problems.len(), faults) {
         (0, _) => 0,
         (all, 0) => {
-            eprintln!("trial: {all} things could not be checked, no faults found in the rest");
+            eprintln!("trial: could not be checked: {all}; no faults found in the rest");
             2
         }
         (all, _) => {
@@ -94,7 +95,7 @@ pub fn segment_problems(
 }
 
 /// What Build found. Of a closed segment it says nothing about a stop: no write was under way.
-pub fn build_fault(refusal: thonxiliko::BuildRefusal, path: &Path, segment: &Segment) -> Problem {
+pub fn build_fault(refusal: BuildRefusal, path: &Path, segment: &Segment) -> Problem {
     if segment.is_live() {
         return Problem::from(refusal).of(path);
     }
@@ -142,7 +143,7 @@ pub fn check(base: &Path, folder: &Path, progress: &mut Progress) -> Outcome<u8>
     let problems = everything(base, &kept, progress)?;
     let manifest = &kept.manifest;
     for path in manifest.live() {
-        println!("{}: live, without a checksum until `trial close`", crate::spelled::spelled(path));
+        println!("{}: live, without a checksum until `trial close`", spelled(path));
     }
     let status = report(&problems);
     if status == 0 {

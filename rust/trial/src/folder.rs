@@ -3,6 +3,7 @@
 use std::collections::BTreeSet;
 use std::fs::{self, File};
 use std::io::{BufReader, ErrorKind, Read, Seek, SeekFrom};
+use std::os::unix::fs::DirBuilderExt;
 use std::path::{Path, PathBuf};
 
 use thonxiliko::PAGE_SIZE;
@@ -232,7 +233,14 @@ pub fn permit_like(path: &Path, model: &Path) -> Outcome<()> {
 
 /// Makes the folder of a file, if need be.
 pub fn make_parent(path: &Path) -> Outcome<()> {
-    path.parent().map_or(Ok(()), |parent| fs::create_dir_all(parent).at(parent))
+    let parent = parent_of(path);
+    fs::create_dir_all(parent).at(parent)
+}
+
+/// Makes a folder, and those above it if need be. Nobody else looks into it: it is to hold a database.
+pub fn make_private(folder: &Path) -> Outcome<()> {
+    make_parent(folder)?;
+    fs::DirBuilder::new().mode(0o700).create(folder).at(folder)
 }
 
 /// The folder in which a file or folder is.

@@ -1,17 +1,19 @@
 //! What a kept folder holds, in figures. Checksums are not looked at: that is `check`.
 
+use std::collections::BTreeMap;
 use std::fs;
 use std::os::unix::fs::MetadataExt;
 use std::path::Path;
 
 use thonxiliko::PAGE_SIZE;
 
-use crate::check::build_fault;
+use crate::check::{build_fault, report};
 use crate::decided::Kinds;
 use crate::kept::Kept;
 use crate::manifest::Segment;
 use crate::problem::{At, Outcome};
 use crate::spelled::spelled;
+use crate::sums::FileSum;
 use crate::table::{size, thousands};
 
 /// What is there of a segment.
@@ -58,9 +60,7 @@ fn or_none(places: Option<u64>) -> String {
 pub fn info(folder: &Path) -> Outcome<u8> {
     let kept = Kept::to_read(folder)?;
     let manifest = &kept.manifest;
-    let total = |group: &std::collections::BTreeMap<_, crate::sums::FileSum>| {
-        size(group.values().map(|sum| sum.length).sum())
-    };
+    let total = |group: &BTreeMap<_, FileSum>| size(group.values().map(|sum| sum.length).sum());
     println!("state {}", state(manifest.is_live()));
     println!("base files {} ({})", thousands(manifest.base.len() as u64), total(&manifest.base));
     println!("whole files {} ({})", thousands(manifest.whole.len() as u64), total(&manifest.whole));
@@ -71,18 +71,17 @@ pub fn info(folder: &Path) -> Outcome<u8> {
         "{:<24} {:>8} {:>8} {:>8} {:>8} {:>8} {:>11} {:>11}  state",
         "segment", "n", "m", "EMPTY", "PATCH", "full", "bytes", "on disk"
     );
-    let mut status = 0;
+    let mut problems = Vec::new();
     for (path, segment) in &manifest.segments {
         match Figures::of(&kept, path, segment) {
             Ok(figures) => print_row(path, segment, &figures),
             Err(problem) => {
                 println!("{:<24} not sound; {}", spelled(path), state(segment.is_live()));
-                eprintln!("trial: {problem}");
-                status = problem.status();
+                problems.push(problem);
             }
         }
     }
-    Ok(status)
+    Ok(report(&problems))
 }
 
 fn print_row(path: &Path, segment: &Segment, figures: &Figures) {
@@ -121,12 +120,16 @@ pub fn info_of(folder: &Path, path: &Path) -> Outcome<u8> {
     println!("both area files: {}, on disk {}", size(figures.bytes), size(figures.on_disk));
     let (patch, full) = kept.area_paths(path);
     println!("patch area: {}", spelled(&patch));
-    figures.places.map(|_| println!("full area: {}", spelled(&full)));
+    if figures.places.is_some() {
+        println!("full area: {}", spelled(&full));
+    }
     match segment.sums {
         None => println!("no checksums until `trial close`"),
         Some(sums) => {
             println!("SHA-256 of the patch area: {}", sums.patch);
-            sums.full.map(|full| println!("SHA-256 of the full area: {full}"));
+            if let Some(full) = sums.full {
+                println!("SHA-256 of the full area: {full}");
+            }
         }
     }
     Ok(0)

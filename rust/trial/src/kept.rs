@@ -15,7 +15,7 @@ use crate::grow::new_name;
 use crate::held::Held;
 use crate::manifest::{Manifest, Segment, NEW_NAME};
 use crate::problem::{At, Outcome, Problem};
-use crate::progress::Progress;
+use crate::progress::{Progress, Unit};
 
 /// A path with another ending put behind the whole name.
 pub fn with_suffix(path: &Path, suffix: &str) -> PathBuf {
@@ -113,7 +113,11 @@ impl Kept {
     pub fn held_as_listed(&self, path: &Path) -> Outcome<Held> {
         let segment = self.segment(path)?;
         let held = self.held(path)?;
-        match held.faults(&segment, &mut Progress::quiet()).into_iter().next() {
+        let mut progress = Progress::new();
+        progress.start("checking the areas", Unit::Bytes, held.bytes());
+        let faults = held.faults(&segment, &mut progress);
+        progress.done();
+        match faults.into_iter().next() {
             Some(fault) => Err(fault),
             None => Ok(held),
         }
@@ -124,7 +128,13 @@ impl Kept {
         must_be_folder(base)?;
         let file = base.join(path);
         match self.manifest.base.get(path) {
-            Some(sum) => sum.check(&file, "the base file", &mut Progress::quiet()),
+            Some(sum) => {
+                let mut progress = Progress::new();
+                progress.start("checking the base file", Unit::Bytes, sum.length);
+                let checked = sum.check(&file, "the base file", &mut progress);
+                progress.done();
+                checked
+            }
             None if fs::symlink_metadata(&file).is_ok() => Err(beyond_base(&file)),
             None => Ok(()),
         }

@@ -9,8 +9,8 @@ use thonxiliko::PAGE_SIZE;
 
 use crate::check;
 use crate::folder::{
-    copy, make_parent, must_be_empty, must_be_outside, parent_of, permit_like, sync, sync_tree,
-    Pages,
+    copy, make_parent, make_private, must_be_empty, must_be_outside, parent_of, permit_like, sync,
+    sync_tree, Pages,
 };
 use crate::held::Held;
 use crate::kept::{whole_path, Kept};
@@ -33,8 +33,7 @@ impl Making {
         hidden.push(name);
         hidden.push(format!(".trial-{}", std::process::id()));
         let at = parent_of(folder).join(hidden);
-        fs::create_dir_all(parent_of(folder)).at(folder)?;
-        fs::create_dir(&at).at(&at)?;
+        make_private(&at)?;
         Ok(Making { at, folder: folder.into() })
     }
 

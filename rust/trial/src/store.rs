@@ -6,8 +6,8 @@ use std::path::{Path, PathBuf};
 
 use crate::decided::{Decided, Files};
 use crate::folder::{
-    make_parent, must_be_empty, must_be_folder, parent_of, relation_file, same_bytes, sync,
-    sync_tree, Listing, RelationFile,
+    make_parent, make_private, must_be_empty, must_be_folder, parent_of, relation_file, same_bytes,
+    sync, sync_tree, Listing, RelationFile,
 };
 use crate::held::Held;
 use crate::kept::{area_paths, lock, whole_path};
@@ -115,7 +115,9 @@ pub fn store(
     kept: &Path,
     progress: &mut Progress,
 ) -> Outcome<Stored> {
-    fs::create_dir_all(kept).at(kept)?;
+    if !kept.exists() {
+        make_private(kept)?;
+    }
     let _lock = lock(kept, true)?;
     must_be_empty(kept)?;
     let mut manifest = Manifest { base, ..Manifest::default() };

@@ -108,7 +108,8 @@ fn asked_of(verb: &'static Verb, given: impl Iterator<Item = OsString>) -> Outco
                     shown(&word)
                 )));
             }
-            _ => words.plain.push(word.into()),
+            // A path has one spelling: without a slash at its end, for instance.
+            _ => words.plain.push(Path::new(&word).components().collect()),
         }
     }
     if !verb.takes(words.plain.len()) {

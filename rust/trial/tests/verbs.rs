@@ -201,7 +201,8 @@ fn a_closed_segment_is_not_swept() {
 /// What a write or a read is laid over must be what it was.
 #[test]
 fn a_block_of_a_damaged_store_is_neither_written_nor_read() {
-    let damages: [(fn(&Place), &str); 5] = [
+    type Damage = (fn(&Place), &'static str);
+    let damages: [Damage; 5] = [
         (|place| place.change("base/base/1/11", |bytes| bytes[9000] ^= 1), "11: the base file has"),
         (|place| place.change("base/base/1/11", |bytes| bytes.truncate(8192)), "11: the base file"),
         (|place| place.remove("base/base/1/11"), "base/base/1/11: the base file is not there"),
@@ -230,6 +231,8 @@ fn a_block_is_read() {
         let wanted = place.bytes("new/base/1/11")[block * 8192..(block + 1) * 8192].to_vec();
         assert!(place.bytes("to") == wanted);
     }
+    // The same file, spelled in another way.
+    place.run("read base kept =base//1/11/ =1 to").must(0, &["a patch"]);
     place.run("read base kept =base/1/10 =0 to").must(2, &["base/1/10: no segment of this file"]);
     place.run("write base kept =base/1/10 =0 new/base/1/14 =0").must(2, &["base/1/10: no segment"]);
     place.run("sweep kept =base/1/10").must(2, &["base/1/10: no segment of this file is kept"]);

@@ -71,8 +71,9 @@ impl Place {
             ("global/pg_control", Some(vec![1; 100]), Some(vec![2; 100])),
             ("PG_VERSION", Some(b"15".to_vec()), Some(b"15".to_vec())),
         ] {
-            base.map(|bytes| place.put(&format!("base/{path}"), &bytes));
-            new.map(|bytes| place.put(&format!("new/{path}"), &bytes));
+            for (folder, bytes) in [("base", base), ("new", new)] {
+                bytes.iter().for_each(|bytes| place.put(&format!("{folder}/{path}"), bytes));
+            }
         }
         place
     }
