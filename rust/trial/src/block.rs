@@ -11,7 +11,7 @@ use crate::folder::{must_be_outside, page_of, page_there};
 use crate::grow::give_place;
 use crate::held::Held;
 use crate::kept::Kept;
-use crate::problem::{advice, At, Outcome, Problem};
+use crate::problem::{advice, At, Outcome, Problem, STOP_OR_LOSS};
 use crate::spelled::spelled;
 
 /// A block of a segment, and where its store and its base are.
@@ -63,7 +63,8 @@ impl Block<'_> {
         let held = self.held(&kept)?;
         let (base, page) = (self.base_page()?, self.page_from(from, page)?);
         let mut payload = [0; PAYLOAD_SIZE];
-        let decision = compare(&base, &page, &mut payload)?;
+        let decision = compare(&base, &page, &mut payload)
+            .map_err(|refusal| Problem::from(refusal).of(from))?;
         let (holds, takes) = (held.kind(self.number).at(self.path)?, decision.kind());
         let no_place = held.place(self.number).is_none();
         drop(held);
@@ -101,6 +102,10 @@ impl Block<'_> {
         std::fs::write(to, page).at(to)?;
         let live = if kept.segment(self.path)?.is_live() { "; the segment is live" } else { "" };
         println!("{self}: holds {} and was read{live}", in_words(kind));
+        if held.is_stray(self.number, kind) {
+            // What was read is right after a stop, and the page of before after a loss.
+            eprintln!("trial: {self}: no slot refers to the page in its place: {STOP_OR_LOSS}");
+        }
         Ok(())
     }
 }

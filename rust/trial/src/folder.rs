@@ -196,14 +196,23 @@ pub fn same_bytes(one: &Path, other: &Path) -> Outcome<bool> {
     }
 }
 
+pub fn length(path: &Path) -> Outcome<u64> {
+    Ok(fs::metadata(path).at(path)?.len())
+}
+
+/// How many bytes some files of a folder have together.
+pub fn lengths<'p>(root: &Path, paths: impl IntoIterator<Item = &'p PathBuf>) -> Outcome<u64> {
+    paths.into_iter().map(|path| length(&root.join(path))).sum()
+}
+
 /// Refuses a folder that has anything in it: a file that is not written again there would be taken for
 /// today's.
 pub fn must_be_empty(folder: &Path) -> Outcome<()> {
-    let mut entries = match fs::read_dir(folder) {
+    match fs::symlink_metadata(folder) {
         Err(error) if error.kind() == ErrorKind::NotFound => return Ok(()),
-        entries => entries.at(folder)?,
-    };
-    if entries.next().is_some() {
+        _ => must_be_folder(folder)?,
+    }
+    if fs::read_dir(folder).at(folder)?.next().is_some() {
         let problem = "the folder is not empty: give a new one, or one with nothing in it";
         return Err(Problem::not_done(problem).of(folder));
     }

@@ -179,6 +179,12 @@ impl Held {
         self.full().get(start..start + PAGE_SIZE)
     }
 
+    /// Whether a block's place holds something though its slot, which is of this kind, does not refer to it.
+    pub fn is_stray(&self, block: u64, kind: Kind) -> bool {
+        let place = self.place(block).unwrap_or(&[]);
+        kind != Kind::Full && place.iter().any(|byte| *byte != 0)
+    }
+
     /// Lists every block: its file, its number, its kind, and whether it has a place in the full area.
     pub fn list(&self, path: &Path) -> Outcome<()> {
         let name = spelled(path);

@@ -99,16 +99,26 @@ fn make(base: &Path, kept: &Kept, to: &Path, progress: &mut Progress) -> Outcome
     for path in manifest.whole.keys() {
         copy(&whole_path(&kept.folder, path), &to.join(path))?;
     }
+    make_segments(base, kept, to, progress)?;
+    let sum_of = |path| manifest.base.get(path).map_or(0, |sum| sum.length);
+    progress.start("copying", Unit::Bytes, from_base(kept).map(sum_of).sum());
+    for path in from_base(kept) {
+        copy(&base.join(path), &to.join(path))?;
+        progress.add(sum_of(path));
+    }
+    progress.done();
+    permit_folders(base, kept, to)
+}
+
+fn make_segments(base: &Path, kept: &Kept, to: &Path, progress: &mut Progress) -> Outcome<()> {
+    let manifest = &kept.manifest;
     let blocks = manifest.segments.values().map(|segment| segment.blocks).sum();
     progress.start("rebuilding", Unit::Blocks, blocks);
     for path in manifest.segments.keys() {
         make_segment(base, kept, path, &to.join(path), progress).at(path)?;
     }
     progress.done();
-    for path in from_base(kept) {
-        copy(&base.join(path), &to.join(path))?;
-    }
-    permit_folders(base, kept, to)
+    Ok(())
 }
 
 fn make_segment(

@@ -1,13 +1,12 @@
 //! Keeps what a changed data folder has beyond its base, and writes the manifest of it.
 
 use std::collections::BTreeMap;
-use std::fs;
 use std::path::{Path, PathBuf};
 
 use crate::decided::{Decided, Files};
 use crate::folder::{
-    make_parent, make_private, must_be_empty, must_be_folder, parent_of, relation_file, same_bytes,
-    sync, sync_tree, Listing, RelationFile,
+    length, lengths, make_parent, make_private, must_be_empty, must_be_folder, parent_of,
+    relation_file, same_bytes, sync, sync_tree, Listing, RelationFile,
 };
 use crate::held::Held;
 use crate::kept::{area_paths, lock, whole_path};
@@ -41,10 +40,6 @@ pub struct Stored {
     pub gone: u64,
 }
 
-fn is_changed(base: &Path, changed: &Path) -> Outcome<bool> {
-    Ok(!base.is_file() || !same_bytes(base, changed)?)
-}
-
 /// The folders of a day: the base, what it was at noon, if that is known, and what it is now.
 #[derive(Clone, Copy)]
 pub struct Folders<'p> {
@@ -61,19 +56,37 @@ impl Folders<'_> {
         act(Files { base: &base, noon: noon.as_deref(), changed: &changed }).at(path)
     }
 
+    fn is_changed(&self, path: &Path, progress: &mut Progress) -> Outcome<bool> {
+        let (base, changed) = (self.base.join(path), self.changed.join(path));
+        progress.add(length(&changed)?);
+        Ok(!base.is_file() || !same_bytes(&base, &changed)?)
+    }
+
+    fn changed_segments(&self, progress: &mut Progress) -> Outcome<Vec<(PathBuf, RelationFile)>> {
+        let files = Listing::of(self.changed)?.files.into_iter();
+        let relations =
+            files.filter_map(|path| relation_file(&path).map(|relation| (path, relation)));
+        let relations: Vec<_> = relations.collect();
+        let bytes = lengths(self.changed, relations.iter().map(|(path, _)| path))?;
+        progress.start("comparing", Unit::Bytes, bytes);
+        let mut segments = Vec::new();
+        for (path, relation) in relations {
+            if self.is_changed(&path, progress)? {
+                segments.push((path, relation));
+            }
+        }
+        progress.done();
+        Ok(segments)
+    }
+
     /// Decides what every changed segment would take. Nothing is stored.
     pub fn decide(&self, progress: &mut Progress) -> Outcome<Vec<DecidedSegment>> {
         must_be_folder(self.base)?;
         self.noon.map_or(Ok(()), must_be_folder)?;
-        let mut segments = Vec::new();
+        let segments = self.changed_segments(progress)?;
         let mut pages = 0;
-        for path in Listing::of(self.changed)?.files {
-            if let Some(relation) = relation_file(&path) {
-                if is_changed(&self.base.join(&path), &self.changed.join(&path))? {
-                    pages += self.with(&path, |files| files.pages())?;
-                    segments.push((path, relation));
-                }
-            }
+        for (path, _) in &segments {
+            pages += self.with(path, |files| files.pages())?;
         }
         progress.start("deciding", Unit::Blocks, pages);
         let decided = segments.into_iter().map(|(path, relation)| {
@@ -90,11 +103,7 @@ impl Folders<'_> {
 /// a base that changes afterwards is not the one in the manifest.
 pub fn base_sums(base: &Path, progress: &mut Progress) -> Outcome<BTreeMap<PathBuf, FileSum>> {
     let files = Listing::of(base)?.files;
-    let mut bytes = 0;
-    for path in &files {
-        bytes += fs::metadata(base.join(path)).at(&base.join(path))?.len();
-    }
-    progress.start("checksums of the base", Unit::Bytes, bytes);
+    progress.start("checksums of the base", Unit::Bytes, lengths(base, &files)?);
     let sums = files.into_iter().map(|path| {
         let sum = FileSum::of(&base.join(&path), progress)?;
         Ok((path, sum))
@@ -121,7 +130,7 @@ pub fn store(
     let _lock = lock(kept, true)?;
     must_be_empty(kept)?;
     let mut manifest = Manifest { base, ..Manifest::default() };
-    let mut stored = store_others(folders, &decided, kept, &mut manifest)?;
+    let mut stored = store_others(folders, &decided, kept, &mut manifest, progress)?;
     let blocks = decided.iter().map(|one| one.decided.evening.kinds.blocks()).sum();
     progress.start("storing", Unit::Blocks, blocks);
     for DecidedSegment { path, relation, decided } in decided {
@@ -141,23 +150,25 @@ pub fn store(
 /// Keeps the changed files that hold no relation's pages, and says what is gone. No changed segment may
 /// be left out of what was decided.
 fn store_others(
-    Folders { base, changed, .. }: Folders<'_>,
+    folders: Folders<'_>,
     decided: &[DecidedSegment],
     kept: &Path,
     manifest: &mut Manifest,
+    progress: &mut Progress,
 ) -> Outcome<Stored> {
-    let (old, new) = (Listing::of(base)?, Listing::of(changed)?);
+    let (old, new) = (Listing::of(folders.base)?, Listing::of(folders.changed)?);
     if !old.files.iter().eq(manifest.base.keys()) {
         let problem = "files came or went meanwhile: leave the base alone, store into a new folder";
-        return Err(Problem::fault(problem).of(base));
+        return Err(Problem::fault(problem).of(folders.base));
     }
     let mut stored = Stored::default();
+    progress.start("comparing", Unit::Bytes, lengths(folders.changed, &new.files)?);
     for path in &new.files {
-        if !is_changed(&base.join(path), &changed.join(path))? {
+        if !folders.is_changed(path, progress)? {
             stored.unchanged += 1;
         } else if relation_file(path).is_none() {
-            let to = whole_path(kept, path);
-            let sum = copy_with_sum(&changed.join(path), &to, &mut Progress::quiet())?;
+            let (from, to) = (folders.changed.join(path), whole_path(kept, path));
+            let sum = copy_with_sum(&from, &to, &mut Progress::quiet())?;
             stored.whole_files += 1;
             stored.whole_bytes += sum.length;
             manifest.whole.insert(path.clone(), sum);
@@ -166,6 +177,7 @@ fn store_others(
             return Err(Problem::fault(problem).of(path));
         }
     }
+    progress.done();
     manifest.gone = old.files.difference(&new.files).cloned().collect();
     manifest.folders = new.folders;
     stored.gone = manifest.gone.len() as u64;
@@ -197,6 +209,8 @@ fn store_segment(
 #[cfg(test)]
 mod tests {
     use super::*;
+    use std::fs;
+
     use crate::folder::differences;
     use crate::segment::Cut;
     use crate::testing::{folders, pages, Place};

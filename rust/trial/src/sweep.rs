@@ -2,7 +2,7 @@
 
 use std::path::Path;
 
-use thonxiliko::{Kind, Refusal, PAGE_SIZE};
+use thonxiliko::{Refusal, PAGE_SIZE};
 
 use crate::areas::AreaFiles;
 use crate::check::build_fault;
@@ -48,8 +48,7 @@ fn stray_blocks(held: &Held, path: &Path, segment: &Segment) -> Outcome<Vec<u64>
     for block in 0..held.blocks() {
         // Build stops at the first stray page: what is at fault behind it shows here.
         let kind = held.read(block, &[], &mut page).at(path)?;
-        let place = held.place(block).unwrap_or(&[]);
-        if kind != Kind::Full && place.iter().any(|byte| *byte != 0) {
+        if held.is_stray(block, kind) {
             stray.push(block);
         }
     }

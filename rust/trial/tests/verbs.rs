@@ -5,6 +5,7 @@ mod common;
 use std::ffi::OsString;
 use std::fs::{self, File};
 use std::os::unix::ffi::OsStringExt;
+use std::os::unix::fs::PermissionsExt;
 
 use common::{pages, place_of, slot, trial, Place};
 
@@ -21,6 +22,9 @@ fn a_store_comes_back() {
     let place = Place::stored("back");
     place.run("check base kept").must(0, &["7 files of the base, 4 segments and 1 files"]);
     place.run("rebuild base kept again").must(0, &["rebuilt 4 segments over their base, copied 2"]);
+    // Nobody else looks into it.
+    let mode = fs::metadata(place.at("kept")).expect("a folder").permissions().mode();
+    assert_eq!(mode & 0o777, 0o700);
     place.run("compare new again").must(0, &["7 files compared, 0 differ"]);
     place.must_have_nothing_half_made();
     fs::create_dir(place.at("empty")).expect("a folder");
@@ -98,7 +102,8 @@ fn used_folders_are_refused() {
     assert_eq!(place.bytes("again/base/1/11"), b"mine");
     assert_eq!(place.files("again").len(), 1);
     place.must_have_nothing_half_made();
-    place.run("rebuild base kept new/PG_VERSION").must(2, &["new/PG_VERSION: "]);
+    place.run("rebuild base kept new/PG_VERSION").must(2, &["new/PG_VERSION: this is no folder"]);
+    place.store("new/PG_VERSION").must(2, &["new/PG_VERSION: this is no folder"]);
 }
 
 /// From a write to the close the store has no checksums, so it is not rebuilt.
@@ -153,6 +158,7 @@ fn a_stopped_write_is_cleared_up() {
     place.run("rebuild base kept again").must(2, &["base/1/11: this segment is live"]);
     place.run("check base kept").must(1, &["base/1/11: refused 10", "(block 1)"]);
     place.run("check base kept").must(1, &BOTH_READINGS);
+    place.run("read base kept =base/1/11 =1 to").must(0, &BOTH_READINGS);
     place.run("close kept").must(1, &BOTH_READINGS);
     place.run("info kept").must(1, &["base/1/11: refused 10"]);
     place.run("sweep kept =base/1/11").must(2, &["base/1/11, block 1: its page would be removed"]);
