@@ -109,9 +109,11 @@ impl Manifest {
 
     /// Puts it in the place of the one that is there: whole, or not at all.
     pub fn save(&self, kept: &Path) -> Outcome<()> {
-        let (new, path) = (kept.join(NEW_NAME), kept.join(NAME));
+        let (new, path, text) = (kept.join(NEW_NAME), kept.join(NAME), self.text());
+        // What would not be read is not written.
+        parse::manifest(text.as_bytes()).at(&new)?;
         let mut file = File::create(&new).at(&new)?;
-        file.write_all(self.text().as_bytes()).at(&new)?;
+        file.write_all(text.as_bytes()).at(&new)?;
         file.sync_all().at(&new)?;
         fs::rename(&new, &path).at(&path)?;
         sync(kept)

@@ -72,9 +72,6 @@ impl Progress {
     }
 
     pub fn done(&mut self) {
-        if self.way == Way::Over && self.shown.is_some() {
-            eprintln!();
-        }
         *self = Progress::by(self.way);
     }
 
@@ -97,6 +94,15 @@ impl Progress {
             }
             Way::Lines => eprintln!("{line}"),
             Way::Quiet => {}
+        }
+    }
+}
+
+/// However the work ends, the next line is a new one.
+impl Drop for Progress {
+    fn drop(&mut self) {
+        if self.way == Way::Over && self.shown.is_some() {
+            eprintln!();
         }
     }
 }
