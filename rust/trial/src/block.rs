@@ -78,7 +78,7 @@ impl Block<'_> {
         let what = format!("{self}: held {}, takes {}", in_words(holds), in_words(takes));
         if stores == Stores::All {
             files.write_safely(self.number, &decision).at(self.path)?;
-            println!("{what}; written");
+            println!("{what}; written; the segment is live until `trial close`");
             return Ok(());
         }
         files.carry_out(self.number, &decision, stores).at(self.path)?;

@@ -128,6 +128,22 @@ fn a_live_store_is_not_rebuilt() {
     place.run("compare new again").must(1, &["base/1/11: other bytes", "1 differ"]);
 }
 
+/// Killed before its first store, a write has marked the segment. One that is refused has not.
+#[test]
+fn a_segment_is_live_before_the_first_store() {
+    let place = Place::stored("first");
+    let before = place.files("kept");
+    place.write(1, "new/base/1/14", 9, "").must(2, &["new/base/1/14: ", "has no page 9"]);
+    place.write(4, "new/base/1/14", 0, "").must(2, &["base/1/11: block 4: the store has 4 blocks"]);
+    assert!(place.files("kept") == before);
+    place.write(1, "new/base/1/14", 0, " --stores =0").must(137, &[]);
+    place.run("check base kept").must(0, &["base/1/11: live"]);
+    place.run("rebuild base kept again").must(2, &["base/1/11: this segment is live"]);
+    place.run("sweep kept =base/1/11 --stopped =1").must(0, &["pages removed: 0"]);
+    place.run("close kept").must(0, &[]);
+    assert!(place.files("kept") == before);
+}
+
 /// The live segment alone goes without checksums, and must have its n.
 #[test]
 fn a_live_store_is_checked_too() {
