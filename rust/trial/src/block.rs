@@ -10,7 +10,7 @@ use crate::areas::AreaFiles;
 use crate::folder::{must_be_outside, page_of, page_there};
 use crate::grow::give_place;
 use crate::held::Held;
-use crate::kept::Kept;
+use crate::kept::{changed_base, Kept};
 use crate::problem::{advice, At, Outcome, Problem, STOP_OR_LOSS};
 use crate::spelled::spelled;
 
@@ -24,17 +24,22 @@ pub struct Block<'p> {
 }
 
 impl Block<'_> {
-    /// The page in the base, which may have no such file or page.
-    fn base_page(&self) -> Outcome<Vec<u8>> {
-        page_of(&self.base.join(self.path), self.number)
+    /// The page in the base, which may have no such file or page by the manifest.
+    fn base_page(&self, kept: &Kept) -> Outcome<Vec<u8>> {
+        let file = self.base.join(self.path);
+        let page = page_of(&file, self.number)?;
+        if page.is_empty() && self.number < kept.base_pages(self.path) {
+            return Err(changed_base(&file));
+        }
+        Ok(page)
     }
 
     /// A page of a file that must have it, unless it is the block's own in the base: zeros are that, too.
-    fn page_from(&self, from: &Path, page: u64) -> Outcome<Vec<u8>> {
+    fn page_from(&self, from: &Path, page: u64, base: &[u8]) -> Outcome<Vec<u8>> {
         if page != self.number || from != self.base.join(self.path) {
             return page_there(from, page);
         }
-        let mut page = self.base_page()?;
+        let mut page = base.to_vec();
         page.resize(PAGE_SIZE, 0);
         Ok(page)
     }
@@ -61,7 +66,8 @@ impl Block<'_> {
     pub fn write(&self, from: &Path, page: u64, stores: Stores) -> Outcome<()> {
         let mut kept = Kept::to_write(self.kept)?;
         let held = self.held(&kept)?;
-        let (base, page) = (self.base_page()?, self.page_from(from, page)?);
+        let base = self.base_page(&kept)?;
+        let page = self.page_from(from, page, &base)?;
         let mut payload = [0; PAYLOAD_SIZE];
         let decision = compare(&base, &page, &mut payload)
             .map_err(|refusal| Problem::from(refusal).of(from))?;
@@ -98,7 +104,7 @@ impl Block<'_> {
         must_be_outside(to, self.base)?;
         must_be_outside(to, self.kept)?;
         let mut page = vec![0; PAGE_SIZE];
-        let kind = held.read(self.number, &self.base_page()?, &mut page).at(self.path)?;
+        let kind = held.read(self.number, &self.base_page(&kept)?, &mut page).at(self.path)?;
         std::fs::write(to, page).at(to)?;
         let live = if kept.segment(self.path)?.is_live() { "; the segment is live" } else { "" };
         println!("{self}: holds {} and was read{live}", in_words(kind));

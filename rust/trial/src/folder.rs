@@ -261,12 +261,11 @@ pub fn parent_of(path: &Path) -> &Path {
     }
 }
 
-/// Copies a file, its folder being made if need be.
-pub fn copy(from: &Path, to: &Path) -> Outcome<()> {
+/// Copies a file, its folder being made if need be. Gives its length.
+pub fn copy(from: &Path, to: &Path) -> Outcome<u64> {
     make_parent(to)?;
     // The system's message is about either file.
-    fs::copy(from, to).at(to).at(from)?;
-    Ok(())
+    fs::copy(from, to).at(to).at(from)
 }
 
 /// Waits until a file or a folder is on disk, as far as the system tells.

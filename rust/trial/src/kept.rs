@@ -9,6 +9,7 @@ use std::io::ErrorKind;
 use std::path::{Path, PathBuf};
 
 use mapped::Lock;
+use thonxiliko::PAGE_SIZE;
 
 use crate::folder::must_be_folder;
 use crate::grow::new_name;
@@ -123,6 +124,11 @@ impl Kept {
         }
     }
 
+    /// How many pages a file of the base has, by the manifest.
+    pub fn base_pages(&self, path: &Path) -> u64 {
+        self.manifest.base.get(path).map_or(0, |sum| sum.length / PAGE_SIZE as u64)
+    }
+
     /// Holds one file of the base against the manifest. A file that it does not name must not be there.
     pub fn check_base_file(&self, base: &Path, path: &Path) -> Outcome<()> {
         must_be_folder(base)?;
@@ -139,6 +145,11 @@ impl Kept {
             None => Ok(()),
         }
     }
+}
+
+/// A file of the base that has another length than when it was checked.
+pub fn changed_base(file: &Path) -> Problem {
+    Problem::fault("the base file was changed meanwhile: restore it from a copy").of(file)
 }
 
 /// A file of the base that was not there when the store was made.

@@ -13,7 +13,7 @@ use crate::folder::{
     sync_tree, Pages,
 };
 use crate::held::Held;
-use crate::kept::{whole_path, Kept};
+use crate::kept::{changed_base, whole_path, Kept};
 use crate::problem::{At, Outcome, Problem};
 use crate::progress::{Progress, Unit};
 
@@ -100,14 +100,21 @@ fn make(base: &Path, kept: &Kept, to: &Path, progress: &mut Progress) -> Outcome
         copy(&whole_path(&kept.folder, path), &to.join(path))?;
     }
     make_segments(base, kept, to, progress)?;
-    let sum_of = |path| manifest.base.get(path).map_or(0, |sum| sum.length);
-    progress.start("copying", Unit::Bytes, from_base(kept).map(sum_of).sum());
+    copy_from_base(base, kept, to, progress)?;
+    permit_folders(base, kept, to)
+}
+
+fn copy_from_base(base: &Path, kept: &Kept, to: &Path, progress: &mut Progress) -> Outcome<()> {
+    let length = |path| kept.manifest.base.get(path).map_or(0, |sum| sum.length);
+    progress.start("copying", Unit::Bytes, from_base(kept).map(length).sum());
     for path in from_base(kept) {
-        copy(&base.join(path), &to.join(path))?;
-        progress.add(sum_of(path));
+        if copy(&base.join(path), &to.join(path))? != length(path) {
+            return Err(changed_base(&base.join(path)));
+        }
+        progress.add(length(path));
     }
     progress.done();
-    permit_folders(base, kept, to)
+    Ok(())
 }
 
 fn make_segments(base: &Path, kept: &Kept, to: &Path, progress: &mut Progress) -> Outcome<()> {
@@ -131,7 +138,11 @@ fn make_segment(
     let from = base.join(path);
     make_parent(to)?;
     let mut file = BufWriter::with_capacity(1 << 20, File::create(to).at(to)?);
-    write_pages(&kept.held(path)?, &from, |page| file.write_all(page).at(to), progress)?;
+    let pages = Pages::open(&from)?;
+    if pages.count != kept.base_pages(path) {
+        return Err(changed_base(&from));
+    }
+    write_pages(&kept.held(path)?, pages, |page| file.write_all(page).at(to), progress)?;
     file.flush().at(to)?;
     let model = if from.exists() { from } else { base.join("PG_VERSION") };
     if model.exists() {
@@ -143,11 +154,11 @@ fn make_segment(
 /// Gives the pages of a segment over its base, by a map that is built of the areas.
 fn write_pages(
     held: &Held,
-    base: &Path,
+    mut base: Pages,
     mut write: impl FnMut(&[u8]) -> Outcome<()>,
     progress: &mut Progress,
 ) -> Outcome<()> {
-    let (map, mut base) = (held.map()?, Pages::open(base)?);
+    let map = held.map()?;
     let (mut base_page, mut page) = (Vec::new(), vec![0; PAGE_SIZE]);
     for block in 0..held.blocks() {
         base.next_page(&mut base_page)?;
