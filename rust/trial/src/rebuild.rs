@@ -56,6 +56,10 @@ impl Drop for Making {
 /// was kept is looked at. Gives the exit status.
 pub fn rebuild(base: &Path, folder: &Path, to: &Path, progress: &mut Progress) -> Outcome<u8> {
     must_be_empty(to)?;
+    if fs::symlink_metadata(to).map_or(false, |found| found.is_symlink()) {
+        // A folder cannot be renamed onto it.
+        return Err(Problem::not_done("this is a link: give the folder itself").of(to));
+    }
     must_be_outside(to, base)?;
     must_be_outside(to, folder)?;
     let kept = Kept::to_read(folder)?;
@@ -178,4 +182,47 @@ fn permit_folders(base: &Path, kept: &Kept, to: &Path) -> Outcome<()> {
         permit_like(&to.join(path), &model)?;
     }
     permit_like(to, base)
+}
+
+#[cfg(test)]
+mod tests {
+    use super::*;
+    use crate::testing::{folders, Place};
+
+    /// A folder has its name when it is finished, and goes if it is not.
+    #[test]
+    fn a_folder_is_there_whole_or_not_at_all() {
+        let place = Place::new("making");
+        let to = place.at("below/to");
+        for finish in [false, true] {
+            let making = Making::beside(&to).expect("a folder");
+            fs::write(making.at.join("file"), b"1").expect("a file");
+            let at = making.at.clone();
+            if finish {
+                making.finish().expect("renamed");
+            } else {
+                drop(making);
+            }
+            assert_eq!((at.exists(), to.join("file").exists()), (false, finish));
+        }
+        assert!(Making::beside(&to).is_err());
+    }
+
+    /// A base file that goes or is cut after the check is not taken for zeros.
+    #[test]
+    fn a_base_that_changes_after_the_check_is_noticed() {
+        for (number, file) in ["base/1/11", "PG_VERSION"].iter().enumerate() {
+            let place = Place::new(&format!("after-{number}"));
+            folders(&place);
+            place.store(false).expect("stored");
+            let (base, to) = (place.at("base"), place.at("to"));
+            let kept = Kept::to_read(&place.at("kept")).expect("kept");
+            fs::create_dir(&to).expect("a folder");
+            fs::write(base.join(file), b"").expect("cut");
+            let problem = make(&base, &kept, &to, &mut Progress::quiet()).expect_err("noticed");
+            let wanted =
+                format!("{}: the base file was changed meanwhile", base.join(file).display());
+            assert!(problem.to_string().contains(&wanted), "{problem}");
+        }
+    }
 }

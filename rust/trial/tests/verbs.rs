@@ -104,6 +104,10 @@ fn used_folders_are_refused() {
     place.must_have_nothing_half_made();
     place.run("rebuild base kept new/PG_VERSION").must(2, &["new/PG_VERSION: this is no folder"]);
     place.store("new/PG_VERSION").must(2, &["new/PG_VERSION: this is no folder"]);
+    fs::create_dir(place.at("elsewhere")).expect("a folder");
+    std::os::unix::fs::symlink(place.at("elsewhere"), place.at("link")).expect("a link");
+    place.run("rebuild base kept link").must(2, &["link: this is a link: give the folder itself"]);
+    assert!(place.files("elsewhere").is_empty());
 }
 
 /// From a write to the close the store has no checksums, so it is not rebuilt.
