@@ -7,7 +7,9 @@ use std::ffi::{OsStr, OsString};
 use std::fs;
 use std::os::unix::process::ExitStatusExt;
 use std::path::{Path, PathBuf};
-use std::process::Command;
+use std::process::{Command, Stdio};
+use std::thread::sleep;
+use std::time::Duration;
 
 use thonxiliko::{FULL_HEADER_SIZE, PAGE_SIZE, PATCH_HEADER_SIZE, SLOT_SIZE};
 
@@ -27,14 +29,21 @@ impl Ran {
     }
 }
 
-/// Runs the program, where it is one for another machine by its emulator.
-pub fn trial<W: AsRef<OsStr>>(words: &[W]) -> Ran {
+/// The program with its words, where it is one for another machine by its emulator.
+fn command<W: AsRef<OsStr>>(words: &[W]) -> Command {
     let machine = env::consts::ARCH.to_uppercase();
     let runner = env::var(format!("CARGO_TARGET_{machine}_UNKNOWN_LINUX_GNU_RUNNER"));
     let runner = runner.unwrap_or_default();
     let mut line = runner.split_whitespace().chain([env!("CARGO_BIN_EXE_trial")]);
     let program = line.next().expect("the program itself, at least");
-    let ran = Command::new(program).args(line).args(words).output().expect("a process");
+    let mut command = Command::new(program);
+    command.args(line).args(words);
+    command
+}
+
+/// Runs the program to its end.
+pub fn trial<W: AsRef<OsStr>>(words: &[W]) -> Ran {
+    let ran = command(words).output().expect("a process");
     let status = ran.status.code().or_else(|| ran.status.signal().map(|signal| 128 + signal));
     let said = [ran.stdout, ran.stderr].map(|bytes| String::from_utf8(bytes).expect("text"));
     Ran { status: status.expect("an end"), said: said.concat() }
@@ -114,14 +123,28 @@ impl Place {
         fs::rename(self.at(from), self.at(to)).expect("a file");
     }
 
-    /// Runs a verb on folders of this place; words that begin with `=` are taken as they are.
-    pub fn run(&self, line: &str) -> Ran {
+    /// A verb on folders of this place; words that begin with `=` are taken as they are.
+    fn words(&self, line: &str) -> Vec<OsString> {
         let words = line.split(' ').enumerate().map(|(at, word)| match word.strip_prefix('=') {
             Some(word) => OsString::from(word),
             None if at == 0 || word.starts_with('-') => OsString::from(word),
             None => self.at(word).into_os_string(),
         });
-        trial(&words.collect::<Vec<_>>())
+        words.collect()
+    }
+
+    pub fn run(&self, line: &str) -> Ran {
+        trial(&self.words(line))
+    }
+
+    /// Starts a verb, and kills it after a while if it is not done by then.
+    pub fn run_and_kill(&self, line: &str, after: Duration) {
+        let mut command = command(&self.words(line));
+        let quiet = command.stdout(Stdio::null()).stderr(Stdio::null());
+        let mut process = quiet.spawn().expect("a process");
+        sleep(after);
+        process.kill().expect("killed, or done");
+        process.wait().expect("an end");
     }
 
     pub fn store(&self, kept: &str) -> Ran {
