@@ -24,6 +24,8 @@ extern "C" {
     fn flock(fd: c_int, operation: c_int) -> c_int;
     fn munmap(addr: *mut c_void, length: usize) -> c_int;
     fn raise(signal: c_int) -> c_int;
+    fn isatty(fd: c_int) -> c_int;
+    fn signal(signal: c_int, handler: usize) -> usize;
 }
 
 // The values of Linux on x86-64 and aarch64.
@@ -31,39 +33,118 @@ const PROT_READ: c_int = 1;
 const PROT_WRITE: c_int = 2;
 const MAP_SHARED: c_int = 0x01;
 const MS_SYNC: c_int = 4;
+const LOCK_SH: c_int = 1;
 const LOCK_EX: c_int = 2;
 const LOCK_NB: c_int = 4;
 const LOCK_UN: c_int = 8;
 
+const SIGPIPE: c_int = 13;
+const SIG_DFL: usize = 0;
+
 /// The signal that no process can catch or put off.
 pub const SIGKILL: c_int = 9;
 
-/// One area in a file, mapped as a whole. As long as it stands the file is locked: there is no second area
-/// of it, here or in another process. Whoever does not ask for the lock must not write to the file or cut
-/// it. An absent area has no file and no bytes.
-pub struct Area {
+/// A lock on a file or a folder, taken without waiting. It goes with the process, however it ends.
+pub struct Lock {
+    file: File,
+}
+
+impl Lock {
+    /// Beside others of its sort, but beside no lock that is held alone.
+    pub fn shared(path: &Path) -> io::Result<Lock> {
+        Lock::of(File::open(path)?, LOCK_SH)
+    }
+
+    /// Beside no other lock.
+    pub fn alone(path: &Path) -> io::Result<Lock> {
+        Lock::of(File::open(path)?, LOCK_EX)
+    }
+
+    fn of(file: File, how: c_int) -> io::Result<Lock> {
+        // SAFETY: a handle that is open.
+        if unsafe { flock(file.as_raw_fd(), how | LOCK_NB) } == 0 {
+            return Ok(Lock { file });
+        }
+        let error = io::Error::last_os_error();
+        if error.kind() == io::ErrorKind::WouldBlock {
+            return Err(io::Error::new(error.kind(), "somebody else has it locked"));
+        }
+        Err(error)
+    }
+}
+
+impl Drop for Lock {
+    fn drop(&mut self) {
+        // By hand: a child that is just being started may have the handle too.
+        // SAFETY: a handle that is open.
+        unsafe { flock(self.file.as_raw_fd(), LOCK_UN) };
+    }
+}
+
+/// The bytes of a file, mapped as a whole; or none.
+struct Mapping {
     start: *mut u8,
     length: usize,
-    /// Held for its lock.
-    file: Option<File>,
+}
+
+impl Mapping {
+    fn of(file: &File, access: c_int) -> io::Result<Mapping> {
+        let length = usize::try_from(file.metadata()?.len())
+            .map_err(|_| io::Error::new(io::ErrorKind::Other, "more bytes than can be mapped"))?;
+        if length == 0 {
+            return Ok(Mapping::none()); // nothing cannot be mapped
+        }
+        // SAFETY: a new mapping, of bytes that the file has, at an address of the system's choice.
+        let start =
+            unsafe { mmap(ptr::null_mut(), length, access, MAP_SHARED, file.as_raw_fd(), 0) };
+        if start as isize == -1 {
+            return Err(io::Error::last_os_error());
+        }
+        Ok(Mapping { start: start.cast(), length })
+    }
+
+    fn none() -> Mapping {
+        Mapping { start: ptr::NonNull::dangling().as_ptr(), length: 0 }
+    }
+
+    fn bytes(&self) -> &[u8] {
+        // SAFETY: mapped with this length, or no bytes at an aligned address; borrowed for the slice.
+        unsafe { std::slice::from_raw_parts(self.start, self.length) }
+    }
+}
+
+impl Drop for Mapping {
+    fn drop(&mut self) {
+        if self.length != 0 {
+            // SAFETY: mapped with this length; no slice of it is alive.
+            unsafe { munmap(self.start.cast(), self.length) };
+        }
+    }
+}
+
+/// One area in a file, mapped as a whole. As long as it stands the file is locked: there is no second area
+/// and no view of it, here or in another process. Whoever does not ask for the lock must not write to the
+/// file or cut it. An absent area has no file and no bytes.
+pub struct Area {
+    // Unmapped before the lock goes.
+    mapping: Mapping,
+    lock: Option<Lock>,
 }
 
 impl Area {
     /// A new file of so many zeros, which is one hole.
     pub fn create(path: &Path, length: usize) -> io::Result<Area> {
         let file = OpenOptions::new().read(true).write(true).create_new(true).open(path)?;
-        lock(&file)?;
-        file.set_len(length as u64)?;
-        Area::of(file, length)
+        let lock = Lock::of(file, LOCK_EX)?;
+        lock.file.set_len(length as u64)?;
+        Area::of(lock)
     }
 
-    /// A file that is there, with all its bytes. It is refused while there is another area of the file.
+    /// A file that is there, with all its bytes. It is refused while there is another area or a view of
+    /// the file.
     pub fn open(path: &Path) -> io::Result<Area> {
         let file = OpenOptions::new().read(true).write(true).open(path)?;
-        lock(&file)?;
-        let length = usize::try_from(file.metadata()?.len())
-            .map_err(|_| io::Error::new(io::ErrorKind::Other, "more bytes than can be mapped"))?;
-        Area::of(file, length)
+        Area::of(Lock::of(file, LOCK_EX)?)
     }
 
     /// A file if it is there, else an absent area. A file that cannot be looked at is not absent.
@@ -75,74 +156,72 @@ impl Area {
     }
 
     pub fn absent() -> Area {
-        Area { start: ptr::NonNull::dangling().as_ptr(), length: 0, file: None }
+        Area { mapping: Mapping::none(), lock: None }
     }
 
-    /// Maps a file that is locked.
-    fn of(file: File, length: usize) -> io::Result<Area> {
-        if length == 0 {
-            let mut area = Area::absent(); // nothing cannot be mapped
-            area.file = Some(file);
-            return Ok(area);
-        }
-        let access = PROT_READ | PROT_WRITE;
-        // SAFETY: a new mapping, of bytes that the file has, at an address of the system's choice.
-        let start =
-            unsafe { mmap(ptr::null_mut(), length, access, MAP_SHARED, file.as_raw_fd(), 0) };
-        if start as isize == -1 {
-            return Err(io::Error::last_os_error());
-        }
-        Ok(Area { start: start.cast(), length, file: Some(file) })
+    fn of(lock: Lock) -> io::Result<Area> {
+        let mapping = Mapping::of(&lock.file, PROT_READ | PROT_WRITE)?;
+        Ok(Area { mapping, lock: Some(lock) })
+    }
+
+    /// Whether it has a file.
+    pub fn is_there(&self) -> bool {
+        self.lock.is_some()
     }
 
     pub fn bytes(&self) -> &[u8] {
-        // SAFETY: mapped with this length, or no bytes at an aligned address; borrowed for the slice.
-        unsafe { std::slice::from_raw_parts(self.start, self.length) }
+        self.mapping.bytes()
     }
 
     pub fn bytes_mut(&mut self) -> &mut [u8] {
-        // SAFETY: as in `bytes`, and nothing else borrows it.
-        unsafe { std::slice::from_raw_parts_mut(self.start, self.length) }
+        // SAFETY: as in `bytes`, mapped to be written to, and nothing else borrows it.
+        unsafe { std::slice::from_raw_parts_mut(self.mapping.start, self.mapping.length) }
     }
 
     /// Waits until all that was stored so far is on disk, as far as the system tells.
     pub fn sync(&self) -> io::Result<()> {
-        if self.length == 0 {
+        if self.mapping.length == 0 {
             return Ok(());
         }
         // SAFETY: a mapping that stands, as a whole.
-        match unsafe { msync(self.start.cast(), self.length, MS_SYNC) } {
+        match unsafe { msync(self.mapping.start.cast(), self.mapping.length, MS_SYNC) } {
             0 => Ok(()),
             _ => Err(io::Error::last_os_error()),
         }
     }
 }
 
-impl Drop for Area {
-    fn drop(&mut self) {
-        if self.length != 0 {
-            // SAFETY: mapped with this length; no slice of it is alive.
-            unsafe { munmap(self.start.cast(), self.length) };
-        }
-        if let Some(file) = &self.file {
-            // By hand: a child that is just being started may have the handle too.
-            // SAFETY: a handle that is open.
-            unsafe { flock(file.as_raw_fd(), LOCK_UN) };
-        }
+/// One area in a file, mapped to be read. As long as it stands there may be other views of the file, but
+/// no [`Area`]. A file that may not be written to will do.
+pub struct View {
+    // Unmapped before the lock goes.
+    mapping: Mapping,
+    _lock: Lock,
+}
+
+impl View {
+    /// A file that is there, with all its bytes. It is refused while there is an area of the file.
+    pub fn open(path: &Path) -> io::Result<View> {
+        let lock = Lock::shared(path)?;
+        let mapping = Mapping::of(&lock.file, PROT_READ)?;
+        Ok(View { mapping, _lock: lock })
+    }
+
+    pub fn bytes(&self) -> &[u8] {
+        self.mapping.bytes()
     }
 }
 
-/// Locks a file for one area, without waiting. The lock goes with the process, however it ends.
-fn lock(file: &File) -> io::Result<()> {
-    // SAFETY: a handle that is open.
-    if unsafe { flock(file.as_raw_fd(), LOCK_EX | LOCK_NB) } == 0 {
-        return Ok(());
-    }
-    let error = io::Error::last_os_error();
-    if error.kind() == io::ErrorKind::WouldBlock {
-        return Err(io::Error::new(error.kind(), "there is another area of this file"));
-    }
-    Err(error)
+/// Whether what is written to the standard error output is seen on a terminal.
+pub fn errors_are_on_a_terminal() -> bool {
+    // SAFETY: any number may be asked about.
+    unsafe { isatty(io::stderr().as_raw_fd()) == 1 }
+}
+
+/// From now on this process ends quietly where nobody reads on what it prints, as others do.
+pub fn end_with_the_reader() {
+    // SAFETY: the system's own handler takes the place of the runtime's.
+    unsafe { signal(SIGPIPE, SIG_DFL) };
 }
 
 /// Ends this process on the spot, as a kill from elsewhere would: nothing is flushed, dropped or undone.
@@ -192,6 +271,39 @@ mod tests {
             drop(second);
             fs::remove_file(&path).expect("removed");
         }
+    }
+
+    /// Many may look at a file, while nobody can write to it; and the other way round.
+    #[test]
+    fn a_view_is_beside_views_alone() {
+        for length in [0, 10_000] {
+            let name = format!("mapped-view-{}-{length}", std::process::id());
+            let path = std::env::temp_dir().join(name);
+            let area = Area::create(&path, length).expect("a new file");
+            assert!(View::open(&path).is_err() && area.is_there());
+            drop(area);
+            let (one, other) = (View::open(&path), View::open(&path));
+            assert_eq!(one.expect("a view").bytes().len(), length);
+            assert_eq!(Area::open(&path).err().map(|e| e.kind()), Some(io::ErrorKind::WouldBlock));
+            drop(other);
+            assert!(Area::open(&path).is_ok());
+            fs::remove_file(&path).expect("removed");
+            assert_eq!(View::open(&path).err().map(|e| e.kind()), Some(io::ErrorKind::NotFound));
+        }
+    }
+
+    #[test]
+    fn a_folder_can_be_locked() {
+        let path = std::env::temp_dir().join(format!("mapped-folder-{}", std::process::id()));
+        fs::create_dir(&path).expect("a folder");
+        let (one, other) = (Lock::shared(&path), Lock::shared(&path));
+        assert!(one.is_ok() && Lock::alone(&path).is_err());
+        drop((one, other));
+        let alone = Lock::alone(&path).expect("nobody has it");
+        assert!(Lock::shared(&path).is_err() && Lock::alone(&path).is_err());
+        drop(alone);
+        assert!(Lock::shared(&path).is_ok());
+        fs::remove_dir(&path).expect("removed");
     }
 
     /// What cannot be looked at is not taken for absent.

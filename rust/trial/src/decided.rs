@@ -5,8 +5,8 @@ use std::path::Path;
 use thonxiliko::{compare, Kind, PAYLOAD_SIZE};
 
 use crate::folder::Pages;
+use crate::problem::Outcome;
 use crate::progress::Progress;
-use crate::Outcome;
 
 /// Blocks by the kind that they take: nothing, a patch or a full page.
 #[derive(Clone, Copy, Debug, Default, PartialEq, Eq)]

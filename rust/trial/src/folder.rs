@@ -3,21 +3,40 @@
 use std::collections::BTreeSet;
 use std::fs::{self, File};
 use std::io::{BufReader, ErrorKind, Read, Seek, SeekFrom};
+use std::os::unix::fs::DirBuilderExt;
 use std::path::{Path, PathBuf};
 
 use thonxiliko::PAGE_SIZE;
 
-use crate::Outcome;
+use crate::problem::{At, Outcome, Problem};
+use crate::spelled::spelled;
 
 /// The paths below a folder, relative to it, in order.
 #[derive(Default)]
 pub struct Listing {
     pub files: BTreeSet<PathBuf>,
     pub folders: BTreeSet<PathBuf>,
+    /// Neither files nor folders: links, sockets and the like.
+    pub others: BTreeSet<PathBuf>,
 }
 
 impl Listing {
+    /// All that is below a folder. A tablespace or a log elsewhere would silently be left out, so what is
+    /// neither file nor folder is refused.
     pub fn of(root: &Path) -> Outcome<Listing> {
+        let listing = Listing::with_others(root)?;
+        match listing.others.iter().next() {
+            Some(path) => {
+                let problem =
+                    "this is neither file nor folder: put the file or folder in its place";
+                Err(Problem::not_done(problem).of(&root.join(path)))
+            }
+            None => Ok(listing),
+        }
+    }
+
+    pub fn with_others(root: &Path) -> Outcome<Listing> {
+        must_be_folder(root)?;
         let mut listing = Listing::default();
         listing.add(root, Path::new(""))?;
         Ok(listing)
@@ -25,20 +44,17 @@ impl Listing {
 
     fn add(&mut self, root: &Path, below: &Path) -> Outcome<()> {
         let folder = root.join(below);
-        let entries =
-            fs::read_dir(&folder).map_err(|error| format!("{}: {error}", folder.display()))?;
-        for entry in entries {
-            let entry = entry?;
+        for entry in fs::read_dir(&folder).at(&folder)? {
+            let entry = entry.at(&folder)?;
             let path = below.join(entry.file_name());
-            let kind = entry.file_type()?;
+            let kind = entry.file_type().at(&root.join(&path))?;
             if kind.is_dir() {
                 self.folders.insert(path.clone());
                 self.add(root, &path)?;
             } else if kind.is_file() {
                 self.files.insert(path);
             } else {
-                // A tablespace or a log elsewhere would silently be left out.
-                return Err(format!("{} is neither file nor folder", path.display()).into());
+                self.others.insert(path);
             }
         }
         Ok(())
@@ -85,7 +101,10 @@ fn is_number(text: &str) -> bool {
 
 /// A file of whole pages, read one page at a time. A file that is not there has none.
 pub struct Pages {
+    path: PathBuf,
     file: Option<BufReader<File>>,
+    /// The next page.
+    at: u64,
     pub count: u64,
 }
 
@@ -94,34 +113,28 @@ impl Pages {
         let file = match File::open(path) {
             Ok(file) => file,
             Err(error) if error.kind() == ErrorKind::NotFound => {
-                return Ok(Pages { file: None, count: 0 });
+                return Ok(Pages { path: path.to_path_buf(), file: None, at: 0, count: 0 });
             }
-            Err(error) => return Err(format!("{}: {error}", path.display()).into()),
+            Err(error) => return Err(error).at(path),
         };
-        let length = file.metadata()?.len();
+        let length = file.metadata().at(path)?.len();
         if length % PAGE_SIZE as u64 != 0 {
-            return Err(format!("{}: {length} bytes are no whole pages", path.display()).into());
+            let problem =
+                format!("{length} bytes are no whole pages: stop the server, copy it anew");
+            return Err(Problem::not_done(problem).of(path));
         }
-        let count = length / PAGE_SIZE as u64;
-        Ok(Pages { file: Some(BufReader::with_capacity(1 << 20, file)), count })
+        let (count, path) = (length / PAGE_SIZE as u64, path.to_path_buf());
+        Ok(Pages { path, file: Some(BufReader::with_capacity(1 << 20, file)), at: 0, count })
     }
 
-    /// The next page; an empty one past the end, which the library takes for a base of zeros.
+    /// The next page; an empty one past the end, which the library takes for a base of zeros. All the
+    /// pages that the file had when it was opened must be there.
     pub fn next_page(&mut self, page: &mut Vec<u8>) -> Outcome<()> {
-        page.resize(PAGE_SIZE, 0);
-        let mut filled = 0;
-        if let Some(file) = &mut self.file {
-            while filled < PAGE_SIZE {
-                match file.read(&mut page[filled..])? {
-                    0 => break,
-                    read => filled += read,
-                }
-            }
-        }
-        match filled {
-            0 => page.clear(),
-            PAGE_SIZE => {}
-            _ => return Err("a file became shorter while it was read".into()),
+        page.clear();
+        if let (Some(file), true) = (&mut self.file, self.at < self.count) {
+            page.resize(PAGE_SIZE, 0);
+            file.read_exact(page).at(&self.path)?;
+            self.at += 1;
         }
         Ok(())
     }
@@ -132,7 +145,8 @@ pub fn page_of(path: &Path, number: u64) -> Outcome<Vec<u8>> {
     let mut pages = Pages::open(path)?;
     let mut page = Vec::new();
     if let (Some(file), true) = (&mut pages.file, number < pages.count) {
-        file.seek(SeekFrom::Start(number * PAGE_SIZE as u64))?;
+        file.seek(SeekFrom::Start(number * PAGE_SIZE as u64)).at(path)?;
+        pages.at = number;
         pages.next_page(&mut page)?;
     }
     Ok(page)
@@ -142,8 +156,9 @@ pub fn page_of(path: &Path, number: u64) -> Outcome<Vec<u8>> {
 pub fn page_there(path: &Path, number: u64) -> Outcome<Vec<u8>> {
     let page = page_of(path, number)?;
     if page.is_empty() {
-        let path = path.display();
-        return Err(format!("{path}: the file is not there, or has no page {number}").into());
+        let problem =
+            format!("the file is not there, or has no page {number}: give one that has it");
+        return Err(Problem::not_done(problem).of(path));
     }
     Ok(page)
 }
@@ -151,53 +166,120 @@ pub fn page_there(path: &Path, number: u64) -> Outcome<Vec<u8>> {
 /// Refuses what is no folder: every file of it would be taken for one that is not there.
 pub fn must_be_folder(folder: &Path) -> Outcome<()> {
     if !folder.is_dir() {
-        return Err(format!("{}: this is no folder", folder.display()).into());
+        return Err(
+            Problem::not_done("this is no folder: see whether the name is right").of(folder)
+        );
     }
     Ok(())
 }
 
 pub fn same_bytes(one: &Path, other: &Path) -> Outcome<bool> {
-    if fs::metadata(one)?.len() != fs::metadata(other)?.len() {
+    let open = |path: &Path| -> Outcome<(BufReader<File>, u64)> {
+        let file = File::open(path).at(path)?;
+        let length = file.metadata().at(path)?.len();
+        Ok((BufReader::with_capacity(1 << 20, file), length))
+    };
+    let ((mut left, length), (mut right, other_length)) = (open(one)?, open(other)?);
+    if length != other_length {
         return Ok(false);
     }
-    let mut one = BufReader::with_capacity(1 << 20, File::open(one)?);
-    let mut other = BufReader::with_capacity(1 << 20, File::open(other)?);
-    let (mut left, mut right) = (vec![0; 1 << 16], vec![0; 1 << 16]);
+    let (mut ours, mut theirs) = (vec![0; 1 << 16], vec![0; 1 << 16]);
     loop {
-        let read = one.read(&mut left)?;
+        let read = left.read(&mut ours).at(one)?;
         if read == 0 {
             return Ok(true);
         }
-        other.read_exact(&mut right[..read])?;
-        if left[..read] != right[..read] {
+        right.read_exact(&mut theirs[..read]).at(other)?;
+        if ours[..read] != theirs[..read] {
             return Ok(false);
         }
     }
 }
 
+pub fn length(path: &Path) -> Outcome<u64> {
+    Ok(fs::metadata(path).at(path)?.len())
+}
+
+/// How many bytes some files of a folder have together.
+pub fn lengths<'p>(root: &Path, paths: impl IntoIterator<Item = &'p PathBuf>) -> Outcome<u64> {
+    paths.into_iter().map(|path| length(&root.join(path))).sum()
+}
+
 /// Refuses a folder that has anything in it: a file that is not written again there would be taken for
 /// today's.
 pub fn must_be_empty(folder: &Path) -> Outcome<()> {
-    if folder.exists() && fs::read_dir(folder)?.next().is_some() {
-        return Err(format!("{}: the folder is not empty", folder.display()).into());
+    match fs::symlink_metadata(folder) {
+        Err(error) if error.kind() == ErrorKind::NotFound => return Ok(()),
+        _ => must_be_folder(folder)?,
+    }
+    if fs::read_dir(folder).at(folder)?.next().is_some() {
+        let problem = "the folder is not empty: give a new one, or one with nothing in it";
+        return Err(Problem::not_done(problem).of(folder));
     }
     Ok(())
 }
 
-/// Makes a folder with the permissions of another; PostgreSQL starts only on a private one.
-pub fn make_like(folder: &Path, model: &Path) -> Outcome<()> {
-    fs::create_dir_all(folder)?;
-    fs::set_permissions(folder, fs::metadata(model)?.permissions())?;
+/// Refuses what is within a folder: what is made there would change that folder.
+pub fn must_be_outside(path: &Path, folder: &Path) -> Outcome<()> {
+    must_be_folder(folder)?;
+    let folder = fs::canonicalize(folder).at(folder)?;
+    let here =
+        |part: &Path| if part.as_os_str().is_empty() { ".".into() } else { part.to_path_buf() };
+    let mut parts = path.ancestors().map(here);
+    let there = parts.find_map(|part| fs::canonicalize(part).ok());
+    if there.map_or(false, |there| there.starts_with(&folder)) {
+        let problem = format!("this is within {}: give one outside", spelled(&folder));
+        return Err(Problem::not_done(problem).of(path));
+    }
     Ok(())
 }
 
-/// Copies a file, its folder being made if need be.
-pub fn copy(from: &Path, to: &Path) -> Outcome<()> {
-    if let Some(parent) = to.parent() {
-        fs::create_dir_all(parent)?;
+/// Gives a file or folder the permissions of another; PostgreSQL starts only on a private folder.
+pub fn permit_like(path: &Path, model: &Path) -> Outcome<()> {
+    let permissions = fs::metadata(model).at(model)?.permissions();
+    fs::set_permissions(path, permissions).at(path)
+}
+
+/// Makes the folder of a file, if need be.
+pub fn make_parent(path: &Path) -> Outcome<()> {
+    let parent = parent_of(path);
+    fs::create_dir_all(parent).at(parent)
+}
+
+/// Makes a folder, and those above it if need be. Nobody else looks into it: it is to hold a database.
+pub fn make_private(folder: &Path) -> Outcome<()> {
+    make_parent(folder)?;
+    fs::DirBuilder::new().mode(0o700).create(folder).at(folder)
+}
+
+/// The folder in which a file or folder is.
+pub fn parent_of(path: &Path) -> &Path {
+    match path.parent() {
+        Some(parent) if parent.as_os_str().is_empty() => Path::new("."),
+        Some(parent) => parent,
+        None => path,
     }
-    fs::copy(from, to).map_err(|error| format!("{}: {error}", from.display()))?;
-    Ok(())
+}
+
+/// Copies a file, its folder being made if need be. Gives its length.
+pub fn copy(from: &Path, to: &Path) -> Outcome<u64> {
+    make_parent(to)?;
+    // The system's message is about either file.
+    fs::copy(from, to).at(to).at(from)
+}
+
+/// Waits until a file or a folder is on disk, as far as the system tells.
+pub fn sync(path: &Path) -> Outcome<()> {
+    File::open(path).and_then(|file| file.sync_all()).at(path)
+}
+
+/// The same of a folder and all that is below it.
+pub fn sync_tree(root: &Path) -> Outcome<()> {
+    let listing = Listing::of(root)?;
+    for path in listing.files.union(&listing.folders) {
+        sync(&root.join(path))?;
+    }
+    sync(root)
 }
 
 pub struct Differences {
@@ -215,10 +297,10 @@ pub fn differences(one: &Path, other: &Path) -> Outcome<Differences> {
             _ if same_bytes(&one.join(path), &other.join(path))? => continue,
             _ => "other bytes",
         };
-        found.push(format!("{}: {what}", path.display()));
+        found.push(format!("{}: {what}", spelled(path)));
     }
     for path in left.folders.symmetric_difference(&right.folders) {
-        found.push(format!("{}: a folder in only one", path.display()));
+        found.push(format!("{}: a folder in only one", spelled(path)));
     }
     Ok(Differences { files: left.files.union(&right.files).count(), found })
 }

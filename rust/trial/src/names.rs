@@ -4,7 +4,7 @@ use std::collections::HashMap;
 use std::fs;
 use std::path::Path;
 
-use crate::Outcome;
+use crate::problem::{At, Outcome, Problem};
 
 #[derive(Clone, Debug)]
 pub struct Name {
@@ -21,17 +21,19 @@ pub struct Names {
 
 impl Names {
     pub fn from_file(path: &Path) -> Outcome<Names> {
-        let text =
-            fs::read_to_string(path).map_err(|error| format!("{}: {error}", path.display()))?;
+        let text = fs::read_to_string(path).at(path)?;
         let mut by_path = HashMap::new();
-        for line in text.lines() {
+        for (number, line) in (1..).zip(text.lines()) {
             let fields: Vec<&str> = line.split('\t').collect();
             match fields[..] {
                 [first, name, kind] => {
                     let name = Name { name: name.to_string(), system: kind == "system" };
                     by_path.insert(first.to_string(), name);
                 }
-                _ => return Err(format!("{}: not three fields: {line}", path.display()).into()),
+                _ => {
+                    let problem = format!("line {number} has not three fields, by tabs: mend it");
+                    return Err(Problem::not_done(problem).of(path));
+                }
             }
         }
         Ok(Names { by_path })

@@ -1,27 +1,27 @@
-//! One segment of a relation: its pages stored over its base, read back, and made again.
+//! One segment of a relation: its pages stored over its base, in memory, and saved.
 
-use std::fs::{self, File};
-use std::io::{BufWriter, Seek, SeekFrom, Write};
+use std::fs::{File, OpenOptions};
+use std::io::{self, Seek, SeekFrom, Write};
 use std::os::unix::fs::MetadataExt;
 use std::path::Path;
 
 use thonxiliko::{
-    build, carry_out_mapped, compare, cut_mapped, format, full_area_len, highest, look_up, map_len,
-    patch_area_len, read, read_mapped, tally, Kind, Pair, Stores, MAX_BLOCKS, PAGE_SIZE,
-    PATCH_HEADER_SIZE, PAYLOAD_SIZE, SLOT_SIZE,
+    build, carry_out_mapped, compare, cut_mapped, format, full_area_len, highest, map_len,
+    patch_area_len, read_mapped, Kind, Stores, MAX_BLOCKS, PAGE_SIZE, PATCH_HEADER_SIZE,
+    PAYLOAD_SIZE, SLOT_SIZE,
 };
 
 use crate::decided::{Decided, Files, Kinds};
 use crate::folder::Pages;
+use crate::problem::{At, Outcome, Problem};
 use crate::progress::Progress;
-use crate::Outcome;
 
 /// Both areas of one segment, in memory, and the map kept beside them.
 ///
 /// A read by a map that missed a write can give the page of before, and by one that missed a cut a page
-/// of zeros, so nothing here can make it miss one: it begins as zeros beside fresh areas, or is built
-/// when areas are loaded; the one way to write and the one way to cut lend it; and it is never saved,
-/// since a file could be older than the areas.
+/// of zeros, so nothing here can make it miss one: it begins as zeros beside fresh areas; the one way to
+/// write and the one way to cut lend it; and it is never saved, since a file could be older than the
+/// areas.
 pub struct Areas {
     patch: Vec<u8>,
     full: Vec<u8>,
@@ -96,18 +96,6 @@ impl Areas {
         Ok(map)
     }
 
-    /// The areas as `save` left them; without a full file the full area is absent. Their map is built.
-    pub fn load(patch: &Path, full: &Path) -> Outcome<Areas> {
-        let patch = fs::read(patch).map_err(|error| format!("{}: {error}", patch.display()))?;
-        let full = if full.exists() { fs::read(full)? } else { Vec::new() };
-        let mut areas = Areas { patch, full, map: Vec::new() };
-        if areas.patch.len() < PATCH_HEADER_SIZE {
-            return Err("a patch area without its header".into());
-        }
-        areas.map = areas.built_map()?;
-        Ok(areas)
-    }
-
     /// Writes both areas to files with holes. Gives the bytes they take on disk.
     pub fn save(&self, patch: &Path, full: &Path) -> Outcome<u64> {
         let mut kept = save_with_holes(&self.patch, patch)?;
@@ -130,7 +118,9 @@ impl Areas {
         let (noon_blocks, blocks) = (noon.kinds.blocks(), evening.kinds.blocks());
         let most = blocks.max(noon_blocks);
         if most > MAX_BLOCKS {
-            return Err(format!("{most} blocks are more than a segment has").into());
+            let problem =
+                format!("{most} blocks are more than a segment has: see whether it is one");
+            return Err(Problem::not_done(problem));
         }
         let mut areas = Areas::fresh(most, noon.pages.max(evening.pages))?;
         let mut day = Day::default();
@@ -156,7 +146,7 @@ impl Areas {
         cut_mapped(&mut self.patch, &mut self.full, &mut self.map, blocks)?;
         let after = highest(&self.patch)?;
         if after > blocks {
-            return Err(format!("block {} is kept after a cut at {blocks}", after - 1).into());
+            return Err(mistake(format!("block {} is kept after a cut at {blocks}", after - 1)));
         }
         self.check_kept_map()?;
         Ok(Cut { at: blocks, before, after })
@@ -168,7 +158,7 @@ impl Areas {
     fn shorten(&mut self, blocks: u64) -> Outcome<u64> {
         let highest = highest(&self.patch)?;
         if highest > blocks {
-            return Err(format!("block {} is kept past {blocks}", highest - 1).into());
+            return Err(mistake(format!("block {} is kept past {blocks}", highest - 1)));
         }
         self.patch.truncate(patch_area_len(blocks));
         self.full.truncate(full_area_len(blocks));
@@ -193,7 +183,7 @@ impl Areas {
             kinds.count(self.write(block, &base_page, &page)?);
             self.read(block, &base_page, &mut again)?;
             if again != page {
-                return Err(format!("block {block} reads wrongly after its write").into());
+                return Err(mistake(format!("block {block} reads wrongly after its write")));
             }
             written(block);
         }
@@ -206,110 +196,62 @@ impl Areas {
         compare(base, page, &mut [0; PAYLOAD_SIZE])
             .and_then(|decision| carry_out_mapped(patch, full, map, block, &decision, Stores::All))
             .map(|written| written.kind)
-            .map_err(|refusal| format!("block {block}: {refusal}").into())
+            .map_err(|refusal| Problem::from(refusal).of_block(block))
     }
 
     /// The map that was lent to every write and every cut is the one that Build makes.
     fn check_kept_map(&self) -> Outcome<()> {
         if self.map != self.built_map()? {
-            return Err("the map that was kept is not the one that Build makes".into());
+            return Err(mistake("the map that was kept is not the one that Build makes"));
         }
         Ok(())
-    }
-
-    /// Reads every block back, by the map and by its slot, and holds it against the changed file, and
-    /// the map and the highest block against the reads.
-    pub fn check(&self, base_path: &Path, changed_path: &Path) -> Outcome<Counts> {
-        let (mut base, mut changed) = (Pages::open(base_path)?, Pages::open(changed_path)?);
-        let blocks = self.blocks();
-        if blocks != changed.count {
-            return Err(format!("{blocks} blocks kept of {}", changed.count).into());
-        }
-        let mut counts = Counts { blocks, base_blocks: base.count, ..Counts::default() };
-        let mut last = 0;
-        let (mut base_page, mut page) = (Vec::new(), Vec::new());
-        let (mut again, mut by_slot) = (vec![0; PAGE_SIZE], vec![0; PAGE_SIZE]);
-        for block in 0..blocks {
-            base.next_page(&mut base_page)?;
-            changed.next_page(&mut page)?;
-            let kind = self.read(block, &base_page, &mut again)?;
-            if read(&self.patch, &self.full, block, &base_page, &mut by_slot)? != kind {
-                return Err(format!("block {block} has another kind without the map").into());
-            }
-            if again != page || by_slot != page {
-                let path = changed_path.display();
-                return Err(format!("{path}: block {block} reads back wrongly").into());
-            }
-            let pair = match kind {
-                Kind::Empty => Pair::Empty,
-                Kind::Patch => Pair::Patch,
-                Kind::Full => Pair::Full,
-            };
-            counts.kinds.count(kind);
-            if kind != Kind::Empty {
-                last = block + 1;
-            }
-            if look_up(&self.map, blocks, block)? != pair {
-                return Err(format!("the map is wrong about block {block}").into());
-            }
-        }
-        let tally = tally(&self.map, blocks)?;
-        if (tally.patch, tally.full) != (counts.kinds.patch, counts.kinds.full) {
-            return Err(format!("the tally is {tally:?}, counted were {counts:?}").into());
-        }
-        let highest = highest(&self.patch)?;
-        if highest != last {
-            return Err(format!("the highest is {highest}, met was {last}").into());
-        }
-        Ok(counts)
     }
 
     /// Reads one block by the map. A refusal is told with the block and, where its payload breaks, the
     /// offset.
     fn read(&self, block: u64, base: &[u8], page: &mut [u8]) -> Outcome<Kind> {
         read_mapped(&self.patch, &self.full, &self.map, block, base, page)
-            .map_err(|refusal| format!("block {block}: {refusal}").into())
-    }
-
-    /// Makes the segment's file from its base and the areas.
-    pub fn rebuild(&self, base: &Path, to: &Path, progress: &mut Progress) -> Outcome<()> {
-        let mut base = Pages::open(base)?;
-        let mut file = BufWriter::with_capacity(1 << 20, File::create(to)?);
-        let mut base_page = Vec::new();
-        let mut page = vec![0; PAGE_SIZE];
-        for block in 0..self.blocks() {
-            base.next_page(&mut base_page)?;
-            self.read(block, &base_page, &mut page)?;
-            file.write_all(&page)?;
-            progress.block();
-        }
-        file.flush()?;
-        Ok(())
+            .map_err(|refusal| Problem::from(refusal).of_block(block))
     }
 }
 
 /// The blocks of a file took what was decided, and told, before.
 fn as_decided(stored: Kinds, decided: Kinds) -> Outcome<()> {
     if stored != decided {
-        return Err(format!("decided was {decided:?}, stored was {stored:?}").into());
+        let problem =
+            format!("decided was {decided:?}, stored was {stored:?}: {CHANGED_MEANWHILE}");
+        return Err(Problem::fault(problem));
     }
     Ok(())
 }
 
-/// Leaves out stretches of zeros, so that they take no room on disk.
+/// What to do where two looks at a file did not see the same.
+pub const CHANGED_MEANWHILE: &str =
+    "the file was changed meanwhile; stop the server, and store into a new folder";
+
+/// What cannot be, unless this program or the memory is wrong.
+pub fn mistake(what: impl std::fmt::Display) -> Problem {
+    Problem::fault(format!("{what}: do not use what was stored, and report it"))
+}
+
+/// Leaves out stretches of zeros, so that they take no room on disk. Gives the bytes they take there.
 fn save_with_holes(bytes: &[u8], path: &Path) -> Outcome<u64> {
+    let file = OpenOptions::new().write(true).create_new(true).open(path).at(path)?;
+    write_with_holes(bytes, &file).at(path)?;
+    // Some file systems settle the room only then.
+    file.sync_all().at(path)?;
+    Ok(file.metadata().at(path)?.blocks() * 512)
+}
+
+fn write_with_holes(bytes: &[u8], mut file: &File) -> io::Result<()> {
     const STRETCH: usize = 4096;
-    let mut file = File::create(path)?;
     for (number, stretch) in bytes.chunks(STRETCH).enumerate() {
         if stretch.iter().any(|byte| *byte != 0) {
             file.seek(SeekFrom::Start((number * STRETCH) as u64))?;
             file.write_all(stretch)?;
         }
     }
-    file.set_len(bytes.len() as u64)?;
-    // Some file systems settle the room only then.
-    file.sync_all()?;
-    Ok(file.metadata()?.blocks() * 512)
+    file.set_len(bytes.len() as u64)
 }
 
 #[cfg(test)]
@@ -332,10 +274,12 @@ mod tests {
         assert_eq!(areas.map, [0b01_00_10_00, 0]);
         assert_eq!(areas.write(3, &[], &[0; PAGE_SIZE]).expect("written"), Kind::Empty);
         let refused = areas.write(4, &[], &[7; PAGE_SIZE]).expect_err("no place").to_string();
-        assert_eq!(refused, "block 4: refused 8: the full area has no place for the block");
+        let wanted = "block 4: refused 8: the full area has no place for the block: ";
+        assert!(refused.starts_with(wanted), "{refused}");
         // A page that is none: nothing is decided, so nothing is carried out.
         let refused = areas.write(1, &[], &[0; 100]).expect_err("no page").to_string();
-        assert_eq!(refused, "block 1: refused 1: a page has a wrong length");
+        let wanted = "block 1: refused 1: a page has a wrong length: ";
+        assert!(refused.starts_with(wanted), "{refused}");
         assert_eq!(areas.map, [0b00_00_10_00, 0]);
         assert!(areas.check_kept_map().is_ok());
     }
@@ -371,6 +315,7 @@ mod tests {
         assert_eq!(areas.read(3, &[], &mut page).expect("read"), Kind::Empty);
         assert_eq!(page, [0; PAGE_SIZE]);
         let problem = areas.check_kept_map().expect_err("noticed").to_string();
-        assert_eq!(problem, "the map that was kept is not the one that Build makes");
+        let wanted = "the map that was kept is not the one that Build makes: ";
+        assert!(problem.starts_with(wanted), "{problem}");
     }
 }

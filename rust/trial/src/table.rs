@@ -4,9 +4,9 @@ use std::collections::BTreeMap;
 
 use crate::decided::Kinds;
 use crate::folder::RelationFile;
-use crate::kept::{DecidedSegment, Stored, StoredSegment};
 use crate::names::Names;
 use crate::segment::Counts;
+use crate::store::{DecidedSegment, Stored, StoredSegment};
 
 /// One line of the table.
 #[derive(Default)]
@@ -54,7 +54,7 @@ impl Row {
     }
 }
 
-fn thousands(number: u64) -> String {
+pub fn thousands(number: u64) -> String {
     let digits = number.to_string();
     let mut text = String::new();
     for (at, digit) in digits.chars().enumerate() {
@@ -66,7 +66,7 @@ fn thousands(number: u64) -> String {
     text
 }
 
-fn size(bytes: u64) -> String {
+pub fn size(bytes: u64) -> String {
     match bytes {
         0..=10_239 => format!("{} B", thousands(bytes)),
         10_240..=1_048_575 => format!("{:.0} KiB", bytes as f64 / 1024.0),
