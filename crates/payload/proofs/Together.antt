@@ -196,9 +196,10 @@ module _ (n : ℕ) (s page : List ℕ) (from after : ℕ) (m : n ≤ 65536) (o :
   entered : Entered n s on (stream n (before next) code (drop on s)) (pos (next + getD s on 0)) (getD s (from + 2 * i) 0) (on + 2)
   entered =
       let v : on + 1 ≡ from + 2 * i = omega arith in
+      let was : ℕ = from - 1 + 2 * i in
       subst (λ (y : ℕ). Entered n s on (stream n (before next) code (drop on s)) (pos (next + getD s on 0)) (getD s y 0) (on + 2)) v
       (subst (λ (x : ℕ). Entered n s x (stream n (before next) code (drop x s)) (pos (next + getD s x 0)) (getD s (x + 1) 0) (x + 2)) here
-      (subst (λ (a : ℕ). Entered n s (from - 1 + 2 * i) (stream n (before a) code (drop (from - 1 + 2 * i) s)) (pos (a + getD s (from - 1 + 2 * i) 0)) (getD s (from - 1 + 2 * i + 1) 0) (from - 1 + 2 * i + 2)) (sym e)
+      (subst (λ (a : ℕ). Entered n s was (stream n (before a) code (drop was s)) (pos (a + getD s was 0)) (getD s (was + 1) 0) (was + 2)) (sym e)
       (each-entered n s (from - 1) after m t i h)))
 
   pub lays-each : (page₁ : List ℕ) → LaysTo n s page from after page₁ (from + 2 * i) next

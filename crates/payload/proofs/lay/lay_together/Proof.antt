@@ -9,7 +9,8 @@ use Rattle.payload.proofs.lay.lay_together.Statement.{statement}
 use Rattle.payload.proofs.lay.lay_together.Tie as tie
 
 abbrev Inv-loop : tie.InvT-loop
-Inv-loop page₀ payload from after end place₀ next₀ page place next = (place - 1 ≤ length payload) × Lays end payload page₀ from after page (record { place = place; next = next })
+Inv-loop page₀ payload from after end place₀ next₀ page place next =
+    (place - 1 ≤ length payload) × LaysTo end payload page₀ from after page place next
 
 abbrev μ-loop : tie.MeasureT-loop
 μ-loop page₀ payload from after end place₀ next₀ page place next = length payload + 1 - place
@@ -39,6 +40,15 @@ told : (c : tie.Else1 Inv-loop μ-loop)
     afterTogether (a .end) (a .payload .now) (l .place - 1) (l .next) ≡ 0 → ⊥
 told c z = c .if1 .left (c .before .after-together .ensures ∙ z)
 
+next-taken : (c : tie.Else1 Inv-loop μ-loop)
+    → let a = c .before .before .before .before .before .args in
+    let l = c .before .before .loop in
+    Taken (a .end) (a .payload .now) (l .place - 1) (l .next)
+next-taken c =
+    let a = c .before .before .before .before .before .args in
+    let l = c .before .before .loop in
+    taken (a .end) (a .payload .now) (l .place - 1) (l .next) (told c)
+
 lay-each-requires : tie.Need-lay-each-requires Inv-loop μ-loop
 lay-each-requires c κs =
     let pre = c .before .before .before .before .before .before .pre in
@@ -49,7 +59,7 @@ add-place : tie.Need-add-place Inv-loop μ-loop
 add-place c =
     let a = c .before .before .before .before .before .before .before .before .before .args in
     let l = c .before .before .before .before .before .before .loop in
-    let t : Taken (a .end) (a .payload .now) (l .place - 1) (l .next) = taken (a .end) (a .payload .now) (l .place - 1) (l .next) (told (c .before .before .before .before)) in
+    let t = next-taken (c .before .before .before .before) in
     let some = c .before .before .before .before .before .before .before .before .before .pre .0 in
     record { fits = omega (arith, t .within, some, l .inv .1 .on) }
 
@@ -57,7 +67,7 @@ loop-less : tie.Need-loop-less Inv-loop μ-loop
 loop-less c =
     let a = c .before .before .before .before .before .before .before .before .before .args in
     let l = c .before .before .before .before .before .before .loop in
-    let t : Taken (a .end) (a .payload .now) (l .place - 1) (l .next) = taken (a .end) (a .payload .now) (l .place - 1) (l .next) (told (c .before .before .before .before)) in
+    let t = next-taken (c .before .before .before .before) in
     let some = c .before .before .before .before .before .before .before .before .before .pre .0 in
     omega (arith, t .within, some, l .inv .1 .on)
 
@@ -65,13 +75,14 @@ loop-again : tie.Need-loop-again Inv-loop μ-loop
 loop-again c =
     let a = c .before .before .before .before .before .before .before .before .before .args in
     let l = c .before .before .before .before .before .before .loop in
-    let t : Taken (a .end) (a .payload .now) (l .place - 1) (l .next) = taken (a .end) (a .payload .now) (l .place - 1) (l .next) (told (c .before .before .before .before)) in
+    let t = next-taken (c .before .before .before .before) in
     let some = c .before .before .before .before .before .before .before .before .before .pre .0 in
-    let each = c .before .before .lay-each in (
+    let each = c .before .before .lay-each in
+    let to = c .before .before .before .before .before .after-together .ensures in (
       omega (arith, t .within, some, l .inv .1 .on),
       lays-then (a .end) (a .payload .now) (a .page .now) (a .from) (a .after) (l .page) (record { place = l .place; next = l .next }) (each .last .0)
           (record { place = l .place + 16; next = c .before .before .before .before .before .after-together .result }) (l .inv .1)
-          (subst (λ (x : ℕ). LaysTo (a .end) (a .payload .now) (l .page) (l .place) (l .next) (each .last .0) (l .place + 16) x) (sym (c .before .before .before .before .before .after-together .ensures)) (each .ensures)),
+          (subst (λ (x : ℕ). LaysTo (a .end) (a .payload .now) (l .page) (l .place) (l .next) (each .last .0) (l .place + 16) x) (sym to) (each .ensures)),
     )
 
 pub lay-together-spec : {M : Type 1} → statement M
