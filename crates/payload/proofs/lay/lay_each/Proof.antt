@@ -106,7 +106,7 @@ returns c =
     let t : Taken (a .end) (a .payload .now) (a .from - 1) (a .after) = taken (a .end) (a .payload .now) (a .from - 1) (a .after) (c .before .before .pre .2) in
     let e : l .i ≡ 8 = omega (arith, l .inv .0, c .loop-test .left) in
     let place : a .from + 2 * l .i ≡ a .from + 2 * 8 = omega arith in
-    let count = λ (x : ℕ). a .after + x + jumpsOf (a .payload .now) (a .from - 1) x in
+    let count : ℕ → ℕ = λ x. a .after + x + jumpsOf (a .payload .now) (a .from - 1) x in
     let next : l .next ≡ a .after + 8 + jumpsOf (a .payload .now) (a .from - 1) 8 = l .inv .1 ∙ ap count e in
     subst (λ (x : ℕ). LaysTo (a .end) (a .payload .now) (a .page .now) (a .from) (a .after) (l .page) (a .from + 2 * 8) x) (next ∙ sym (t .is))
     (subst (λ (x : ℕ). LaysTo (a .end) (a .payload .now) (a .page .now) (a .from) (a .after) (l .page) x (l .next)) place (l .inv .2))
