@@ -9,9 +9,8 @@ use mathlib.Core.List.{List}
 use lib.Bits.{bitAnd, bitXor, and-step, and-self, and-block, and-zero-l, xor-self}
 use lib.Count.{trailingZeros}
 use lib.Dec.{eqb}
-use lib.ListN.{getD}
 use lib.Pow.{pow-add}
-use borrow.Author.Tests.{eqb-true, eqb-false}
+use borrow.Author.Tests.{eqb-true}
 use Rattle.differ.specs.Differ.{Same}
 use Rattle.writer.specs.Words.{wordBytes, numeral, oneUnless, marked, marks, FirstMark}
 use Rattle.writer.specs.WordLaws.{Bytes, unlike-none, zeros-even, zeros-odd}
@@ -88,9 +87,6 @@ module _ (a b : List ℕ) (wa : Bytes a) (wb : Bytes b) where
       (same-then at (at + wordBytes) (at + wordBytes + wordBytes * k) (marked-none at (omega arith)) (marks-none k (at + wordBytes) (omega arith)))
 
   -- the lowest mark
-
-  half-two : (y d : ℕ) → d ≤ 1 → (y * 2 + d) / 2 ≡ y
-  half-two y d h = omega arith
 
   -- the first word differs
   first-here : (at k x m i : ℕ) → x ≡ marks a b (at + wordBytes) k * 2 + 1 → i ≡ trailingZeros (suc m) x → FirstMark a b at (suc k) x i

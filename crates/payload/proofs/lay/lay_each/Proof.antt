@@ -2,7 +2,7 @@ use Prim.Native.Nat.{ℕ, _+_, _-_, _*_, _≤_, _<_}
 use native.Mathlib.Omega.{arith}
 use mathlib.Core.Path.{_≡_, sym, ap, _∙_, subst}
 use mathlib.Core.List.{List}
-use lib.ListN.{length, getD}
+use lib.ListN.{getD}
 use Rattle.payload.specs.Steps.{jumpsOf, LaysTo}
 use Rattle.payload.proofs.Turns.{lays-none}
 use Rattle.payload.proofs.Together.{jumps-none, Taken, taken, lands-in, lands-next, lays-each}

@@ -2,7 +2,7 @@ use Prim.Native.Nat.{ℕ, _+_, _-_, _≤_}
 use native.Mathlib.Omega.{arith}
 use mathlib.Core.Path.{_≡_, sym, _∙_, subst}
 use lib.ListN.{length}
-use Rattle.payload.specs.Steps.{afterTogether, Lays, LaysTo}
+use Rattle.payload.specs.Steps.{afterTogether, LaysTo}
 use Rattle.payload.proofs.Turns.{lays-none, lays-then}
 use Rattle.payload.proofs.Together.{Taken, taken}
 use Rattle.payload.proofs.lay.lay_together.Statement.{statement}

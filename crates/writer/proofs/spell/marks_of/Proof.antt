@@ -1,4 +1,4 @@
-use Prim.Native.Nat.{ℕ, _+_, _-_, _*_, _≤_}
+use Prim.Native.Nat.{ℕ, _-_, _≤_}
 use native.Mathlib.Omega.{arith}
 use mathlib.Core.Path.{_≡_, ap, _∙_}
 use borrow.Author.Needs.{needs}
@@ -6,9 +6,6 @@ use Rattle.writer.specs.Words.{strideWords, marks}
 use Rattle.writer.proofs.Marks.{marks-zero, marks-next}
 use Rattle.writer.proofs.spell.marks_of.Statement.{statement}
 use Rattle.writer.proofs.spell.marks_of.Tie as tie
-use Rattle.writer.proofs.spell.marks_of.Reads as reads
-use Rattle.writer.proofs.spell.marks_of.Lts as lts
-use Rattle.writer.proofs.words.word.Reads as word-reads
 
 abbrev Inv-loop : tie.InvT-loop
 Inv-loop base page at seen₀ i₀ seen i = (i ≤ strideWords) × (seen ≡ marks base page at i)
@@ -16,51 +13,39 @@ Inv-loop base page at seen₀ i₀ seen i = (i ≤ strideWords) × (seen ≡ mar
 abbrev μ-loop : tie.MeasureT-loop
 μ-loop base page at seen₀ i₀ seen i = strideWords - i
 
--- src/spell.rt:74:5
 loop-holds : tie.Need-loop-holds Inv-loop μ-loop
 loop-holds c = (omega arith, marks-zero (c .before .before .args .base .now) (c .before .before .args .page .now) (c .before .before .args .at))
 
--- src/spell.rt:75:37
 mul-word : tie.Need-mul-word Inv-loop μ-loop
 mul-word c = search needs
 
--- src/spell.rt:75:32
 add-word : tie.Need-add-word Inv-loop μ-loop
 add-word c = search needs
 
--- src/spell.rt:75:21
 word-requires : tie.Need-word-requires Inv-loop μ-loop
 word-requires c κs = search needs
 
--- src/spell.rt:75:66
 mul-word-2 : tie.Need-mul-word-2 Inv-loop μ-loop
 mul-word-2 c = search needs
 
--- src/spell.rt:75:61
 add-word-2 : tie.Need-add-word-2 Inv-loop μ-loop
 add-word-2 c = search needs
 
--- src/spell.rt:75:50
 word-requires-2 : tie.Need-word-requires-2 Inv-loop μ-loop
 word-requires-2 c κs = search needs
 
--- src/spell.rt:76:25
 cast-seen : tie.Need-cast-seen Inv-loop μ-loop
 cast-seen c = search needs
 
--- src/spell.rt:76:24
 shl-seen : tie.Need-shl-seen Inv-loop μ-loop
 shl-seen c = search needs
 
--- src/spell.rt:77:9
 add-i : tie.Need-add-i Inv-loop μ-loop
 add-i c = search needs
 
--- src/spell.rt:74:5
 loop-less : tie.Need-loop-less Inv-loop μ-loop
 loop-less c = search needs
 
--- src/spell.rt:74:5
 loop-again : tie.Need-loop-again Inv-loop μ-loop
 loop-again c =
     let a = c .before .before .before .before .before .before .args in
@@ -69,7 +54,6 @@ loop-again c =
       marks-next (a .base .now) (a .page .now) (a .at) (l .i) (l .seen) (c .before .word .result) (c .word2 .result) (search needs) (l .inv .1) (c .before .word .ensures) (c .word2 .ensures),
     )
 
--- src/spell.rt:68:1
 returns : tie.Need-returns Inv-loop μ-loop
 returns c =
     let a = c .before .before .before .before .args in

@@ -1,10 +1,8 @@
-use Prim.Native.Nat.{ℕ, _+_, _-_, _*_, _≤_, _<_}
+use Prim.Native.Nat.{_+_, _-_, _≤_}
 use native.Mathlib.Omega.{arith}
-use mathlib.Core.Path.{_≡_}
 use lib.Count.{trailingZeros}
 use Rattle.differ.specs.Differ.{stride}
 use Rattle.writer.specs.Steps.{Spells}
-use Rattle.writer.specs.Words.{wordBytes}
 use Rattle.writer.specs.WordLaws.{Bytes}
 use Rattle.writer.proofs.Spelling.{spells-none, spells-then}
 use Rattle.writer.proofs.Marks.{Passed, NextWord, passed-none, all-passed, next-word, fewer}
