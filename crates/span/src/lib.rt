@@ -1,6 +1,8 @@
 // Bytes in a slice: fill, copy, test. Every public function takes the part that it works on, so none asks anything of its
 // caller. The loops are shaped so that
 // the compiler turns them into wide instructions: no loop leaves early at a byte.
+#![tactic(auto)]
+
 ghost use Rattle.std.specs.Prelude.{◌≡◌, ◌+◌, ◌≤◌, min, eqb, length, set, take};
 ghost use Rattle.span.specs.Bytes.{bulk, zeros, splice, emptied, part as part_of, part_from, same as same_bytes};
 
