@@ -1,5 +1,7 @@
 // The bits of a map's bytes, counted. A pair has its low bit alone set where it is 1, its high bit alone where it is 2, and both where it
 // is 3. So where no pair is 3, there are as many PATCH pairs as high bits and as many full pairs as low bits.
+#![tactic(auto)]
+
 ghost use Rattle.std.specs.Prelude.{◌≡◌, ◌+◌, ◌≤◌, length};
 ghost use Rattle.std.specs.Int.Count.{ones};
 ghost use Rattle.bits.specs.Bits.{low_bits, high_bits, threes, Counts};

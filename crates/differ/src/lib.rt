@@ -18,8 +18,8 @@ impl Grid {
 
     // The code's numbers are the definitions'.
     pub fn agrees()
-        ensures* stride { do ⌜ (← (⟦Grid::STRIDE⟧).entry) ≡ stride ⌝ }
-        ensures* chunk { do ⌜ (← (⟦Grid::CHUNK⟧).entry) ≡ chunk ⌝ }
+        ensures stride { Grid.STRIDE ≡ stride }
+        ensures chunk { Grid.CHUNK ≡ chunk }
     {}
 }
 

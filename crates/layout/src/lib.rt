@@ -1,4 +1,6 @@
 // The layout of both areas: sizes, places, lengths, and the numbers that all calls share.
+#![tactic(auto)]
+
 pub mod area;
 pub mod number;
 
@@ -133,31 +135,31 @@ impl Layout {
 
     // The code's numbers are the definitions'.
     pub fn agrees()
-        ensures* pages { do ⌜ (← (⟦Layout::PAGE⟧).entry) ≡ page_size ⌝ }
-        ensures* segments { do ⌜ (← (⟦Layout::SEGMENT⟧).entry) ≡ segment ⌝ }
-        ensures* blocks { do ⌜ (← (⟦Layout::BLOCKS⟧).entry) ≡ blocks_at_most page_size ⌝ }
-        ensures* patch { do ⌜ (← (⟦Layout::PATCH_HEAD⟧).entry) ≡ patch_head ⌝ }
-        ensures* full { do ⌜ (← (⟦Layout::FULL_HEAD⟧).entry) ≡ full_head ⌝ }
-        ensures* slots { do ⌜ (← (⟦Layout::SLOT⟧).entry) ≡ slot_size ⌝ }
-        ensures* versions_at { do ⌜ (← (⟦Layout::VERSION_AT⟧).entry) ≡ version_at ⌝ }
-        ensures* rests_at { do ⌜ (← (⟦Layout::FLAGS_AT⟧).entry) ≡ rest_at ⌝ }
-        ensures* page_sizes_at { do ⌜ (← (⟦Layout::PAGE_SIZE_AT⟧).entry) ≡ page_size_at ⌝ }
-        ensures* slot_sizes_at { do ⌜ (← (⟦Layout::SLOT_SIZE_AT⟧).entry) ≡ slot_size_at ⌝ }
-        ensures* size_widths { do ⌜ (← (⟦Layout::SIZE_WIDTH⟧).entry) ≡ size_width ⌝ }
-        ensures* patch_fields { do ⌜ (← (⟦Layout::PATCH_FIELDS⟧).entry) ≡ patch_fields_size ⌝ }
-        ensures* full_fields { do ⌜ (← (⟦Layout::FULL_FIELDS⟧).entry) ≡ full_fields_size ⌝ }
-        ensures* patch_versions { do ⌜ (← (⟦Layout::PATCH_VERSION⟧).entry) ≡ patch_version ⌝ }
-        ensures* full_versions { do ⌜ (← (⟦Layout::FULL_VERSION⟧).entry) ≡ full_version ⌝ }
-        ensures* header_flags { do ⌜ (← (⟦Layout::HEADER_FLAGS⟧).entry) ≡ header_flags ⌝ }
-        ensures* kinds_at { do ⌜ (← (⟦Layout::KIND_AT⟧).entry) ≡ kind_at ⌝ }
-        ensures* slot_flags_at { do ⌜ (← (⟦Layout::SLOT_FLAGS_AT⟧).entry) ≡ slot_flags_at ⌝ }
-        ensures* lengths_at { do ⌜ (← (⟦Layout::LENGTH_AT⟧).entry) ≡ length_at ⌝ }
-        ensures* reserved_at { do ⌜ (← (⟦Layout::RESERVED_AT⟧).entry) ≡ reserved_at ⌝ }
-        ensures* payloads_at { do ⌜ (← (⟦Layout::PAYLOAD_AT⟧).entry) ≡ payload_at ⌝ }
-        ensures* rooms { do ⌜ (← (⟦Layout::ROOM⟧).entry) ≡ room ⌝ }
-        ensures* empty_kinds { do ⌜ (← (⟦Layout::EMPTY_KIND⟧).entry) ≡ empty_kind ⌝ }
-        ensures* patch_kinds { do ⌜ (← (⟦Layout::PATCH_KIND⟧).entry) ≡ patch_kind ⌝ }
-        ensures* full_kinds { do ⌜ (← (⟦Layout::FULL_KIND⟧).entry) ≡ full_kind ⌝ }
-        ensures* patch_flags { do ⌜ (← (⟦Layout::PATCH_FLAGS⟧).entry) ≡ patch_flags ⌝ }
+        ensures pages { Layout.PAGE ≡ page_size }
+        ensures segments { Layout.SEGMENT ≡ segment }
+        ensures blocks { Layout.BLOCKS ≡ blocks_at_most page_size }
+        ensures patch { Layout.PATCH_HEAD ≡ patch_head }
+        ensures full { Layout.FULL_HEAD ≡ full_head }
+        ensures slots { Layout.SLOT ≡ slot_size }
+        ensures versions_at { Layout.VERSION_AT ≡ version_at }
+        ensures rests_at { Layout.FLAGS_AT ≡ rest_at }
+        ensures page_sizes_at { Layout.PAGE_SIZE_AT ≡ page_size_at }
+        ensures slot_sizes_at { Layout.SLOT_SIZE_AT ≡ slot_size_at }
+        ensures size_widths { Layout.SIZE_WIDTH ≡ size_width }
+        ensures patch_fields { Layout.PATCH_FIELDS ≡ patch_fields_size }
+        ensures full_fields { Layout.FULL_FIELDS ≡ full_fields_size }
+        ensures patch_versions { Layout.PATCH_VERSION ≡ patch_version }
+        ensures full_versions { Layout.FULL_VERSION ≡ full_version }
+        ensures header_flags { Layout.HEADER_FLAGS ≡ header_flags }
+        ensures kinds_at { Layout.KIND_AT ≡ kind_at }
+        ensures slot_flags_at { Layout.SLOT_FLAGS_AT ≡ slot_flags_at }
+        ensures lengths_at { Layout.LENGTH_AT ≡ length_at }
+        ensures reserved_at { Layout.RESERVED_AT ≡ reserved_at }
+        ensures payloads_at { Layout.PAYLOAD_AT ≡ payload_at }
+        ensures rooms { Layout.ROOM ≡ room }
+        ensures empty_kinds { Layout.EMPTY_KIND ≡ empty_kind }
+        ensures patch_kinds { Layout.PATCH_KIND ≡ patch_kind }
+        ensures full_kinds { Layout.FULL_KIND ≡ full_kind }
+        ensures patch_flags { Layout.PATCH_FLAGS ≡ patch_flags }
     {}
 }

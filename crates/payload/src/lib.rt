@@ -47,11 +47,11 @@ impl Code {
 
     // The code's numbers are the definitions'.
     pub fn agrees()
-        ensures* long { do ⌜ (← (⟦Code::LONG⟧).entry) ≡ long_code ⌝ }
-        ensures* long_from { do ⌜ (← (⟦Code::LONG_FROM⟧).entry) ≡ long_from ⌝ }
-        ensures* short_width { do ⌜ (← (⟦Code::SHORT_WIDTH⟧).entry) ≡ short_entry ⌝ }
-        ensures* long_width { do ⌜ (← (⟦Code::LONG_WIDTH⟧).entry) ≡ long_entry ⌝ }
-        ensures* reach { do ⌜ (← (⟦Code::REACH⟧).entry) ≡ farthest ⌝ }
+        ensures long { Code.LONG ≡ long_code }
+        ensures long_from { Code.LONG_FROM ≡ long_from }
+        ensures short_width { Code.SHORT_WIDTH ≡ short_entry }
+        ensures long_width { Code.LONG_WIDTH ≡ long_entry }
+        ensures reach { Code.REACH ≡ farthest }
     {}
 }
 
