@@ -285,16 +285,16 @@ pub record AfterLast (a b : List ℕ) (from to r : ℕ) : Type 0 where
   pub alike : Same a b r to
   pub differ : from < r → get_or a (r - 1) 0 ≡ get_or b (r - 1) 0 → ⊥
 
-pub after_last_is : (a b : List ℕ) (from n : ℕ) → AfterLast a b from (from + n) (after_last a b from n)
+pub after_last_tells : (a b : List ℕ) (from n : ℕ) → AfterLast a b from (from + n) (after_last a b from n)
 unfolding after_last Same
-after_last_is a b from zero = record {
+after_last_tells a b from zero = record {
   on = omega arith;
   within = omega arith;
   alike = λ i h k. absurd (omega arith);
   differ = λ h. absurd
       (omega arith);
 }
-after_last_is a b from (suc n) = go (eqb (get_or a (from + n) 0) (get_or b (from + n) 0)) refl (after_last_is a b from n)
+after_last_tells a b from (suc n) = go (eqb (get_or a (from + n) 0) (get_or b (from + n) 0)) refl (after_last_tells a b from n)
   where
     go : (t : Bool) → eqb (get_or a (from + n) 0) (get_or b (from + n) 0) ≡ t → AfterLast a b from (from + n) (after_last a b from n)
         → AfterLast a b from (from + suc n) (elim t as (λ _. ℕ) [ true ↦ after_last a b from n | false ↦ from + n + 1 ])
@@ -338,7 +338,7 @@ after_last_one a b from to r s p q =
 pub after_last_is : (a b : List ℕ) (from to r : ℕ) → AfterLast a b from to r → r ≡ after_last a b from (to - from)
 after_last_is a b from to r w =
     let q : from + (to - from) ≡ to = omega (arith, w.on, w.within) in
-    after_last_one a b from to r (after_last a b from (to - from)) w (rw q at (after_last_is a b from (to - from)))
+    after_last_one a b from to r (after_last a b from (to - from)) w (rw q at (after_last_tells a b from (to - from)))
 
 -- where nothing differs, the place is the first
 pub diffs_zero : (a b : List ℕ) (from n : ℕ) → diffs_in a b from n ≡ 0 → Same a b from (from + n)
@@ -417,7 +417,7 @@ module _ (a b : List ℕ) (at : ℕ) (la : at + chunk ≤ length a) (lb : at + c
   -- no difference after the last one
   pub after_ahead : next_diff a b (after_last a b at chunk) ≡ next_diff a b (at + chunk)
   after_ahead =
-      let l : AfterLast a b at (at + chunk) (after_last a b at chunk) = after_last_is a b at chunk in
+      let l : AfterLast a b at (at + chunk) (after_last a b at chunk) = after_last_tells a b at chunk in
       next_skip a b (after_last a b at chunk) (at + chunk) l.within la lb l.alike
 
   module _ (d : Same a b at (at + chunk) → ⊥) where
@@ -436,7 +436,7 @@ module _ (a b : List ℕ) (at : ℕ) (la : at + chunk ≤ length a) (lb : at + c
     chunk_last_in =
         let f : ℕ = next_diff a b at in
         let n : NextAt a b at f = next_at a b at in
-        let l : AfterLast a b at (at + chunk) (after_last a b at chunk) = after_last_is a b at chunk in
+        let l : AfterLast a b at (at + chunk) (after_last a b at chunk) = after_last_tells a b at chunk in
         let h : f < at + chunk = chunk_first_in in
         elim (dec_lt f (after_last a b at chunk)) [
           | yes k ↦ omega arith
@@ -449,7 +449,7 @@ module _ (a b : List ℕ) (at : ℕ) (la : at + chunk ≤ length a) (lb : at + c
         let f : ℕ = next_diff a b at in
         let r : ℕ = after_last a b at chunk in
         let n : NextAt a b at f = next_at a b at in
-        let l : AfterLast a b at (at + chunk) r = after_last_is a b at chunk in
+        let l : AfterLast a b at (at + chunk) r = after_last_tells a b at chunk in
         let h : f < at + chunk = chunk_first_in in
         let o : f + 1 ≤ r = chunk_last_in in
         let w : r ≤ at + chunk = l.within in

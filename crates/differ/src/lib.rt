@@ -1,6 +1,8 @@
 // Where two slices differ: the next place, the next chunk, how many places of a chunk, and whether any. The loops are shaped so that the
 // compiler turns them into wide instructions: no loop leaves early at a byte, but `next_byte`, which looks at fewer than eight, and
 // `after_last`, which looks at one chunk.
+#![tactic(auto)]
+
 ghost use Rattle.std.specs.Prelude.{◌≡◌, true, false, ◌+◌, ◌-◌, ◌≤◌, min, length};
 ghost use Rattle.span.specs.Bytes.{part as part_of, same as same_bytes};
 ghost use Rattle.differ.specs.Differ.{chunk, stride, next_diff, diffs_in, Same, NextChunk, after_last, has_chunk, chunk_diffs, chunk_after};

@@ -1,4 +1,6 @@
 // The headers of both areas: written, and checked.
+#![tactic(auto)]
+
 ghost use Rattle.std.specs.Prelude.{◌≡◌, ◌≤◌, length, take, get_or};
 ghost use Rattle.span.specs.Bytes.{zeros, part, splice, same as same_bytes};
 ghost use Rattle.layout.specs.Sizes.{patch_head, full_head, size_width, rest_at};

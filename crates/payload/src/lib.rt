@@ -1,4 +1,6 @@
 // The reader's side of the stream: a payload's entries, one by one, checked as a whole, and laid over a page.
+#![tactic(auto)]
+
 pub mod entry;
 mod lay;
 mod walk;

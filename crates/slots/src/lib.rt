@@ -1,4 +1,6 @@
 // The three sound slots: told apart, and written.
+#![tactic(auto)]
+
 ghost use Rattle.std.specs.Prelude.{◌≡◌, cond, ◌&&◌, ◌≤◌, eqb, leb, length, get_or};
 ghost use Rattle.layout.specs.Sizes.{slot_size, room};
 ghost use Rattle.layout.specs.Numbers.{kind_number};

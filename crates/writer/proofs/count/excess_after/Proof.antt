@@ -1,7 +1,7 @@
 use native.Mathlib.Omega.{arith}
 use mathlib.Core.Path.{ap, ◌∙◌}
 use Rattle.differ.specs.Differ.{chunk}
-use Rattle.differ.specs.DifferLaws.{after_last_is, chunk_after_is}
+use Rattle.differ.specs.DifferLaws.{after_last_tells, chunk_after_is}
 use Rattle.writer.specs.Steps.{excess_of}
 use Rattle.writer.proofs.Chunks.{excess_none}
 use borrow.Author.Rules.{rules}
@@ -28,7 +28,7 @@ excess-requires c κs =
     let a = c.before.before.before.before.args in
     let most = c.before.before.before.before.requires in
     let after = c.after-chunk.ensures ∙ chunk_after_is a.base.now a.page.now a.mark most.1.in_base most.1.within_page in
-    omega (arith, most.0, after, (after_last_is a.base.now a.page.now a.mark chunk).within)
+    omega (arith, most.0, after, (after_last_tells a.base.now a.page.now a.mark chunk).within)
 
 returns-2 : tie.Need-returns-2
 returns-2 c =

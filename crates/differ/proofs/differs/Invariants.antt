@@ -1,0 +1,15 @@
+use borrow.Author.Rules.{rules}
+use Rattle.differ.proofs.Turns.{same_none, seen_same, seen_unlike}
+use Prim.Native.Nat.{◌+◌, ◌-◌, ◌≤◌}
+use native.Mathlib.Omega.{arith}
+use mathlib.Core.Path.{◌≡◌}
+use mathlib.Core.Bool.{true, false, false≢true}
+use Rattle.differ.specs.Differ.{Same}
+use Rattle.differ.proofs.differs.Given as goal
+
+abbrev pub invariant-loop-i : goal.invariant-loop-i
+invariant-loop-i l =
+    (l.i ≤ l.count) × (l.seen ≡ false → Same l.a l.b l.at (l.at + l.i)) × (l.seen ≡ true → Same l.a l.b l.at (l.at + l.i) → ⊥)
+
+abbrev pub decreases-loop-i : goal.decreases-loop-i
+decreases-loop-i l = l.count - l.i

@@ -1,0 +1,15 @@
+use Prim.Native.Nat.{ℕ, ◌+◌, ◌-◌}
+use mathlib.Core.List.{List}
+use native.Mathlib.Omega.{arith}
+use lib.ListN.{length, get_or}
+use Rattle.payload.specs.Steps.{Lays}
+use Rattle.payload.proofs.Reading.{Opened, opened_long, enters, leaves}
+use Rattle.payload.proofs.Turns.{lays_none, lays_more, over_broken, over_few}
+use borrow.Author.Rules.{rules}
+use Rattle.payload.proofs.lay.lay_longs.Given as goal
+
+abbrev pub invariant-loop-place : goal.invariant-loop-place
+invariant-loop-place l = Lays l.end l.payload l.initial.page l.from l.after l.page (record { place = l.place; next = l.next })
+
+abbrev pub decreases-loop-place : goal.decreases-loop-place
+decreases-loop-place l = length l.payload - l.place
