@@ -16,7 +16,7 @@ returns-then-a-from c = let a = c.args in
 
 pub skip_equal-near-requires : goal.skip_equal-near-requires
 skip_equal-near-requires c = let a = c.args in
-    let wide = c.skip_Equal in
+    let wide = c.skip_equal-wide in
     let end = c.shorter-end in (
       chunk_within chunk a.a.now a.b.now (a.from + 8) wide.result end.result (omega arith) end.ensures wide.ensures,
       end.ensures,
@@ -25,7 +25,7 @@ skip_equal-near-requires c = let a = c.args in
 
 pub next_byte-requires-2 : goal.next_byte-requires-2
 next_byte-requires-2 c = let a = c.args in
-    let wide = c.skip_Equal in
+    let wide = c.skip_equal-wide in
     let near = c.skip_equal-near in
     let end = c.shorter-end in (
       chunk_within 8 a.a.now a.b.now wide.result near.result end.result
@@ -36,7 +36,7 @@ next_byte-requires-2 c = let a = c.args in
 
 pub returns : goal.returns
 returns c = let a = c.args in
-    let wide = c.skip_Equal in
+    let wide = c.skip_equal-wide in
     let near = c.skip_equal-near in
     let word = c.differs.ensures.0 c.if-differs.false in
     c.next_byte-2.ensures

@@ -9,19 +9,19 @@ use Rattle.slots.proofs.payload_length.Goals as goal
 
 pub returns-in-Patch : goal.returns-in-Patch
 returns-in-Patch c = let s : List ℕ = c.args.slot.now in
-    patch_length_is s c.n-1.given.0.0 (sym (ap state_numbers c.n-1.given.1) ∙ c.slot_state.ensures)
+    patch_length_is s c.in-Patch.n (sym (ap state_numbers c.in-Patch.is) ∙ c.slot_state.ensures)
 
 pub returns-in-Empty : goal.returns-in-Empty
 returns-in-Empty c = let s : List ℕ = c.args.slot.now in
-    let n = sym (ap state_numbers c.enum_told-1.given.1) ∙ c.slot_state.ensures in
+    let n = sym (ap state_numbers c.in-Empty.is) ∙ c.slot_state.ensures in
     other_length_is s _ n (λ q. omega arith)
 
 pub returns-in-Full : goal.returns-in-Full
 returns-in-Full c = let s : List ℕ = c.args.slot.now in
-    let n = sym (ap state_numbers c.enum_told-in-Full-1.given.1) ∙ c.slot_state.ensures in
+    let n = sym (ap state_numbers c.in-Full.is) ∙ c.slot_state.ensures in
     other_length_is s _ n (λ q. omega arith)
 
 pub returns-in-Unsound : goal.returns-in-Unsound
 returns-in-Unsound c = let s : List ℕ = c.args.slot.now in
-    let n = sym (ap state_numbers c.enum_told-in-Unsound-1.given.1) ∙ c.slot_state.ensures in
+    let n = sym (ap state_numbers c.in-Unsound.is) ∙ c.slot_state.ensures in
     other_length_is s _ n (λ q. omega arith)

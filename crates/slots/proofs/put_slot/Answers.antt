@@ -24,7 +24,7 @@ pub returns-in-Empty : goal.returns-in-Empty
 unfolding slot_image empty_slot
 returns-in-Empty c = let s : List ℕ = c.args.slot.now in
     let p : List ℕ = c.args.payload.now in
-    let told = c.enum_told-1.given.1 in
+    let told = c.in-Empty.is in
     let e : length s ≡ slot_size = c.if-slot-ne-SLOT.false in
     rw (eq-eqb (length s) slot_size e, le-leb (length p) room c.if-payload-gt-ROOM.false, told)
     (c.fill.ensures ∙ ap (λ (n : ℕ). zeros n) e)
@@ -33,7 +33,7 @@ pub returns-in-Patch : goal.returns-in-Patch
 unfolding slot_image
 returns-in-Patch c = let s : List ℕ = c.args.slot.now in
     let p : List ℕ = c.args.payload.now in
-    let told = c.enum_told-in-Patch-1.given.1 in
+    let told = c.in-Patch.is in
     let e : length s ≡ slot_size = c.if-slot-ne-SLOT.false in
     rw (eq-eqb (length s) slot_size e, le-leb (length p) room c.if-payload-gt-ROOM.false, told)
     c.write_patch.ensures
@@ -42,7 +42,7 @@ pub returns-in-Full : goal.returns-in-Full
 unfolding slot_image
 returns-in-Full c = let s : List ℕ = c.args.slot.now in
     let p : List ℕ = c.args.payload.now in
-    let told = c.enum_told-in-Full-1.given.1 in
+    let told = c.in-Full.is in
     let e : length s ≡ slot_size = c.if-slot-ne-SLOT.false in
     rw (eq-eqb (length s) slot_size e, le-leb (length p) room c.if-payload-gt-ROOM.false, told)
     (ap (λ (l : List ℕ). set l 0 2) (c.fill-in-Full.ensures ∙ ap (λ (n : ℕ). zeros n) e) ∙ full_laid)

@@ -14,7 +14,7 @@ pub returns-then-to-lt0 : goal.returns-then-to-lt0
 returns-then-to-lt0 c = let a = c.args in
     let q : ℤ = c.moved-to.result in
     let e : to_z w64 (of_z w64 q) ≡ a.position +ℤ pos (a.jump + 1) =
-    to_z-of_z w64 q (record { sfits = c.moved-to.type-inv })
+    to_z-of_z w64 q (record { sfits = c.moved-to.type_inv })
     ∙ c.moved-to.ensures
     ∙ ap (λ (z : ℤ). z +ℤ pos (a.jump + 1)) (to_z-of_z w32 a.position c.ranges.position) in
     below (reach a.size) (to_z w64 (of_z w64 q)) (a.position +ℤ pos (a.jump + 1)) a.value a.next e c.if-to-lt0.true
@@ -22,14 +22,14 @@ returns-then-to-lt0 c = let a = c.args in
 pub overflow_cast-at : goal.overflow_cast-at
 overflow_cast-at c = let q : ℤ = c.moved-to.result in
     let r : ℤ = to_z w64 (of_z w64 q) in
-    let f : SFits w64 q = record { sfits = c.moved-to.type-inv } in
+    let f : SFits w64 q = record { sfits = c.moved-to.type_inv } in
     (not_below r c.if-to-lt0.false, read_fits r c.if-to-lt0.false q (to_z-of_z w64 q f) f)
 
 pub returns-then-at-ge-REACH : goal.returns-then-at-ge-REACH
 returns-then-at-ge-REACH c = let a = c.args in
     let q : ℤ = c.moved-to.result in
     let e : to_z w64 (of_z w64 q) ≡ a.position +ℤ pos (a.jump + 1) =
-    to_z-of_z w64 q (record { sfits = c.moved-to.type-inv })
+    to_z-of_z w64 q (record { sfits = c.moved-to.type_inv })
     ∙ c.moved-to.ensures
     ∙ ap (λ (z : ℤ). z +ℤ pos (a.jump + 1)) (to_z-of_z w32 a.position c.ranges.position) in
     beyond (reach a.size) (to_z w64 (of_z w64 q)) (a.position +ℤ pos (a.jump + 1)) a.value a.next e (omega arith)
@@ -38,7 +38,7 @@ pub returns-then-size-at : goal.returns-then-size-at
 returns-then-size-at c = let a = c.args in
     let q : ℤ = c.moved-to.result in
     let e : to_z w64 (of_z w64 q) ≡ a.position +ℤ pos (a.jump + 1) =
-    to_z-of_z w64 q (record { sfits = c.moved-to.type-inv })
+    to_z-of_z w64 q (record { sfits = c.moved-to.type_inv })
     ∙ c.moved-to.ensures
     ∙ ap (λ (z : ℤ). z +ℤ pos (a.jump + 1)) (to_z-of_z w32 a.position c.ranges.position) in
     beyond (reach a.size) (to_z w64 (of_z w64 q)) (a.position +ℤ pos (a.jump + 1)) a.value a.next e (omega arith)
@@ -50,7 +50,7 @@ pub returns : goal.returns
 returns c = let a = c.args in
     let q : ℤ = c.moved-to.result in
     let e : to_z w64 (of_z w64 q) ≡ a.position +ℤ pos (a.jump + 1) =
-    to_z-of_z w64 q (record { sfits = c.moved-to.type-inv })
+    to_z-of_z w64 q (record { sfits = c.moved-to.type_inv })
     ∙ c.moved-to.ensures
     ∙ ap (λ (z : ℤ). z +ℤ pos (a.jump + 1)) (to_z-of_z w32 a.position c.ranges.position) in
     landed_in (to_z w64 (of_z w64 q)) c.if-to-lt0.false (reach a.size) (a.position +ℤ pos (a.jump + 1)) a.value a.next e (omega arith)

@@ -19,15 +19,15 @@ returns-then-payload-place-lt-SHORT_WIDTH c = let a = c.args in
 
 pub overflow_cast-first : goal.overflow_cast-first
 overflow_cast-first c = let a = c.args in
-    omega (arith, c.shared_slice_known-then-first-1.given a.place)
+    omega (arith, c.type_inv.payload a.place)
 
 pub landed-requires : goal.landed-requires
 landed-requires c = let a = c.args in
-    omega (arith, c.shared_slice_known-then-first-1.given a.place)
+    omega (arith, c.type_inv.payload a.place)
 
 pub returns-then-first : goal.returns-then-first
 returns-then-first c = let a = c.args in
-    let b = c.shared_slice_known-then-first-1.given a.place in
+    let b = c.type_inv.payload a.place in
     let j = get_or a.payload.now a.place 0 in
     let o : Opened a.payload.now a.place j 2 =
     opened_short a.payload.now a.place (omega arith) (omega (arith, b)) c.if-first.true in

@@ -13,7 +13,7 @@ pub loop-place-init : goal.loop-place-init
 loop-place-init c = lays_none c.args.end c.args.payload.now c.args.page.now c.args.from c.args.after c.requires.1
 
 pub overflow_cast-at : goal.overflow_cast-at
-overflow_cast-at c = omega (arith, c.shared_slice_known-1.given (c.loop-place.place - 1))
+overflow_cast-at c = omega (arith, c.type_inv.payload (c.loop-place.place - 1))
 
 -- the entry whose value stands at `place`
 opened : (c : Else-first)
@@ -23,10 +23,10 @@ opened : (c : Else-first)
 opened c =
     let k = c.loop-place.place in
     opened_short c.args.payload.now (k - 1) (omega arith)
-    (omega (arith, c.shared_slice_known-1.given (k - 1))) c.if-first.false
+    (omega (arith, c.type_inv.payload (k - 1))) c.if-first.false
 
 pub overflow_add-at : goal.overflow_add-at
-overflow_add-at c = omega (arith, c.shared_slice_known-1.given (c.loop-place.place - 1))
+overflow_add-at c = omega (arith, c.type_inv.payload (c.loop-place.place - 1))
 
 pub overflow_add-place : goal.overflow_add-place
 overflow_add-place c = omega arith

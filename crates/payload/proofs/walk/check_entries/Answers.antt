@@ -85,7 +85,7 @@ loop-after-preserved-then-to-ne0 c = (c.loop-after.invariant.0, omega (arith, (s
 -- what the step found, and where it looked from
 from : (c : After-position_before-last)
     → to_z w32 (of_z w32 c.position_before-last.result) ≡ before c.loop-after.after
-from c = to_z-of_z w32 c.position_before-last.result (record { sfits = c.position_before-last.type-inv }) ∙ c.position_before-last.ensures
+from c = to_z-of_z w32 c.position_before-last.result (record { sfits = c.position_before-last.type_inv }) ∙ c.position_before-last.ensures
 
 follows : (c : After-step) (r : Step) → c.step.result ≡ r
     → let a = c.args in
@@ -106,7 +106,7 @@ returns-in-End c = let a = c.args in
     sound_told n a.payload.now l.entries p
     (subst (SoundAs n a.payload.now l.entries) (sym (from (goal.at.returns-in-End c).After-position_before-last))
     (passed_all n a.payload.now l.place (before l.after) l.entries l.invariant.2 (omega arith) (omega arith)
-    (follows (goal.at.returns-in-End c).After-step End c.enum_told-1.given.1)))
+    (follows (goal.at.returns-in-End c).After-step End c.in-End.is)))
 
 pub returns-in-Broken : goal.returns-in-Broken
 returns-in-Broken c = let a = c.args in
@@ -114,24 +114,24 @@ returns-in-Broken c = let a = c.args in
     let n : ℕ = reach a.size in
     unsound_told n a.payload.now l.place
     (passed_broken n a.payload.now l.place (before l.after) l.entries l.invariant.2 (omega arith)
-    (follows (goal.at.returns-in-Broken c).After-step Broken c.enum_told-in-Broken-1.given.1))
+    (follows (goal.at.returns-in-Broken c).After-step Broken c.in-Broken.is))
 
 entered : (c : In-Entry-2)
     → let a = c.args in
     let l = c.loop-after in
     Entered (reach a.size) a.payload.now l.place
-    (stream (reach a.size) (before l.after) code (drop l.place a.payload.now)) c.at-1.given.0.0 c.at-1.given.0.1.0
-    c.at-1.given.0.1.1.0
-entered c = follows c.After-step (Entry c.at-1.given.0.0 c.at-1.given.0.1.0 c.at-1.given.0.1.1.0) c.at-1.given.1
+    (stream (reach a.size) (before l.after) code (drop l.place a.payload.now)) c.in-Entry.at c.in-Entry.value
+    c.in-Entry.next
+entered c = follows c.After-step (Entry c.in-Entry.at c.in-Entry.value c.in-Entry.next) c.in-Entry.is
 
 pub overflow_cast-after : goal.overflow_cast-after
 overflow_cast-after c = let a = c.args in
-    let q : ℤ = c.at-1.given.0.0 in
+    let q : ℤ = c.in-Entry.at in
     index_fits (reach a.size) q (omega arith) (entered (goal.at.overflow_cast-after c).In-Entry-2).lands
 
 pub overflow_add-after : goal.overflow_add-after
 overflow_add-after c = let a = c.args in
-    let q : ℤ = c.at-1.given.0.0 in
+    let q : ℤ = c.in-Entry.at in
     omega (arith, index_in (reach a.size) q (omega arith) (entered (goal.at.overflow_add-after c).In-Entry-2).lands)
 
 pub loop-after-smaller : goal.loop-after-smaller
@@ -142,11 +142,11 @@ pub loop-after-preserved : goal.loop-after-preserved
 loop-after-preserved c = let a = c.args in
     let l = c.loop-after in
     let n : ℕ = reach a.size in
-    let q : ℤ = c.at-1.given.0.0 in
+    let q : ℤ = c.in-Entry.at in
     let k : ℕ = nat_abs (to_z w32 (of_z w32 q)) in
     let m = entered (goal.at.loop-after-preserved c).In-Entry-2 in (
       l.invariant.0,
       omega (arith, index_in n q (omega arith) m.lands),
-      passed_more n a.payload.now l.place (before l.after) l.entries l.invariant.2 q (before (k + 1)) c.at-1.given.0.1.0
-          c.at-1.given.0.1.1.0 (before_next k ∙ index_is n q (omega arith) m.lands) m,
+      passed_more n a.payload.now l.place (before l.after) l.entries l.invariant.2 q (before (k + 1)) c.in-Entry.value
+          c.in-Entry.next (before_next k ∙ index_is n q (omega arith) m.lands) m,
     )

@@ -12,12 +12,12 @@ loop-i-init c = (omega arith, sym (jumps_none c.args.payload.now c.args.place))
 pub overflow_cast-sum : goal.overflow_cast-sum
 overflow_cast-sum c = let a = c.args in
     let l = c.loop-i in
-    omega (arith, c.shared_slice_known-1.given (a.place + 2 * l.i))
+    omega (arith, c.type_inv.payload (a.place + 2 * l.i))
 
 pub overflow_add-sum-in-loop-i : goal.overflow_add-sum-in-loop-i
 overflow_add-sum-in-loop-i c = let a = c.args in
     let l = c.loop-i in
-    let known = c.shared_slice_known-1.given in
+    let known = c.type_inv.payload in
     omega (arith, l.invariant.1, known (a.place + 2 * l.i), jumps_few a.payload.now a.place (λ i. (known i).fits) l.i)
 
 pub loop-i-preserved : goal.loop-i-preserved
