@@ -15,4 +15,4 @@ overflow_add-result c = let f : c.args.by < 2 ^ 32 = c.ranges.by.fits in
 
 pub returns : goal.returns
 returns c = let f : c.args.by < 2 ^ 32 = c.ranges.by.fits in
-    to_z-of_z w64 _ (add-result c) ∙ sum_read c.args.position c.args.by c.ranges.position f
+    to_z-of_z w64 _ (rw (sum_read c.args.position c.args.by c.ranges.position f) (moved_fits c.args.position c.args.by c.ranges.position f)) ∙ sum_read c.args.position c.args.by c.ranges.position f

@@ -16,7 +16,7 @@ use Rattle.payload.proofs.Together.{passed_together}
 use Rattle.payload.proofs.Turns.{told, index_is, index_in, index_fits, Passed, passed_none, passed_more, passed_all, passed_broken}
 use borrow.Author.Rules.{rules}
 use Rattle.payload.proofs.walk.check_entries.Goals as goal
-use Rattle.payload.proofs.walk.check_entries.Goals.{After-position_before-last, After-step, In-Entry-2, Then-far-ne0, Then-to-ne0}
+use Rattle.payload.proofs.walk.check_entries.Goals.{After-position_before-last, After-step, In-Entry, Then-far-ne0, Then-to-ne0}
 
 pub loop-after-init : goal.loop-after-init
 loop-after-init c = let a = c.args in
@@ -96,7 +96,8 @@ follows c r e =
     let a = c.args in
     let l = c.loop-after in
     told (reach a.size) a.payload.now l.place (before l.after) (to_z w32 (of_z w32 c.position_before-last.result)) c.step.result r
-    (from c.After-position_before-last) e c.step.ensures
+    (to_z-of_z w32 c.position_before-last.result (record { sfits = c.position_before-last.type_inv }) ∙ c.position_before-last.ensures) e
+    c.step.ensures
 
 pub returns-in-End : goal.returns-in-End
 returns-in-End c = let a = c.args in
@@ -116,26 +117,32 @@ returns-in-Broken c = let a = c.args in
     (passed_broken n a.payload.now l.place (before l.after) l.entries l.invariant.2 (omega arith)
     (follows (goal.at.returns-in-Broken c).After-step Broken c.in-Broken.is))
 
-entered : (c : In-Entry-2)
+entered : (c : In-Entry)
     → let a = c.args in
     let l = c.loop-after in
     Entered (reach a.size) a.payload.now l.place
     (stream (reach a.size) (before l.after) code (drop l.place a.payload.now)) c.in-Entry.at c.in-Entry.value
     c.in-Entry.next
-entered c = follows c.After-step (Entry c.in-Entry.at c.in-Entry.value c.in-Entry.next) c.in-Entry.is
+entered c =
+    let a = c.args in
+    let l = c.loop-after in
+    told (reach a.size) a.payload.now l.place (before l.after) (to_z w32 (of_z w32 c.position_before-last.result)) c.step.result
+    (Entry c.in-Entry.at c.in-Entry.value c.in-Entry.next)
+    (to_z-of_z w32 c.position_before-last.result (record { sfits = c.position_before-last.type_inv }) ∙ c.position_before-last.ensures)
+    c.in-Entry.is c.step.ensures
 
 pub overflow_cast-after : goal.overflow_cast-after
 overflow_cast-after c = let a = c.args in
     let q : ℤ = c.in-Entry.at in
-    index_fits (reach a.size) q (omega arith) (entered (goal.at.overflow_cast-after c).In-Entry-2).lands
+    index_fits (reach a.size) q (omega arith) (entered (goal.at.overflow_cast-after c).In-Entry).lands
 
 pub overflow_add-after : goal.overflow_add-after
 overflow_add-after c = let a = c.args in
     let q : ℤ = c.in-Entry.at in
-    omega (arith, index_in (reach a.size) q (omega arith) (entered (goal.at.overflow_add-after c).In-Entry-2).lands)
+    omega (arith, index_in (reach a.size) q (omega arith) (entered (goal.at.overflow_add-after c).In-Entry).lands)
 
 pub loop-after-smaller : goal.loop-after-smaller
-loop-after-smaller c = let m = entered (goal.at.loop-after-smaller c).In-Entry-2 in
+loop-after-smaller c = let m = entered (goal.at.loop-after-smaller c).In-Entry in
     omega (arith, m.on, m.within)
 
 pub loop-after-preserved : goal.loop-after-preserved
@@ -144,7 +151,7 @@ loop-after-preserved c = let a = c.args in
     let n : ℕ = reach a.size in
     let q : ℤ = c.in-Entry.at in
     let k : ℕ = nat_abs (to_z w32 (of_z w32 q)) in
-    let m = entered (goal.at.loop-after-preserved c).In-Entry-2 in (
+    let m = entered (goal.at.loop-after-preserved c).In-Entry in (
       l.invariant.0,
       omega (arith, index_in n q (omega arith) m.lands),
       passed_more n a.payload.now l.place (before l.after) l.entries l.invariant.2 q (before (k + 1)) c.in-Entry.value

@@ -11,4 +11,4 @@ pub overflow_sub-result : goal.overflow_sub-result
 overflow_sub-result c = rw (before_read c.args.place c.requires) (before_fits c.args.place c.requires)
 
 pub returns : goal.returns
-returns c = to_z-of_z w32 (to_z w32 c.args.place -ℤ pos 1) (sub-result c) ∙ before_read c.args.place c.requires
+returns c = to_z-of_z w32 (to_z w32 c.args.place -ℤ pos 1) (rw (before_read c.args.place c.requires) (before_fits c.args.place c.requires)) ∙ before_read c.args.place c.requires

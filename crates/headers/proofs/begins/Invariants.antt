@@ -1,0 +1,16 @@
+use borrow.Author.Rules.{rules}
+use Prim.Native.Nat.{ℕ, ◌-◌, ◌≤◌}
+use native.Mathlib.Omega.{arith}
+use mathlib.Core.Path.{◌≡◌, refl, ap, ◌∙◌}
+use mathlib.Core.List.{List}
+use lib.ListN.{length}
+use Rattle.span.specs.Bytes.{part, same}
+use Rattle.span.specs.Laws.{part_whole}
+use Rattle.headers.proofs.Turns.{like_none, like_more, too_short}
+use Rattle.headers.proofs.begins.Given as goal
+
+abbrev pub invariant-loop-i : goal.invariant-loop-i
+invariant-loop-i l = (l.i ≤ length l.fields) × (l.like ≡ same (part 0 l.i l.area) (part 0 l.i l.fields))
+
+abbrev pub decreases-loop-i : goal.decreases-loop-i
+decreases-loop-i l = length l.fields - l.i
