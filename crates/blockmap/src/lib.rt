@@ -1,4 +1,6 @@
 // The block map: two bits for each block.
+#![tactic(auto)]
+
 ghost use Rattle.std.specs.Prelude.{◌≡◌, cond, ◌+◌, ◌-◌, ◌*◌, ◌/◌, ◌%◌, ◌^◌, leb, length};
 ghost use Rattle.layout.specs.Sizes.{page_size};
 ghost use Rattle.layout.specs.Numbers.{kind_number};

@@ -1,4 +1,6 @@
 // The writer's stream of two pages.
+#![tactic(auto)]
+
 mod count;
 mod spell;
 mod words;
