@@ -38,6 +38,7 @@ INSTEAD = {
 # Names that port.py had made snake case before, in the files where another name would now fall together with them.
 BESIDE = {
     "crates/differ/specs/DifferLaws.antt": {"after_last": "after_last_tells"},
+    "crates/writer/proofs/Chunks.antt": {"after_last": "after_last_tells"},
     "crates/writer/proofs/count/excess_after/Proof.antt": {"after_last": "after_last_tells"},
     "crates/entry_reader/specs/TurnLaws.antt": {"by_tests": "by_tests_is", "turn_by": "turn_by_is"},
     "crates/entry_reader/specs/Given.antt": {"by_tests": "by_tests_is"},

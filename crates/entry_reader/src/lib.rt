@@ -1,5 +1,7 @@
 // The entry reader: a payload and a place in it, moved one entry at a time. The borrow checker covers no function over a struct that
 // holds a slice, so the two functions over the reader are thin, and `step_at` does the work on a slice and numbers.
+#![tactic(auto)]
+
 ghost use Rattle.std.specs.Prelude.{◌≡◌};
 ghost use Rattle.payload.specs.Steps.{reach};
 ghost use Rattle.entry_reader.specs.Turns.{stands as stands_in, stays, Turned};

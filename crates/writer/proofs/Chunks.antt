@@ -6,7 +6,7 @@ use mathlib.Core.Path.{◌≡◌, refl, sym, ◌∙◌}
 use mathlib.Core.List.{List}
 use lib.ListN.{length}
 use Rattle.differ.specs.Differ.{chunk, next_diff, diffs_in, after_last, chunk_diffs, NextChunk}
-use Rattle.differ.specs.DifferLaws.{next_at, after_last, diffs_zero, after_ahead, chunk_first_in, chunk_last_in, chunk_near, chunk_diffs_is}
+use Rattle.differ.specs.DifferLaws.{next_at, after_last_tells, diffs_zero, after_ahead, chunk_first_in, chunk_last_in, chunk_near, chunk_diffs_is}
 use Rattle.payload.specs.Steps.{farthest}
 use Rattle.writer.specs.Steps.{width_of, Counted, Reached, Unlike, excess_of}
 use Rattle.writer.specs.declared.Spelled.{Spelled}
@@ -70,7 +70,7 @@ marked base page at s w u extra count x c =
                 counted_near base page (f + 1) (s.used + width_of (f - s.next)) (s.entries + 1) one r (count - 1)
                 (chunk_near base page at u.in_base u.within_page u.differ (count - 1) (omega arith)) used entries
                 (omega (arith, width_least (f - s.next))) (omega arith);
-            on = (after_last base page at chunk).within;
+            on = (after_last_tells base page at chunk).within;
             ahead = after_ahead base page at u.in_base u.within_page;
           };
     }

@@ -51,7 +51,7 @@ returns-then-end-at-lt-STRIDE c = let a = c.args in
     let end = c.shorter-end in
     let tail = c.spell_tail-s in
     spelled_all a.base.now a.page.now end.result tail.result tail.ensures.0 c.found.result c.found.ensures end.ensures
-    a.room.now tail.new.page.1.1.1.0 (tail.ensures.1.1 a.room.now l.invariant.2)
+    a.room.now tail.new.room (tail.ensures.1.1 a.room.now l.invariant.2)
 
 pub count_rest-requires : goal.count_rest-requires
 count_rest-requires c = let at = chunk-at (goal.at.count_rest-requires c).After-next_stride-at in

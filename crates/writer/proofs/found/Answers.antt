@@ -14,5 +14,5 @@ pub returns : goal.returns
 returns c = (
   refl,
   refl,
-  to_z-of_z w32 (to_z w32 c.args.next -ℤ pos 1) (sub-t5 c) ∙ before_read c.args.next c.requires,
+  to_z-of_z w32 (to_z w32 c.args.next -ℤ pos 1) (rw (before_read c.args.next c.requires) (before_fits c.args.next c.requires)) ∙ before_read c.args.next c.requires,
 )

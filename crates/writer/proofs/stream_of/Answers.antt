@@ -16,5 +16,5 @@ encode-requires c = let a = c.args in
 
 pub returns : goal.returns
 returns c = let a = c.args in
-    subst (λ (l : List ℕ). Differs a.base.now l a.room.now c.encode.result c.encode.new.page.1.0)
+    subst (λ (l : List ℕ). Differs a.base.now l a.room.now c.encode.result c.encode.new.room)
     c.part.ensures.bytes c.encode.ensures

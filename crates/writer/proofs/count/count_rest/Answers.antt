@@ -42,7 +42,11 @@ first-marked c =
     let a = c.args in
     let end = c.shorter-end in
     let mark = c.next_chunk-mark in
-    let at = first-at c.After-next_chunk-mark in
+    let at = (let a = c.args in
+    let most = c.requires in
+    let end = c.shorter-end in
+    chunk_reached chunk a.base.now a.page.now a.from end.result c.next_chunk-mark.result a.before
+    (omega (arith, end.ensures, most.0, most.1)) end.ensures most.3 c.next_chunk-mark.ensures) in
     marked a.base.now a.page.now mark.result a.before at.reached
     (unlike_at a.base.now a.page.now a.from end.result mark.result end.ensures (omega (arith, at.within, c.if-end-mark-lt-CHUNK.false))
     mark.ensures) c.excess.result c.count_chunk-first.result c.excess.ensures c.count_chunk-first.ensures
@@ -113,7 +117,16 @@ unlike c =
     let end = c.shorter-end in
     let next = c.next_chunk-at in
     unlike_at a.base.now a.page.now (c.loop-next.mark + chunk) end.result next.result end.ensures
-    (omega (arith, (next_at c.After-next_chunk-at).within, c.if-end-at-lt-CHUNK.false)) next.ensures
+    (omega (
+      arith,
+      (let a = c.args in
+          let end = c.shorter-end in
+          let l = c.loop-next in
+          chunk_reached chunk a.base.now a.page.now (l.mark + chunk) end.result c.next_chunk-at.result
+          (after a.base.now a.page.now l.mark l.used l.entries)
+          (omega (arith, end.ensures, l.invariant.unlike.in_base, l.invariant.unlike.within_page)) end.ensures l.invariant.reached c.next_chunk-at.ensures).within,
+      c.if-end-at-lt-CHUNK.false,
+    )) next.ensures
 
 pub excess_after-requires : goal.excess_after-requires
 excess_after-requires c = ((next_at (goal.at.excess_after-requires c).After-next_chunk-at).on, c.loop-next.invariant.unlike, unlike (goal.at.excess_after-requires c).Else-end-at-lt-CHUNK)
@@ -127,7 +140,25 @@ next-marked c =
     let a = c.args in
     let l = c.loop-next in
     marked a.base.now a.page.now c.next_chunk-at.result (after a.base.now a.page.now l.mark l.used l.entries)
-    (next_at c.After-next_chunk-at).reached (unlike c.Else-end-at-lt-CHUNK) c.excess_after.result c.count_chunk-more.result c.excess_after.ensures
+    (let a = c.args in
+    let end = c.shorter-end in
+    let l = c.loop-next in
+    chunk_reached chunk a.base.now a.page.now (l.mark + chunk) end.result c.next_chunk-at.result
+    (after a.base.now a.page.now l.mark l.used l.entries)
+    (omega (arith, end.ensures, l.invariant.unlike.in_base, l.invariant.unlike.within_page)) end.ensures l.invariant.reached c.next_chunk-at.ensures).reached (let a = c.args in
+    let end = c.shorter-end in
+    let next = c.next_chunk-at in
+    unlike_at a.base.now a.page.now (c.loop-next.mark + chunk) end.result next.result end.ensures
+    (omega (
+      arith,
+      (let a = c.args in
+          let end = c.shorter-end in
+          let l = c.loop-next in
+          chunk_reached chunk a.base.now a.page.now (l.mark + chunk) end.result c.next_chunk-at.result
+          (after a.base.now a.page.now l.mark l.used l.entries)
+          (omega (arith, end.ensures, l.invariant.unlike.in_base, l.invariant.unlike.within_page)) end.ensures l.invariant.reached c.next_chunk-at.ensures).within,
+      c.if-end-at-lt-CHUNK.false,
+    )) next.ensures) c.excess_after.result c.count_chunk-more.result c.excess_after.ensures
     c.count_chunk-more.ensures
 
 next-few : (c : After-excess_after)

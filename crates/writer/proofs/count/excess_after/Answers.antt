@@ -1,7 +1,7 @@
 use native.Mathlib.Omega.{arith}
 use mathlib.Core.Path.{ap, ◌∙◌}
 use Rattle.differ.specs.Differ.{chunk}
-use Rattle.differ.specs.DifferLaws.{after_last_is, chunk_after_is}
+use Rattle.differ.specs.DifferLaws.{after_last_tells, chunk_after_is}
 use Rattle.writer.specs.Steps.{excess_of}
 use Rattle.writer.proofs.Chunks.{excess_none}
 use borrow.Author.Rules.{rules}
@@ -16,7 +16,7 @@ pub excess-requires : goal.excess-requires
 excess-requires c = let a = c.args in
     let most = c.requires in
     let after = c.after_chunk.ensures ∙ chunk_after_is a.base.now a.page.now a.mark most.1.in_base most.1.within_page in
-    omega (arith, most.0, after, (after_last_is a.base.now a.page.now a.mark chunk).within)
+    omega (arith, most.0, after, (after_last_tells a.base.now a.page.now a.mark chunk).within)
 
 pub returns : goal.returns
 returns c = let a = c.args in

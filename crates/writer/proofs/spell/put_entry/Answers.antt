@@ -13,7 +13,7 @@ returns c = let a = c.args in
     put_long a.room.now c.put-2.new.dst
     c.put-3.new.dst
     c.put-4.new.dst c.put-5.new.dst a.used a.jump a.value
-    (omega (arith, (goal.at.returns c).Else-jump))
+    (omega arith)
     c.put-2.ensures
     c.put-3.ensures
     c.put-4.ensures c.put-5.ensures

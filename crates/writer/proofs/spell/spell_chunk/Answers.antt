@@ -58,7 +58,7 @@ loop-left-preserved c = let a = c.args in
     let l = c.loop-left in
     let word = c.spell_word-s in (
       (found (goal.at.loop-left-preserved c).In-loop-left).0.on word.result word.ensures.0,
-      spells_then a.base.now a.page.now a.room.now a.before l.room l.s word.new.page.1.1.0 word.result l.invariant.1
+      spells_then a.base.now a.page.now a.room.now a.before l.room l.s word.new.room word.result l.invariant.1
           word.ensures.1,
     )
 

@@ -31,7 +31,7 @@ loop-at-preserved c = let a = c.args in
     let byte = c.spell_byte-s in (
       omega (arith, c.loop-at-test.true),
       byte.ensures.0,
-      spells_then a.base.now a.page.now a.room.now a.before l.room l.s byte.new.page.1.1.0 byte.result l.invariant.2
+      spells_then a.base.now a.page.now a.room.now a.before l.room l.s byte.new.room byte.result l.invariant.2
           byte.ensures.1,
     )
 

@@ -4,11 +4,7 @@ use mir.Syntax.{w32}
 use mir.ValLaws.{to_z-of_z}
 use Rattle.entry_reader.specs.Turns.{stays}
 use Rattle.entry_reader.specs.declared.Found.TheVariants.{Stopped}
-use Rattle.entry_reader.proofs.stopped.Statement.{statement}
-use Rattle.entry_reader.proofs.stopped.Tie as tie
+use Rattle.entry_reader.proofs.stopped.Goals as goal
 
-returns : tie.Need-returns
+pub returns : goal.returns
 returns c = ap (λ (z : ℤ). stays (Stopped c.args.at) c.args.at z) (to_z-of_z w32 c.args.position c.ranges.position)
-
-pub stopped-spec : {M : Type 1} → statement M
-stopped-spec = tie.close (tie.spec returns)
