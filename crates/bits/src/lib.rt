@@ -10,7 +10,7 @@ ghost use Rattle.bits.specs.Bits.{low_bits, high_bits, threes, Counts};
 const CHUNK: usize = 32;
 
 // Of some bytes of a map: how many high bits and how many low bits their pairs have set, and whether a pair is 3.
-#[derive(Drop)]
+#[derive(Clone, Copy)]
 pub struct Counted {
     pub high: usize,
     pub low: usize,

@@ -20,14 +20,14 @@ const FULL: u8 = 1;
 const RESERVED: u8 = 3;
 
 // What Look up answers: the pair as it stands.
-#[derive(Drop)]
+#[derive(Clone, Copy)]
 pub enum Looked {
     Done { pair: u8 },
     Refused(Refusal),
 }
 
 // What Tally answers: how many blocks are PATCH, and how many full.
-#[derive(Drop)]
+#[derive(Clone, Copy)]
 pub enum Tallied {
     Done { patch: usize, full: usize },
     Refused(Refusal),

@@ -18,7 +18,7 @@ use store::Opened;
 
 // What Build answers. With a slot, payload, full page or place that is wrong comes its block, and with a payload the offset at which its
 // first unsound entry starts; with any other refusal, 0.
-#[derive(Drop)]
+#[derive(Clone, Copy)]
 pub enum Built {
     Done,
     Refused {
@@ -29,7 +29,7 @@ pub enum Built {
 }
 
 // What is wrong first with one block, and where its payload breaks.
-#[derive(Drop)]
+#[derive(Clone, Copy)]
 enum Finding {
     Nothing,
     Found { refusal: Refusal, offset: usize },

@@ -18,7 +18,7 @@ use payload::Checked;
 use store::Opened;
 
 // What carrying out answers: the kind stored, and the length of the payload stored, 0 unless it is a patch.
-#[derive(Drop)]
+#[derive(Clone, Copy)]
 pub enum Written {
     Done { kind: Kind, length: usize },
     Refused(Refusal),

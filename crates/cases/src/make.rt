@@ -9,7 +9,7 @@ use layout::Layout;
 const ROOM: usize = Layout::PAGE + 1;
 
 // A buffer, and how many of its bytes are described.
-#[derive(Drop)]
+#[derive(Clone, Copy)]
 pub struct Made {
     pub bytes: [u8; ROOM],
     pub length: usize,

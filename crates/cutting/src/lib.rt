@@ -10,14 +10,14 @@ use layout::{Layout, Refusal};
 use store::Opened;
 
 // What Cut answers.
-#[derive(Drop)]
+#[derive(Clone, Copy)]
 pub enum Shortened {
     Done,
     Refused(Refusal),
 }
 
 // What Highest answers: one more than the highest block that is not EMPTY, or 0.
-#[derive(Drop)]
+#[derive(Clone, Copy)]
 pub enum Extent {
     Done { blocks: usize },
     Refused(Refusal),

@@ -8,7 +8,7 @@ ghost use Rattle.span.specs.Bytes.{part as part_of, same as same_bytes};
 ghost use Rattle.differ.specs.Differ.{chunk, stride, next_diff, diffs_in, Same, NextChunk, after_last, has_chunk, chunk_diffs, chunk_after};
 
 // The grids on which two pages are compared.
-#[derive(Drop)]
+#[derive(Clone, Copy)]
 pub struct Grid;
 
 impl Grid {

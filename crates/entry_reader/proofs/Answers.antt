@@ -1,14 +1,13 @@
 -- What the code gives at each of its ends is the turn that the definitions say. The code reads the position back from its bits, as z.
 use Prim.Native.Nat.{ℕ, ◌≤◌, ◌<◌}
 use mathlib.Core.Path.{◌≡◌, sym, ap, ◌∙◌, subst}
-use mathlib.Core.Bool.{Bool, true, false, not}
+use mathlib.Core.Bool.{Bool, true, false}
 use mathlib.Core.List.{List}
 use lib.ListN.{length}
 use lib.IntN.{ℤ}
 use mir.Syntax.{w32}
 use mir.Val.{SFits, to_z, of_z}
 use mir.ValLaws.{to_z-of_z}
-use borrow.Author.Tests.{not-true, not-false}
 use Rattle.payload.specs.Steps.{Follows}
 use Rattle.payload.specs.declared.Step.{Step}
 use Rattle.payload.specs.declared.Step.TheVariants.{Entry as Next}
@@ -33,19 +32,19 @@ module _ (n : ℕ) (payload : List ℕ) (at : ℕ) (p : ℤ) (p-fits : SFits w32
 
   -- the answer of the code's `stands`
   module _ (r : roomy payload ≡ true) (b : Bool) (is : b ≡ stands n z) where
-    pub outside : at < length payload → not b ≡ true → t ≡ stays (Stopped at) at z → Turned n payload at p t
-    outside h o e = carried (e ∙ sym (turn_outside n payload at z r h (sym is ∙ not-true b o)))
+    pub outside : at < length payload → b ≡ false → t ≡ stays (Stopped at) at z → Turned n payload at p t
+    outside h o e = carried (e ∙ sym (turn_outside n payload at z r h (sym is ∙ o)))
 
     -- the decoder's step, once a `match` has told which it is
-    pub stepped : not b ≡ false → (s s' : Step) → s ≡ s' → Follows n payload at (left n payload at z) s → t ≡ turn_told at z s' → Turned n payload at p t
+    pub stepped : b ≡ true → (s s' : Step) → s ≡ s' → Follows n payload at (left n payload at z) s → t ≡ turn_told at z s' → Turned n payload at p t
     stepped o s s' q f e =
         carried
         (e
         ∙ sym (turn_told_is n payload at z s' (subst (λ (x : Step). Follows n payload at (left n payload at z) x) q f))
-        ∙ sym (turn_read n payload at z r (sym is ∙ not-false b o)))
+        ∙ sym (turn_read n payload at z r (sym is ∙ o)))
 
     -- an entry, whose position the code reads back too
-    pub entered : n ≤ 65536 → not b ≡ false → (s : Step) (q : ℤ) (v next : ℕ) → s ≡ Next q v next → Follows n payload at (left n payload at z) s
+    pub entered : n ≤ 65536 → b ≡ true → (s : Step) (q : ℤ) (v next : ℕ) → s ≡ Next q v next → Follows n payload at (left n payload at z) s
         → t ≡ record { found = Entry (to_z w32 (of_z w32 q)) v; at = next; position = to_z w32 (of_z w32 q) } → Turned n payload at p t
     entered k o s q v next m f e =
         let g : Follows n payload at (left n payload at z) (Next q v next) = subst (λ (x : Step). Follows n payload at (left n payload at z) x) m f in

@@ -12,7 +12,7 @@ use layout::Layout;
 use payload::{Code, Step};
 
 // What a step finds: an entry's position and value, the payload's end, or no sound entry at this offset.
-#[derive(Drop)]
+#[derive(Clone, Copy)]
 pub enum Found {
     Entry { position: i32, value: u8 },
     End,
@@ -20,7 +20,7 @@ pub enum Found {
 }
 
 // What a step finds, and where the reader stands after it: at the next entry, or where it stood.
-#[derive(Drop)]
+#[derive(Clone, Copy)]
 pub struct Turn {
     pub found: Found,
     pub at: usize,
@@ -28,7 +28,7 @@ pub struct Turn {
 }
 
 // A payload, the size of the pages that it is for, and the place in it: an offset and the position before it.
-#[derive(Drop)]
+#[derive(Clone, Copy)]
 pub struct EntryReader<'a> {
     payload: &'a [u8],
     size: usize,

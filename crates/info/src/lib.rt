@@ -9,7 +9,7 @@ use payload::Checked;
 use slots::SlotState;
 
 // A slot's kind, its payload's length, its number of entries and its last position; or why it is none.
-#[derive(Drop)]
+#[derive(Clone, Copy)]
 pub enum Info {
     Slot {
         kind: Kind,

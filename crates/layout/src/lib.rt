@@ -12,7 +12,7 @@ ghost use Rattle.layout.specs.Sizes.{payload_at, reserved_at, rest_at, room, seg
 ghost use Rattle.layout.specs.Sizes.{slot_size, slot_size_at, version_at};
 
 // What a slot holds, and what a comparison finds.
-#[derive(Drop)]
+#[derive(Clone, Copy)]
 pub enum Kind {
     Empty,
     Patch,
@@ -20,7 +20,7 @@ pub enum Kind {
 }
 
 // Why a call refuses, in the order of the paper's numbers 1 to 11.
-#[derive(Drop)]
+#[derive(Clone, Copy)]
 pub enum Refusal {
     Page,
     Length,
@@ -36,14 +36,14 @@ pub enum Refusal {
 }
 
 // What a check finds.
-#[derive(Drop)]
+#[derive(Clone, Copy)]
 pub enum Fault {
     Nothing,
     Found(Refusal),
 }
 
 // The layout's numbers, each once.
-#[derive(Drop)]
+#[derive(Clone, Copy)]
 pub struct Layout;
 
 impl Layout {

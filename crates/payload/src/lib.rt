@@ -12,7 +12,7 @@ ghost use Rattle.payload.specs.Steps.{farthest, reach, checked_numbers, check_nu
 use layout::Layout;
 
 // What stands next in a payload: nothing more, an unsound entry, or an entry's place and value, and where the payload goes on after it.
-#[derive(Drop)]
+#[derive(Clone, Copy)]
 pub enum Step {
     End,
     Broken,
@@ -25,14 +25,14 @@ pub enum Step {
 
 // What a check of a whole payload finds: the number of entries and the last position of a sound one, or where the first unsound entry
 // starts, 0 if there are no bytes or too many.
-#[derive(Drop)]
+#[derive(Clone, Copy)]
 pub enum Checked {
     Unsound { offset: usize },
     Sound { entries: usize, last: i32 },
 }
 
 // The numbers of the stream's codes, each once.
-#[derive(Drop)]
+#[derive(Clone, Copy)]
 pub struct Code;
 
 impl Code {
@@ -72,7 +72,7 @@ pub fn check(payload: &[u8], size: usize) -> Checked
 
 // How far a payload is laid over a page: the place of the next entry's second byte, so that one test finds an entry cut off, and the place
 // after the last position.
-#[derive(Drop)]
+#[derive(Clone, Copy)]
 struct Reached {
     place: usize,
     next: usize,

@@ -16,7 +16,7 @@ use stream::Applied;
 
 // What Read answers: the kind of the block's slot. With a payload that is not sound comes the offset at which its first unsound entry
 // starts; with any other refusal, 0.
-#[derive(Drop)]
+#[derive(Clone, Copy)]
 pub enum Reading {
     Done { kind: Kind },
     Refused { refusal: Refusal, offset: usize },

@@ -9,7 +9,7 @@ ghost use Rattle.slots.specs.Slots.{patch_slot, is_patch, payload_length, slot_n
 use layout::{Kind, Layout};
 
 // What a slot is: one of the three sound ones, PATCH with its payload's length, or none of them.
-#[derive(Drop)]
+#[derive(Clone, Copy)]
 pub enum SlotState {
     Empty,
     Patch(usize),

@@ -8,28 +8,28 @@ pub mod show;
 use layout::{Kind, Refusal};
 
 // The frame of two areas: the page size, n and m, or the first of what is wrong before any block is looked at.
-#[derive(Drop)]
+#[derive(Clone, Copy)]
 pub enum Opened {
     Refused(Refusal),
     Frame { size: u32, n: u32, m: u32 },
 }
 
 // What Format answers.
-#[derive(Drop)]
+#[derive(Clone, Copy)]
 pub enum Formatted {
     Done,
     Refused(Refusal),
 }
 
 // What Judge answers: the slot's kind and its payload's length.
-#[derive(Drop)]
+#[derive(Clone, Copy)]
 pub enum Judged {
     Done { kind: Kind, length: usize },
     Refused(Refusal),
 }
 
 // A part of a patch area.
-#[derive(Drop)]
+#[derive(Clone, Copy)]
 pub struct Place {
     pub at: usize,
     pub len: usize,

@@ -11,7 +11,7 @@ use layout::{Kind, Layout, Refusal};
 use payload::Checked;
 
 // What Compare answers: the kind, the stream's length, the number of entries and the last differing position.
-#[derive(Drop)]
+#[derive(Clone, Copy)]
 pub enum Compared {
     Done {
         kind: Kind,
@@ -24,7 +24,7 @@ pub enum Compared {
 
 // What Apply answers: the number of entries it applied and the last position. With a payload that is not sound comes the offset at
 // which its first unsound entry starts; with any other refusal, 0.
-#[derive(Drop)]
+#[derive(Clone, Copy)]
 pub enum Applied {
     Done { entries: usize, last: i32 },
     Refused { refusal: Refusal, offset: usize },

@@ -14,7 +14,7 @@ use slots::SlotState;
 use store::Opened;
 
 // What Sweep answers.
-#[derive(Drop)]
+#[derive(Clone, Copy)]
 pub enum Swept {
     Done,
     Refused(Refusal),

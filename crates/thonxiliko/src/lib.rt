@@ -8,14 +8,14 @@ pub mod sweeps;
 
 // What Format, Cut and Sweep answer.
 #[repr(C)]
-#[derive(Drop)]
+#[derive(Clone, Copy)]
 pub struct thx_done {
     pub number: u32,
 }
 
 // What Compare answers.
 #[repr(C)]
-#[derive(Drop)]
+#[derive(Clone, Copy)]
 pub struct thx_compared {
     pub number: u32,
     pub kind: u32,
@@ -26,7 +26,7 @@ pub struct thx_compared {
 
 // What Apply answers.
 #[repr(C)]
-#[derive(Drop)]
+#[derive(Clone, Copy)]
 pub struct thx_applied {
     pub number: u32,
     pub entries: u32,
@@ -36,7 +36,7 @@ pub struct thx_applied {
 
 // What a step of the entry reader answers: with an entry, where the reader stands after it; without one, where it stood.
 #[repr(C)]
-#[derive(Drop)]
+#[derive(Clone, Copy)]
 pub struct thx_entry {
     pub number: u32,
     pub found: u32,
@@ -47,7 +47,7 @@ pub struct thx_entry {
 
 // What Judge answers.
 #[repr(C)]
-#[derive(Drop)]
+#[derive(Clone, Copy)]
 pub struct thx_judged {
     pub number: u32,
     pub kind: u32,
@@ -56,7 +56,7 @@ pub struct thx_judged {
 
 // The part of the patch area that Show names: both 0 for an empty one.
 #[repr(C)]
-#[derive(Drop)]
+#[derive(Clone, Copy)]
 pub struct thx_part {
     pub at: u64,
     pub len: u64,
@@ -64,7 +64,7 @@ pub struct thx_part {
 
 // What Read answers.
 #[repr(C)]
-#[derive(Drop)]
+#[derive(Clone, Copy)]
 pub struct thx_reading {
     pub number: u32,
     pub kind: u32,
@@ -73,7 +73,7 @@ pub struct thx_reading {
 
 // What Carry out answers.
 #[repr(C)]
-#[derive(Drop)]
+#[derive(Clone, Copy)]
 pub struct thx_written {
     pub number: u32,
     pub kind: u32,
@@ -82,7 +82,7 @@ pub struct thx_written {
 
 // What Build answers.
 #[repr(C)]
-#[derive(Drop)]
+#[derive(Clone, Copy)]
 pub struct thx_built {
     pub number: u32,
     pub block: u64,
@@ -91,7 +91,7 @@ pub struct thx_built {
 
 // What Look up answers.
 #[repr(C)]
-#[derive(Drop)]
+#[derive(Clone, Copy)]
 pub struct thx_pair {
     pub number: u32,
     pub pair: u32,
@@ -99,7 +99,7 @@ pub struct thx_pair {
 
 // What Tally answers.
 #[repr(C)]
-#[derive(Drop)]
+#[derive(Clone, Copy)]
 pub struct thx_tallied {
     pub number: u32,
     pub patch: u64,
@@ -108,7 +108,7 @@ pub struct thx_tallied {
 
 // What Highest answers.
 #[repr(C)]
-#[derive(Drop)]
+#[derive(Clone, Copy)]
 pub struct thx_extent {
     pub number: u32,
     pub blocks: u64,

@@ -13,7 +13,7 @@ use differ::Grid;
 use payload::Code;
 
 // The writer's stream of two pages: its length, its number of entries, and the last differing position.
-#[derive(Drop)]
+#[derive(Clone, Copy)]
 pub struct Difference {
     pub length: usize,
     pub entries: usize,
@@ -21,7 +21,7 @@ pub struct Difference {
 }
 
 // What is known after some differences: how many bytes and entries they take, and the place after the last of them.
-#[derive(Drop)]
+#[derive(Clone, Copy)]
 struct Spelled {
     used: usize,
     entries: usize,

@@ -49,7 +49,6 @@ pub returns-in-Entry : goal.returns-in-Entry
 returns-in-Entry c = let a = c.args in
     let on = c.stands in
     let step = c.step in
-    let g = c.to-1.given in
     entered (reach a.size) a.payload.now a.at a.position c.ranges.position _
     (room_some a.payload.now (omega arith) (omega arith)) on.result on.ensures
-    (omega arith) c.if-not-stands.false step.result g.0.0 g.0.1.0 g.0.1.1.0 g.1 step.ensures refl
+    (omega arith) c.if-not-stands.false step.result c.in-Entry.to c.in-Entry.value c.in-Entry.next c.in-Entry.is step.ensures refl
