@@ -1,5 +1,7 @@
 // What all calls on areas share, and Format, Judge and Show. Every call checks first and changes after: a refusal is decided before the
 // first byte is written.
+#![tactic(auto)]
+
 pub mod format;
 pub mod frame;
 pub mod judge;

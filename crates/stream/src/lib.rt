@@ -1,4 +1,6 @@
 // A page against its base: the differences as a stream of (jump, value) entries.
+#![tactic(auto)]
+
 ghost use Rattle.std.specs.Prelude.{◌≡◌, ◌≤◌, length as length_of};
 ghost use Rattle.layout.specs.Sizes.{page_size, room as room_of};
 ghost use Rattle.layout.specs.Numbers.{kind_number};
