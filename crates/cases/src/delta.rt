@@ -38,7 +38,7 @@ fn tell(first: usize, last: usize, value: u8) {
         say::digits(last as u64);
     }
     say::text(b":");
-    io::print_hex(libc::STDOUT_FILENO, wide(value), 2);
+    io::print_hex(STDOUT, wide(value), 2);
 }
 
 // All that changed. It answers how many runs it told, which is 0 only where nothing changed.

@@ -10,7 +10,7 @@ use layout::{Kind, Refusal};
 pub fn text(bytes: &[u8]) -> usize
     ensures { result ≡ length bytes.now }
 {
-    io::write_all(libc::STDOUT_FILENO, bytes);
+    io::write_all(STDOUT, bytes);
     bytes.len()
 }
 

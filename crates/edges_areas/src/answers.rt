@@ -124,7 +124,7 @@ pub(crate) fn first_bytes(bytes: &[u8]) {
     let end = span::shorter(bytes.len(), 8);
     let mut i = 0;
     while i < end {
-        io::print_hex(libc::STDOUT_FILENO, wide(bytes[i]), 2);
+        io::print_hex(STDOUT, wide(bytes[i]), 2);
         i += 1;
     }
 }

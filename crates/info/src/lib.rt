@@ -1,4 +1,6 @@
 // What `slotinfo` tells of the bytes that it read.
+#![tactic(auto)]
+
 pub mod text;
 
 ghost use Rattle.layout.specs.Sizes.{page_size};

@@ -1,0 +1,10 @@
+use Rattle.info.proofs.Words.{number_put}
+use borrow.Author.Rules.{rules}
+use Rattle.info.proofs.text.put_decimal.Goals as goal
+
+pub returns : goal.returns
+returns c = let a = c.args in
+    let told = c.decimal-k in
+    let put = c.put_word in
+    number_put a.out.now put.new.out a.at a.n told.result put.result told.new.out c.ranges.n.fits
+    told.ensures.len told.ensures.digits told.ensures.in_bounds put.ensures

@@ -1,0 +1,18 @@
+use Rattle.info.proofs.Words.{word_turn, word_whole}
+use Prim.Native.Nat.{◌-◌, ◌≤◌}
+use native.Mathlib.Omega.{arith}
+use mathlib.Core.Path.{◌≡◌, ◌∙◌}
+use lib.ListN.{length, take}
+use lib.Seq.{sets}
+use borrow.Author.Rules.{rules}
+use Rattle.info.proofs.text.put_word.Goals as goal
+
+pub loop-i-preserved : goal.loop-i-preserved
+loop-i-preserved c = let a = c.args in
+    let l = c.loop-i in
+    (search rules, search rules, c.put.ensures ∙ word_turn a.out.now l.out a.word.now a.at l.i (omega arith) l.invariant.2)
+
+pub returns : goal.returns
+returns c = let a = c.args in
+    let l = c.loop-i in
+    word_whole a.out.now l.out a.word.now a.at l.i (omega arith) l.invariant.2
