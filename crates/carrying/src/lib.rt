@@ -1,5 +1,7 @@
 // Carry out a decision (kind, payload, page) on a block, in at most two whole stores. Compare decides; this stores. No base is looked at, and
 // nothing of what stood there.
+#![tactic(auto)]
+
 pub mod mapped;
 mod stores;
 

@@ -3,6 +3,7 @@ ghost use Rattle.std.specs.Prelude.{◌≤◌, ◌<◌, length};
 ghost use Rattle.cases.specs.Delta.{Kept};
 
 use crate::say;
+use crate::say::STDOUT;
 
 // After so many runs the rest is left out.
 const MOST: usize = 16;

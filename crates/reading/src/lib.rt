@@ -1,4 +1,6 @@
 // Read: a block's page, as it stands now.
+#![tactic(auto)]
+
 pub mod mapped;
 
 ghost use Rattle.std.specs.Prelude.{◌≡◌, ◌≤◌, length};
