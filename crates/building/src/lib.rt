@@ -1,4 +1,6 @@
 // Build the block map.
+#![tactic(auto)]
+
 ghost use Rattle.std.specs.Prelude.{◌≤◌, ◌≡◌, length};
 ghost use Rattle.span.specs.Bytes.{splice};
 ghost use Rattle.layout.specs.Sizes.{page_size, segment, slot_at};

@@ -1,4 +1,6 @@
 // Cut a table short: blocks K and up dropped in one go. Highest tells how many blocks are left.
+#![tactic(auto)]
+
 pub mod highest;
 pub mod mapped;
 

@@ -1,4 +1,6 @@
 // Sweep: what stopped writes left in the full area goes. Every place whose slot is not FULL_REF becomes zeros.
+#![tactic(auto)]
+
 ghost use Rattle.std.specs.Prelude.{◌≤◌, ◌≡◌, length, cond, ◌+◌};
 ghost use Rattle.span.specs.Bytes.{zeros, splice};
 ghost use Rattle.layout.specs.Sizes.{page_size, segment, slot_size, slot_at, page_at};

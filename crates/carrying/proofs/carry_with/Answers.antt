@@ -21,7 +21,11 @@ carry_block-requires c = let a = c.args in
     (record { kind = a.kind; payload = a.payload.now; page = a.page.now }) a.stores p.ensures o.result o.ensures
     c.in-Frame.size c.in-Frame.n c.in-Frame.m c.in-Frame.is (omega (arith, c.if-n-block.false))
     (omega arith, omega arith) in
-    ((l.sized, l.page_size_is), (l.slot, (l.counted, l.places_in)))
+    record {
+      sized = (l.sized, l.page_size_is);
+      slot_size_in_bounds = l.slot;
+      m_value = (l.counted, l.places_in);
+    }
 
 pub returns-in-Refused : goal.returns-in-Refused
 returns-in-Refused c = let a = c.args in
@@ -38,4 +42,4 @@ returns-else-n-block c = let a = c.args in
     told_within page_size p.result a.buffer_fits a.patch.now a.full.now a.block
     (record { kind = a.kind; payload = a.payload.now; page = a.page.now }) a.stores p.ensures o.result o.ensures
     c.in-Frame.size c.in-Frame.n c.in-Frame.m c.in-Frame.is
-    (omega (arith, c.if-n-block.false)) c.carry_block.result c.carry_block.new.full c.carry_block.new.full c.carry_block.ensures
+    (omega (arith, c.if-n-block.false)) c.carry_block.result c.carry_block.new.patch c.carry_block.new.full c.carry_block.ensures

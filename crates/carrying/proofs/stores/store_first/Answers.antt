@@ -19,13 +19,11 @@ returns-then-stores-eq1 c = let a = c.args in
 
 pub one_store-requires-2 : goal.one_store-requires-2
 one_store-requires-2 c = let a = c.args in
-    let n : length c.one_store.new.full ≡ length a.full.now = c.one_store.auto.full.1.1.1.0 in (
-      (omega (arith, c.requires.slot_size_in_bounds.0, c.one_store.auto.full.1.1.0), c.requires.slot_size_in_bounds.1),
-      (
-        (c.requires.m_value.0.0 ∙ ap (pages_in a.size) (sym n), places_kept a.size a.full.now c.one_store.new.full n c.requires.m_value.0.1),
-        c.requires.m_value.1,
-      ),
-    )
+    let n : length c.one_store.new.full ≡ length a.full.now = c.one_store.auto.full in record {
+      slot_size_in_bounds = (omega (arith, c.requires.slot_size_in_bounds.0, c.one_store.auto.patch), c.requires.slot_size_in_bounds.1);
+      m_value = (c.requires.m_value.0 ∙ ap (pages_in a.size) (sym n), places_kept a.size a.full.now c.one_store.new.full n c.requires.m_value.1);
+      page_len = c.requires.page_len;
+    }
 
 pub returns : goal.returns
 returns c = let a = c.args in

@@ -1,0 +1,13 @@
+use mathlib.Core.Path.{sym, ◌∙◌}
+use Rattle.sweeping.proofs.SweepTold.{place_filled}
+use borrow.Author.Rules.{rules}
+use Rattle.sweeping.proofs.sweep_place.Goals as goal
+
+pub returns-then-is_full : goal.returns-then-is_full
+returns-then-is_full c = rw (sym c.is_full.ensures ∙ c.if-is_full.true)
+
+pub returns : goal.returns
+returns c = let a = c.args in
+    rw (sym c.is_full.ensures ∙ c.if-is_full.false)
+    (place_filled a.size a.full.now a.block c.page_at-at.result c.fill.new.dst c.page_at-at.ensures c.requires.size_in_bounds
+    c.fill.ensures)
