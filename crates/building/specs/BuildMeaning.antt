@@ -1,7 +1,7 @@
 -- What Build promises, with none of its rows, walks and tests: by the images of slots and the entries that spell payloads.
 use Rattle.std.specs.Prelude.{ℕ, ◌≤◌, ◌<◌, ◌≡◌, ◌↔◌, List, length, get_or}
 use Rattle.std.proofs.Common.{sym, ap, ◌∙◌, subst}
-use Rattle.std.proofs.Math.Logic.{Iff·trans, Iff·and}
+use Rattle.std.proofs.Math.Logic.Iff
 use Rattle.layout.specs.Numbers.{refusal_number}
 use Rattle.layout.specs.NumberLaws.{refusal_some}
 use Rattle.layout.specs.FirstFaultLaws.{none_below, lowest_iff}
@@ -60,7 +60,7 @@ module _ (P : ℕ) (patch full : List ℕ) (bytes : Bytes patch) where
 
   all_sound : ((build_fault P patch full).number ≡ 0) ↔ ((b : ℕ) → b < blocks patch → SoundBlock P patch full b)
   all_sound =
-      Iff·trans (none_below (block_fault P patch full) (blocks patch)) (
+      Iff.trans (none_below (block_fault P patch full) (blocks patch)) (
         λ h b l. (sound_gives b).0 (h b l),
         λ h b l. (sound_gives b).1 (h b l),
       )
@@ -88,10 +88,10 @@ module _ (P : ℕ) (patch full : List ℕ) (bytes : Bytes patch) where
       → BuildGives P patch full map answer
   build_gives map answer map' call =
       record {
-        accepts = Iff·trans (done_iff P patch full map answer map' call) (Iff·and (frame_iff P patch full map) all_sound);
+        accepts = Iff.trans (done_iff P patch full map answer map' call) (Iff.and (frame_iff P patch full map) all_sound);
         refuses =
             λ f r b at.
-            Iff·trans
+            Iff.trans
             (refused_iff P patch full map answer map' call ((frame_iff P patch full map).1 f) r b at)
             (lowest b (refusal_number r) at (refusal_some r));
         frameless = λ n. frame_zeros P patch full map answer map' call (λ e. n ((frame_iff P patch full map).0 e));

@@ -4,7 +4,7 @@ use Rattle.std.proofs.Common.{arith, sym, ◌∙◌, true≢false, le-ltb, leb-t
 use Rattle.std.proofs.Math.Decide.{dec_lt}
 use Rattle.std.specs.Prelude.{◌≡◌, refl, ◌↔◌, Bool, false, List, leb, length, get_or}
 use Rattle.std.proofs.Math.Path.{ap}
-use Rattle.std.proofs.Math.Logic.{Iff·trans}
+use Rattle.std.proofs.Math.Logic.Iff
 use Rattle.std.proofs.Math.Bool.{true}
 use Rattle.span.specs.Bytes.{zeros, same, splice}
 use Rattle.span.specs.Laws.{same_is, same_true, same_false, and_left, and_right}
@@ -332,7 +332,7 @@ module _ (P : ℕ) (patch full map : List ℕ) (answer : Built) (map' : List ℕ
         let j : JustThose (HasPair v map' (blocks patch)) (blocks_with v map' (blocks patch)) = blocks_with_is v map' (blocks patch) in
         record {
           rising = j.rising;
-          members = λ b. Iff·trans (j.members b) (λ h. (h.0, (f b h.0).0 h.1), λ h. (h.0, (f b h.0).1 h.1));
+          members = λ b. Iff.trans (j.members b) (λ h. (h.0, (f b h.0).0 h.1), λ h. (h.0, (f b h.0).1 h.1));
         }
 
     pub tallies_are : Tallies P patch map'
