@@ -1,6 +1,8 @@
 // Runs the edges and the refusal orders of the paper for the calls that are lent no areas: reads a case a line from standard input,
 // makes its call, and prints what the call answered and every lent byte that it changed. The cases and what must be printed were
 // written by hand from the paper.
+#![tactic(auto)]
+
 mod answers;
 
 use cases::delta::delta;

@@ -24,7 +24,7 @@ carried_length P patch full b d e =
     (λ k. l ∙ rw k, λ k. l ∙ rw (ne_eqb d.kind 1 k))
 
 -- one kind has one slot and one place
-one_image : {j k : ℕ} {s t c x : List ℕ} (P : ℕ) (d : Decision) → j ≡ k → CarriedAs P d j s c → CarriedAs P d k t x → (s ≡ t) × (c ≡ x)
+one_image : (P : ℕ) (d : Decision) {j k : ℕ} {s t c x : List ℕ} → j ≡ k → CarriedAs P d j s c → CarriedAs P d k t x → (s ≡ t) × (c ≡ x)
 one_image P d e CarriedAs.empty CarriedAs.empty = (refl, refl)
 one_image P d e CarriedAs.empty CarriedAs.patch = absurd (omega arith)
 one_image P d e CarriedAs.empty CarriedAs.full = absurd (omega arith)

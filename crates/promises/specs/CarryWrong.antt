@@ -108,7 +108,7 @@ copies_for_full s w =
       full = o.full;
     }
 
-full_image : {s c : List ℕ} {k : ℕ} (d : Decision) → CarriedAs page_size d k s c → k ≡ 2 → s ≡ full_slot
+full_image : (d : Decision) {s c : List ℕ} {k : ℕ} → CarriedAs page_size d k s c → k ≡ 2 → s ≡ full_slot
 full_image d CarriedAs.empty e = absurd (omega arith)
 full_image d CarriedAs.patch e = absurd (omega arith)
 full_image d CarriedAs.full e = refl

@@ -219,19 +219,26 @@ beside_laws P =
     record {
       moves =
           λ s map o.
-          elim o [
+          elim o as
+          (λ k. (beside P).fits ((store P).frame s) map ≡ true
+          → (beside P).step_with ((beside P).both s ((beside P).built s map)) k
+          ≡ (beside P).both ((store P).step s k) ((beside P).built ((store P).step s k) map)) [
             | write w ↦ λ e. moved P s map w (fits_long P s map e)
             | wipe K ↦ λ e. cut_moved P s map K (fits_long P s map e)
           ];
       takes_same =
           λ s map o.
-          elim o [
+          elim o as
+          (λ k. (beside P).fits ((store P).frame s) map ≡ true
+          → (beside P).takes_with ((beside P).both s ((beside P).built s map)) k ≡ (store P).takes s k) [
             | write w ↦ λ e. same_taken P s map w (fits_long P s map e)
             | wipe K ↦ λ e. cut_same_taken P s map K (fits_long P s map e)
           ];
       no_room =
           λ s map o.
-          elim o [
+          elim o as
+          (λ k. (beside P).fits ((store P).frame s) map ≡ false
+          → ((beside P).takes_with ((beside P).both s map) k ≡ false) × ((beside P).step_with ((beside P).both s map) k ≡ (beside P).both s map)) [
             | write w ↦ λ e. (not_taken_short P s map w (fits_short P s map e), nothing_short P s map w (fits_short P s map e))
             | wipe K ↦ λ e. (cut_short_taken P s map K (fits_short P s map e), cut_short_nothing P s map K (fits_short P s map e))
           ];

@@ -20,7 +20,7 @@ use Rattle.promises.specs.MapWords.{Mapped, mapped}
 use Rattle.promises.specs.RunStore.{store}
 use Rattle.promises.specs.RunStoreLaws.{taken_frame, accepted_write, good_frame, store_laws}
 use Rattle.promises.specs.RunLaws.{fresh}
-use Rattle.promises.specs.StopWords.{left_by, stopped, stopped_with, sweeping, swept, AreaEvent, after_all, Holds}
+use Rattle.promises.specs.StopWords.{left_by, happens, stopped, stopped_with, sweeping, swept, AreaEvent, after_all, Holds}
 use Rattle.promises.specs.StopWords.{ComesTo, nothing, made, held, lost, tidied}
 use Rattle.promises.specs.StopStore.{takes_hold, stopping}
 use Rattle.promises.specs.StopStoreLaws.{stop_refused, stop_frame, stop_length, sweep_taken, stop_laws}
@@ -33,9 +33,9 @@ module _ (P : ℕ) where
   all_happen : (s : Areas) (es : List AreaEvent) → after_all P s es ≡ run (happen (store P) (stopping P)) s es
   unfolding run happen
   all_happen s [] = refl
-  all_happen s (whole o ∷ es) = all_happen _ es
-  all_happen s (stop k w ∷ es) = all_happen _ es
-  all_happen s (sweep ∷ es) = all_happen _ es
+  all_happen s (whole o ∷ es) = all_happen (happens P s (whole o)) es
+  all_happen s (stop k w ∷ es) = all_happen (happens P s (stop k w)) es
+  all_happen s (sweep ∷ es) = all_happen (happens P s sweep) es
 
   comes_are : {s : Areas} {es : List AreaEvent} {os : List Operation} → ComesTo P s es os → os ≡ comes_to (store P) (stopping P) s es
   unfolding comes_to comes kept happen

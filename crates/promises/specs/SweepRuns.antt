@@ -113,7 +113,7 @@ module _ (S : Store) (T : Stopping S) (L : Laws S) (K : StopLaws S T) where
         frames = K.swept_frame s ∙ h.frames;
         good = h.good;
         cells =
-            λ b n. ap tidy (K.Swept-at s (rw h.frames h.good) (sweepable s t h) b (rw h.frames n) ∙ h.cells b n)
+            λ b n. ap tidy (K.swept_at s (rw h.frames h.good) (sweepable s t h) b (rw h.frames n) ∙ h.cells b n)
             ∙ tidy_left (at t b) (h.lefts b n);
         lefts = h.lefts;
       }
@@ -123,7 +123,7 @@ module _ (S : Store) (T : Stopping S) (L : Laws S) (K : StopLaws S T) where
       L.ext (swept s) t (rw (K.swept_frame s, h.frames) h.good) (K.swept_frame s ∙ h.frames)
       (λ b n.
       let m : b < blocks (frame t) = rw (K.swept_frame s, h.frames) at n in
-      K.Swept-at s (rw h.frames h.good) (sweepable s t h) b (rw h.frames m) ∙ h.cells b m)
+      K.swept_at s (rw h.frames h.good) (sweepable s t h) b (rw h.frames m) ∙ h.cells b m)
 
   -- Events, one after the other
 

@@ -1,4 +1,6 @@
 // Reads one slot from standard input and prints what it is: its kind, length, entries and last position, or why it is refused.
+#![tactic(auto)]
+
 use info::text::LONGEST;
 use layout::Layout;
 
