@@ -1,6 +1,8 @@
 // Runs the edges and the refusal orders of the paper for the calls on areas. The areas and the map beside them stay from line to line. It
 // reads a case a line from standard input, makes its call, and prints what the call answered and every lent byte that it changed. The
 // cases and what must be printed were written by hand from the paper.
+#![tactic(auto)]
+
 mod answers;
 
 use carrying::Written;

@@ -1,6 +1,8 @@
 // A run of writes and cuts from lent buffers, each on the areas that the ones before it left. A write is a pair of calls: Compare decides,
 // and where it answers 0 its decision is carried out. Bases and pages stand one after the other, a whole page each; where `bases` has no
 // more, the base is absent. What is proved of runs is so of the runs that can be lent in this form.
+#![tactic(auto)]
+
 ghost use Rattle.std.specs.Prelude.{◌≡◌, cond, ◌*◌, eqb, get_or};
 ghost use Rattle.std.proofs.Math.Option.{some};
 ghost use Rattle.span.specs.Bytes.{part};

@@ -1,4 +1,6 @@
 // The C interface. Each exported function calls the proved call beneath it and gives its answer as the paper's numbers.
+#![tactic(auto)]
+
 pub mod areas;
 pub mod cuts;
 pub mod map;

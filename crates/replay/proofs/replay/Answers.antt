@@ -1,0 +1,29 @@
+use native.Mathlib.Omega.{arith}
+use Rattle.replay.specs.Laws.{Going, begin, go_on, countable, ended}
+use Rattle.replay.specs.Operations.{both}
+use Rattle.promises.specs.RunWords.{outcome, cutting, takes_by, does_by}
+use Rattle.layout.specs.Sizes.{page_size}
+use lib.ListN.{length}
+use mathlib.Core.Path.{◌≡◌, refl}
+use Prim.Native.Nat.{◌-◌}
+use borrow.Author.Rules.{rules}
+use Rattle.replay.proofs.replay.Goals as goal
+
+pub loop-i-init : goal.loop-i-init
+loop-i-init c = (begin, refl, refl, refl)
+
+pub overflow_add-accepted : goal.overflow_add-accepted
+overflow_add-accepted c = let h = countable c.loop-i.invariant.0 (omega arith) c.turn-mark.ensures in
+    record { fits = omega (arith, h, c.well-formed.1.1.0.0) }
+
+pub loop-i-preserved : goal.loop-i-preserved
+loop-i-preserved c = (
+  go_on c.loop-i.invariant.0 (omega arith) c.cut_at-cut.ensures c.nth_page-base.ensures c.nth_page-page.ensures
+      c.turn-mark.ensures c.put.ensures,
+  search rules,
+  search rules,
+  search rules,
+)
+
+pub returns : goal.returns
+returns c = ended c.loop-i.invariant.0 (omega arith)

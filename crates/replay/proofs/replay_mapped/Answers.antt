@@ -1,0 +1,34 @@
+use native.Mathlib.Omega.{arith}
+use Rattle.replay.specs.Laws.{Going, begin, go_on, countable, ended}
+use Rattle.replay.specs.Operations.{both}
+use Rattle.promises.specs.MapWords.{mapped, cut_mapped, takes_with_by, does_with_by}
+use Rattle.promises.specs.MapStore.{with}
+use Rattle.layout.specs.Sizes.{page_size}
+use lib.ListN.{length}
+use mathlib.Core.Path.{◌≡◌, refl}
+use Prim.Native.Nat.{◌-◌}
+use borrow.Author.Rules.{rules}
+use Rattle.replay.proofs.replay_mapped.Goals as goal
+
+pub loop-i-init : goal.loop-i-init
+loop-i-init c = (begin, refl, refl, refl, refl)
+
+pub overflow_add-accepted : goal.overflow_add-accepted
+overflow_add-accepted c = let h = countable c.loop-i.invariant.0 (omega arith) c.turn_mapped-mark.ensures in
+    record { fits = omega (arith, h, c.well-formed.1.1.1.0.0) }
+
+pub overflow_add-i : goal.overflow_add-i
+overflow_add-i c = record { fits = omega (arith, c.well-formed.1.1.1.0.0) }
+
+pub loop-i-preserved : goal.loop-i-preserved
+loop-i-preserved c = (
+  go_on c.loop-i.invariant.0 (omega arith) c.cut_at-cut.ensures c.nth_page-base.ensures c.nth_page-page.ensures
+      c.turn_mapped-mark.ensures c.put.ensures,
+  search rules,
+  search rules,
+  search rules,
+  search rules,
+)
+
+pub returns : goal.returns
+returns c = ended c.loop-i.invariant.0 (omega arith)

@@ -1,0 +1,5 @@
+use borrow.Author.Rules.{rules}
+use Rattle.thonxiliko.proofs.areas.thx_show.Goals as goal
+
+pub returns : goal.returns
+returns c = record { place = c.payload_place-place.ensures }

@@ -1,0 +1,13 @@
+use Rattle.thonxiliko.specs.CutLaws.{cut_mapped_held}
+use Rattle.cutting.specs.Cut.{shortened_number}
+use mathlib.Core.Path.{sym, ap, ◌∙◌}
+use borrow.Author.Rules.{rules}
+use Rattle.thonxiliko.proofs.cuts.thx_cut_mapped.Goals as goal
+
+pub returns-in-Done : goal.returns-in-Done
+returns-in-Done c = cut_mapped_held c.cut_mapped.ensures
+    (ap shortened_number (sym c.in-Done.is))
+
+pub returns-in-Refused : goal.returns-in-Refused
+returns-in-Refused c = cut_mapped_held c.cut_mapped.ensures
+    (c.refusal_number.ensures ∙ ap shortened_number (sym c.in-Refused.is))
