@@ -118,6 +118,9 @@ fn wide(byte: u8) -> u64 {
     byte as u64
 }
 
+// The descriptor that is printed to.
+const STDOUT: i32 = 1;
+
 // The first bytes, at most eight, in hexadecimal.
 pub(crate) fn first_bytes(bytes: &[u8]) {
     say::text(b" ");

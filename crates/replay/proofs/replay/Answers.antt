@@ -14,7 +14,7 @@ loop-i-init c = (begin, refl, refl, refl)
 
 pub overflow_add-accepted : goal.overflow_add-accepted
 overflow_add-accepted c = let h = countable c.loop-i.invariant.0 (omega arith) c.turn-mark.ensures in
-    record { fits = omega (arith, h, c.well-formed.1.1.0.0) }
+    record { fits = omega (arith, h, c.well_formed.1.1.0.0) }
 
 pub loop-i-preserved : goal.loop-i-preserved
 loop-i-preserved c = (

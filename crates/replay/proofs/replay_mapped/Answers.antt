@@ -15,10 +15,10 @@ loop-i-init c = (begin, refl, refl, refl, refl)
 
 pub overflow_add-accepted : goal.overflow_add-accepted
 overflow_add-accepted c = let h = countable c.loop-i.invariant.0 (omega arith) c.turn_mapped-mark.ensures in
-    record { fits = omega (arith, h, c.well-formed.1.1.1.0.0) }
+    record { fits = omega (arith, h, c.well_formed.1.1.1.0.0) }
 
 pub overflow_add-i : goal.overflow_add-i
-overflow_add-i c = record { fits = omega (arith, c.well-formed.1.1.1.0.0) }
+overflow_add-i c = record { fits = omega (arith, c.well_formed.1.1.1.0.0) }
 
 pub loop-i-preserved : goal.loop-i-preserved
 loop-i-preserved c = (
