@@ -5,7 +5,7 @@ use Rattle.std.proofs.Common.{arith, ◌∙◌, lit<, eqb-true}
 use Rattle.std.specs.Prelude.{◌≡◌, ◌↔◌, not, cond, ◌&&◌, get_or}
 use Rattle.std.proofs.Math.Path.{refl, sym, ap}
 use Rattle.std.proofs.Math.Bool.{Bool, true, false, and-true, and-false}
-use mathlib.Core.List.{List, [], ◌∷◌, ◌++◌}
+use mathlib.Core.List.{List, [], ◌∷◌}
 use Rattle.std.proofs.Math.Dec.{eqb}
 use Rattle.std.proofs.Math.ListN.{length}
 use Rattle.std.proofs.lemmas.Bool.{eqb-false}
@@ -14,7 +14,6 @@ use Rattle.span.specs.Laws.{part_short, part_part, part_length, part_at, same_is
 use Rattle.layout.specs.Sizes.{patch_head, full_head, version_at, rest_at, page_size_at, size_width}
 use Rattle.layout.specs.Numbers.{le, number}
 use Rattle.layout.specs.Refusals.{first_of, or_else}
-use Rattle.layout.specs.RefusalLaws.{first_append}
 use Rattle.headers.specs.Headers.{patch_fields, full_fields, header, patch_header, full_header, head_rows, patch_head_rows}
 use Rattle.headers.specs.Stored.{stored_size, patch_image_rows, full_image_rows, size_rows}
 use Rattle.headers.specs.Meaning.{head_none, head_like, patch_header_length, full_header_length}

@@ -1,4 +1,4 @@
-use Prim.Native.Nat.{ℕ, ◌+◌, ◌-◌, ◌≤◌}
+use Prim.Native.Nat.{ℕ, ◌+◌}
 use native.Mathlib.Omega.{arith}
 use mathlib.Core.Path.{◌≡◌, refl, sym, ap, ◌∙◌}
 use mathlib.Core.Bool.{not, not-not}
@@ -9,7 +9,6 @@ use lib.Bits.{bit_or}
 use lib.Count.{ones}
 use Rattle.bits.specs.Bits.{low_bits, high_bits, threes, highs, lows, added, some_three}
 use Rattle.bits.specs.BitLaws.{ored_none, added_next, three_next, highs_most, lows_most}
-use borrow.Author.Rules.{rules}
 use Rattle.bits.proofs.chunk.Goals as goal
 
 -- a sum and one byte's number more

@@ -1,15 +1,8 @@
-use Prim.Native.Nat.{ℕ, ◌+◌, ◌-◌, ◌≤◌}
-use native.Mathlib.Omega.{arith}
-use mathlib.Core.Path.{◌≡◌, refl, sym, ap, ◌∙◌}
-use mathlib.Core.Bool.{not, not-not}
-use mathlib.Core.List.{List}
+use Prim.Native.Nat.{◌-◌, ◌≤◌}
+use mathlib.Core.Path.{◌≡◌}
+use mathlib.Core.Bool.{not}
 use lib.Dec.{eqb}
-use lib.ListN.{get_or}
-use lib.Bits.{bit_or}
-use lib.Count.{ones}
-use Rattle.bits.specs.Bits.{low_bits, high_bits, threes, highs, lows, added, some_three}
-use Rattle.bits.specs.BitLaws.{ored_none, added_next, three_next, highs_most, lows_most}
-use borrow.Author.Rules.{rules}
+use Rattle.bits.specs.Bits.{highs, lows, some_three}
 use Rattle.bits.proofs.chunk.Given as goal
 
 abbrev pub invariant-loop-i : goal.invariant-loop-i

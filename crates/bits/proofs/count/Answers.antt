@@ -1,10 +1,9 @@
-use Prim.Native.Nat.{◌+◌, ◌-◌, ◌≤◌, min}
+use Prim.Native.Nat.{◌+◌, ◌-◌, min}
 use native.Mathlib.Omega.{arith}
 use mathlib.Core.Path.{◌≡◌, refl}
 use lib.ListN.{length}
-use Rattle.bits.specs.Bits.{added, some_three, Counts}
+use Rattle.bits.specs.Bits.{added, some_three}
 use Rattle.bits.specs.BitLaws.{counts_more, counts_past, counts_fit}
-use borrow.Author.Rules.{rules}
 use Rattle.bits.proofs.count.Goals as goal
 
 pub loop-at-init : goal.loop-at-init

@@ -1,10 +1,5 @@
-use Prim.Native.Nat.{◌+◌, ◌-◌, ◌≤◌, min}
-use native.Mathlib.Omega.{arith}
-use mathlib.Core.Path.{◌≡◌, refl}
-use lib.ListN.{length}
-use Rattle.bits.specs.Bits.{added, some_three, Counts}
-use Rattle.bits.specs.BitLaws.{counts_more, counts_past, counts_fit}
-use borrow.Author.Rules.{rules}
+use Prim.Native.Nat.{◌-◌, ◌≤◌}
+use Rattle.bits.specs.Bits.{Counts}
 use Rattle.bits.proofs.count.Given as goal
 
 abbrev pub invariant-loop-at : goal.invariant-loop-at

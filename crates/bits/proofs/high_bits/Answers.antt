@@ -1,5 +1,4 @@
 use Rattle.bits.specs.Bits.{high_bits}
-use borrow.Author.Rules.{rules}
 use Rattle.bits.proofs.high_bits.Goals as goal
 
 pub returns : goal.returns

@@ -1,6 +1,5 @@
 use native.Mathlib.Omega.{arith}
 use lib.Count.{ones-le}
-use borrow.Author.Rules.{rules}
 use Rattle.bits.proofs.number_of_bits.Goals as goal
 
 pub overflow_cast-result : goal.overflow_cast-result

@@ -2,7 +2,6 @@ use Prim.Native.Nat.{ℕ}
 use mathlib.Core.Path.{ap₂}
 use lib.Bits.{bit_and}
 use Rattle.bits.specs.Bits.{threes}
-use borrow.Author.Rules.{rules}
 use Rattle.bits.proofs.threes.Goals as goal
 
 pub returns : goal.returns

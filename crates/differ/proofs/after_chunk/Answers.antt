@@ -4,7 +4,6 @@ use mathlib.Core.Path.{◌≡◌, refl, sym, ap, ◌∙◌}
 use mathlib.Core.Bool.{false}
 use Rattle.differ.specs.Differ.{chunk, after_last, has_chunk, chunk_after}
 use Rattle.differ.specs.DifferLaws.{has_true, chunk_after_is}
-use borrow.Author.Rules.{rules}
 use Rattle.differ.proofs.after_chunk.Goals as goal
 
 pub overflow_add-at : goal.overflow_add-at

@@ -1,6 +1,4 @@
-use Prim.Native.Nat.{◌≤◌}
 use native.Mathlib.Omega.{arith}
-use Rattle.differ.specs.Differ.{Same}
 use Rattle.differ.proofs.Turns.{same_none, same_before}
 use Rattle.differ.specs.DifferLaws.{AfterLast, after_last_is}
 use borrow.Author.Rules.{rules}

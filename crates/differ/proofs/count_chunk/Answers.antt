@@ -2,7 +2,6 @@ use mathlib.Core.Path.{◌≡◌, refl, sym, ◌∙◌}
 use mathlib.Core.Bool.{false}
 use Rattle.differ.specs.Differ.{has_chunk, chunk_diffs}
 use Rattle.differ.specs.DifferLaws.{has_true, chunk_diffs_is}
-use borrow.Author.Rules.{rules}
 use Rattle.differ.proofs.count_chunk.Goals as goal
 
 pub count_whole-requires : goal.count_whole-requires

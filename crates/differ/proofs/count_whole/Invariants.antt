@@ -1,14 +1,6 @@
-use Prim.Native.Nat.{ℕ, ◌+◌, ◌-◌, ◌≤◌}
-use native.Mathlib.Omega.{arith}
-use mathlib.Core.Path.{◌≡◌, sym, ap, ◌∙◌}
-use mathlib.Core.Bool.{not}
-use lib.Dec.{eqb}
-use lib.ListN.{get_or}
-use mir.Val.{bool_byte}
+use Prim.Native.Nat.{◌-◌, ◌≤◌}
+use mathlib.Core.Path.{◌≡◌}
 use Rattle.differ.specs.Differ.{diffs_in}
-use Rattle.differ.specs.DifferLaws.{diffs_none, diffs_few}
-use Rattle.differ.proofs.Turns.{counted_next}
-use borrow.Author.Rules.{rules}
 use Rattle.differ.proofs.count_whole.Given as goal
 
 abbrev pub invariant-loop-i : goal.invariant-loop-i

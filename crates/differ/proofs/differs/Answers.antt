@@ -1,10 +1,9 @@
 use borrow.Author.Rules.{rules}
 use Rattle.differ.proofs.Turns.{same_none, seen_same, seen_unlike}
-use Prim.Native.Nat.{◌+◌, ◌-◌, ◌≤◌}
+use Prim.Native.Nat.{◌+◌}
 use native.Mathlib.Omega.{arith}
 use mathlib.Core.Path.{◌≡◌}
-use mathlib.Core.Bool.{true, false, false≢true}
-use Rattle.differ.specs.Differ.{Same}
+use mathlib.Core.Bool.{false≢true}
 use Rattle.differ.proofs.differs.Goals as goal
 
 pub loop-i-init : goal.loop-i-init

@@ -1,9 +1,6 @@
-use borrow.Author.Rules.{rules}
-use Rattle.differ.proofs.Turns.{same_none, seen_same, seen_unlike}
 use Prim.Native.Nat.{◌+◌, ◌-◌, ◌≤◌}
-use native.Mathlib.Omega.{arith}
 use mathlib.Core.Path.{◌≡◌}
-use mathlib.Core.Bool.{true, false, false≢true}
+use mathlib.Core.Bool.{true, false}
 use Rattle.differ.specs.Differ.{Same}
 use Rattle.differ.proofs.differs.Given as goal
 

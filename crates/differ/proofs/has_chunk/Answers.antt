@@ -4,7 +4,6 @@ use mathlib.Core.Path.{sym, ◌∙◌}
 use borrow.Author.Tests.{lt-leb}
 use Rattle.differ.specs.Differ.{chunk}
 use Rattle.differ.proofs.Turns.{has_asked}
-use borrow.Author.Rules.{rules}
 use Rattle.differ.proofs.has_chunk.Goals as goal
 
 pub returns-then-end-at : goal.returns-then-end-at

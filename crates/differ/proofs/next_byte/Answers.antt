@@ -1,9 +1,8 @@
 use borrow.Author.Rules.{rules}
 use Rattle.differ.proofs.Turns.{same_none, same_next, skipped}
-use Prim.Native.Nat.{◌+◌, ◌-◌, ◌≤◌}
+use Prim.Native.Nat.{◌+◌}
 use native.Mathlib.Omega.{arith}
-use mathlib.Core.Path.{◌≡◌, sym, ◌∙◌}
-use Rattle.differ.specs.Differ.{next_diff}
+use mathlib.Core.Path.{sym, ◌∙◌}
 use Rattle.differ.specs.DifferLaws.{next_here}
 use Rattle.differ.proofs.next_byte.Goals as goal
 

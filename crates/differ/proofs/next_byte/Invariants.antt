@@ -1,10 +1,6 @@
-use borrow.Author.Rules.{rules}
-use Rattle.differ.proofs.Turns.{same_none, same_next, skipped}
-use Prim.Native.Nat.{◌+◌, ◌-◌, ◌≤◌}
-use native.Mathlib.Omega.{arith}
-use mathlib.Core.Path.{◌≡◌, sym, ◌∙◌}
+use Prim.Native.Nat.{◌-◌, ◌≤◌}
+use mathlib.Core.Path.{◌≡◌}
 use Rattle.differ.specs.Differ.{next_diff}
-use Rattle.differ.specs.DifferLaws.{next_here}
 use Rattle.differ.proofs.next_byte.Given as goal
 
 abbrev pub invariant-loop-at : goal.invariant-loop-at

@@ -1,7 +1,6 @@
 use native.Mathlib.Omega.{arith}
 use Rattle.differ.specs.Differ.{chunk}
 use Rattle.differ.proofs.Turns.{stepped_past}
-use borrow.Author.Rules.{rules}
 use Rattle.differ.proofs.next_chunk.Goals as goal
 
 pub returns-then-end-from : goal.returns-then-end-from

@@ -2,7 +2,6 @@ use Rattle.span.specs.Bytes.{part, same}
 use mathlib.Core.List.{List}
 use mathlib.Core.Path.{ap, ◌∙◌}
 use Prim.Native.Nat.{ℕ}
-use borrow.Author.Rules.{rules}
 use Rattle.differ.proofs.same_part.Goals as goal
 
 pub returns : goal.returns

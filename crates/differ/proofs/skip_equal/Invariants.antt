@@ -1,6 +1,5 @@
 use Prim.Native.Nat.{◌-◌}
-use native.Mathlib.Omega.{arith}
-use Rattle.differ.proofs.Turns.{Stepped, stepped_none, stepped_more, stepped_all}
+use Rattle.differ.proofs.Turns.{Stepped}
 use Rattle.differ.proofs.skip_equal.Given as goal
 
 abbrev pub invariant-loop-at : goal.invariant-loop-at

@@ -4,7 +4,6 @@ use lib.ListN.{length, take}
 use mathlib.Core.List.{List}
 use mathlib.Core.Path.{ap, ◌∙◌}
 use Prim.Native.Nat.{ℕ}
-use borrow.Author.Rules.{rules}
 use Rattle.headers.proofs.begin_patch.Goals as goal
 
 pub returns : goal.returns

@@ -1,12 +1,7 @@
-use borrow.Author.Rules.{rules}
-use Prim.Native.Nat.{ℕ, ◌-◌, ◌≤◌}
-use native.Mathlib.Omega.{arith}
-use mathlib.Core.Path.{◌≡◌, refl, ap, ◌∙◌}
-use mathlib.Core.List.{List}
+use Prim.Native.Nat.{◌-◌, ◌≤◌}
+use mathlib.Core.Path.{◌≡◌}
 use lib.ListN.{length}
 use Rattle.span.specs.Bytes.{part, same}
-use Rattle.span.specs.Laws.{part_whole}
-use Rattle.headers.proofs.Turns.{like_none, like_more, too_short}
 use Rattle.headers.proofs.begins.Given as goal
 
 abbrev pub invariant-loop-i : goal.invariant-loop-i

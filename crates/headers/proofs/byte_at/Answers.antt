@@ -1,6 +1,5 @@
 use mathlib.Core.Path.{sym}
 use lib.ListN.{get_or-eq_default}
-use borrow.Author.Rules.{rules}
 use Rattle.headers.proofs.byte_at.Goals as goal
 
 pub returns-then-area-at : goal.returns-then-area-at

@@ -9,7 +9,6 @@ use Rattle.layout.specs.RefusalLaws.{or_skip, or_some}
 use mathlib.Core.Path.{sym, ap, ◌∙◌}
 use Prim.Native.Nat.{ℕ}
 use native.Mathlib.Omega.{arith}
-use borrow.Author.Rules.{rules}
 use Rattle.headers.proofs.full_fault.Goals as goal
 
 pub returns-then-full-eq0 : goal.returns-then-full-eq0

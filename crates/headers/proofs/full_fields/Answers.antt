@@ -1,8 +1,6 @@
 use Rattle.layout.specs.Numbers.{le}
 use Rattle.headers.specs.Headers.{full_fields}
 use mathlib.Core.Path.{refl}
-use borrow.Author.Rules.{rules}
-use Rattle.headers.proofs.full_fields.Reads as reads
 use Rattle.headers.proofs.full_fields.Goals as goal
 
 -- src/lib.rt:48:1

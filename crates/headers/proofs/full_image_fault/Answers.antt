@@ -5,7 +5,6 @@ use Rattle.layout.specs.Sizes.{full_head}
 use mathlib.Core.List.{List}
 use mathlib.Core.Path.{ap, ◌∙◌}
 use Prim.Native.Nat.{ℕ}
-use borrow.Author.Rules.{rules}
 use Rattle.headers.proofs.full_image_fault.Goals as goal
 
 pub returns : goal.returns

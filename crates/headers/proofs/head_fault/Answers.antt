@@ -1,8 +1,6 @@
-use Rattle.span.specs.Told.{on, off}
 use Rattle.headers.specs.HeaderLaws.{head_rows_is, head_number}
 use Rattle.layout.specs.Refusals.{or_else}
 use native.Mathlib.Omega.{arith}
-use borrow.Author.Rules.{rules}
 use Rattle.std.proofs.Common.{sym, ◌∙◌}
 use Rattle.headers.proofs.head_fault.Goals as goal
 

@@ -5,7 +5,6 @@ use Rattle.layout.specs.NumberLaws.{refusal_some}
 use Rattle.layout.specs.Refusals.{first_of}
 use Rattle.layout.specs.RefusalLaws.{or_skip}
 use mathlib.Core.Path.{sym, ap, ◌∙◌}
-use borrow.Author.Rules.{rules}
 use Rattle.headers.proofs.headers_fault.Goals as goal
 
 pub returns-in-Found : goal.returns-in-Found

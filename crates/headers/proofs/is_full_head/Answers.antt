@@ -4,7 +4,6 @@ use Rattle.headers.specs.Headers.{header, full_header}
 use mathlib.Core.List.{List}
 use mathlib.Core.Path.{ap, ◌∙◌}
 use Prim.Native.Nat.{ℕ}
-use borrow.Author.Rules.{rules}
 use Rattle.headers.proofs.is_full_head.Goals as goal
 
 pub returns : goal.returns

@@ -4,9 +4,7 @@ use mathlib.Core.Path.{sym, ap, ◌∙◌}
 use mathlib.Core.Bool.{Bool, ◌&&◌}
 use lib.ListN.{length}
 use Rattle.span.specs.Bytes.{zeros, part, same}
-use Rattle.span.specs.Told.{on, off}
 use Rattle.headers.proofs.Turns.{head_parts}
-use borrow.Author.Rules.{rules}
 use Rattle.headers.proofs.is_head.Goals as goal
 
 pub returns-then-not-begins : goal.returns-then-not-begins

@@ -4,7 +4,6 @@ use native.Mathlib.Omega.{arith}
 use lib.ListN.{get_or}
 use mathlib.Core.List.{List}
 use Rattle.headers.specs.StoredLaws.{number_4}
-use borrow.Author.Rules.{rules}
 use Rattle.headers.proofs.number_4.Goals as goal
 
 pub returns : goal.returns

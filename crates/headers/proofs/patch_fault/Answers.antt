@@ -8,7 +8,6 @@ use Rattle.layout.specs.RefusalLaws.{or_skip, or_some}
 use mathlib.Core.Path.{sym, ap, ◌∙◌}
 use Prim.Native.Nat.{ℕ}
 use native.Mathlib.Omega.{arith}
-use borrow.Author.Rules.{rules}
 use Rattle.headers.proofs.patch_fault.Goals as goal
 
 pub returns-then-is_patch_head : goal.returns-then-is_patch_head

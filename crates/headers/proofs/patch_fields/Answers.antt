@@ -1,8 +1,6 @@
 use Rattle.layout.specs.Numbers.{le}
 use Rattle.headers.specs.Headers.{patch_fields}
 use mathlib.Core.Path.{refl}
-use borrow.Author.Rules.{rules}
-use Rattle.headers.proofs.patch_fields.Reads as reads
 use Rattle.headers.proofs.patch_fields.Goals as goal
 
 -- src/lib.rt:16:1

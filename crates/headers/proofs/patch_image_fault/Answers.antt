@@ -5,7 +5,6 @@ use Rattle.layout.specs.Sizes.{patch_head}
 use mathlib.Core.List.{List}
 use mathlib.Core.Path.{ap, ◌∙◌}
 use Prim.Native.Nat.{ℕ}
-use borrow.Author.Rules.{rules}
 use Rattle.headers.proofs.patch_image_fault.Goals as goal
 
 pub returns : goal.returns

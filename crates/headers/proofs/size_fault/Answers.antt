@@ -2,7 +2,6 @@ use Rattle.headers.specs.Stored.{size_rows, stored_size}
 use Rattle.layout.specs.Refusals.{first_of, or_else}
 use borrow.Author.Tests.{eq-eqb, ne_eqb}
 use mathlib.Core.Path.{sym, ◌∙◌}
-use borrow.Author.Rules.{rules}
 use Rattle.headers.proofs.size_fault.Goals as goal
 
 pub returns-then-stored_size-size : goal.returns-then-stored_size-size

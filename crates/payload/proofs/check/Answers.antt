@@ -1,7 +1,6 @@
 use Rattle.payload.specs.Steps.{reach}
 use Rattle.payload.specs.StepLaws.{unsound_told}
 use Rattle.payload.proofs.Turns.{unsound_empty, unsound_long}
-use borrow.Author.Rules.{rules}
 use Rattle.payload.proofs.check.Goals as goal
 
 pub returns-then-payload-eq0 : goal.returns-then-payload-eq0

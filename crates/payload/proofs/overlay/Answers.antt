@@ -1,12 +1,9 @@
-use Prim.Native.Nat.{ℕ, ◌+◌, ◌-◌, ◌≤◌}
+use Prim.Native.Nat.{ℕ}
 use mathlib.Core.Path.{◌≡◌, ◌∙◌, subst}
 use native.Mathlib.Omega.{arith}
-use lib.ListN.{length}
 use Rattle.payload.specs.Entries.{payload_stream, applied}
-use Rattle.payload.specs.Positions.{before}
-use Rattle.payload.specs.Steps.{reach, Laid, Lays}
+use Rattle.payload.specs.Steps.{Lays}
 use Rattle.payload.proofs.Turns.{laid_none, lays_then, laid_over, over_both}
-use borrow.Author.Rules.{rules}
 use Rattle.payload.proofs.overlay.Goals as goal
 use Rattle.payload.proofs.overlay.Goals.{After-lay_longs-long}
 

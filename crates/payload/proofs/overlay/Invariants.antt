@@ -1,12 +1,8 @@
-use Prim.Native.Nat.{ℕ, ◌+◌, ◌-◌, ◌≤◌}
-use mathlib.Core.Path.{◌≡◌, ◌∙◌, subst}
-use native.Mathlib.Omega.{arith}
+use Prim.Native.Nat.{◌+◌, ◌-◌, ◌≤◌}
+use mathlib.Core.Path.{◌≡◌}
 use lib.ListN.{length}
-use Rattle.payload.specs.Entries.{payload_stream, applied}
 use Rattle.payload.specs.Positions.{before}
-use Rattle.payload.specs.Steps.{reach, Laid, Lays}
-use Rattle.payload.proofs.Turns.{laid_none, lays_then, laid_over, over_both}
-use borrow.Author.Rules.{rules}
+use Rattle.payload.specs.Steps.{reach, Laid}
 use Rattle.payload.proofs.overlay.Given as goal
 
 abbrev pub invariant-loop-place : goal.invariant-loop-place

@@ -1,4 +1,3 @@
-use Rattle.span.specs.Told.{on, off}
 use Rattle.slots.specs.Slots.{payload_length}
 use Rattle.slots.specs.SlotLaws.{length_at_is, patch_over, patch_value}
 use Rattle.layout.specs.Sizes.{room, payload_at}
@@ -10,7 +9,6 @@ use mathlib.Core.Bool.{true, false}
 use mathlib.Core.Path.{◌≡◌, sym, ap, ◌∙◌}
 use native.Mathlib.Omega.{arith}
 use Prim.Native.Nat.{ℕ, ◌+◌, ◌-◌, ◌*◌}
-use borrow.Author.Rules.{rules}
 use Rattle.slots.proofs.patch_length.Goals as goal
 
 pub overflow_cast-n : goal.overflow_cast-n

@@ -9,7 +9,6 @@ use mathlib.Core.Bool.{and-false}
 use mathlib.Core.List.{List}
 use mathlib.Core.Path.{◌≡◌, ap, ◌∙◌}
 use Prim.Native.Nat.{ℕ}
-use borrow.Author.Rules.{rules}
 use Rattle.slots.proofs.put_slot.Goals as goal
 
 pub returns-then-slot-ne-SLOT : goal.returns-then-slot-ne-SLOT

@@ -1,4 +1,3 @@
-use Rattle.span.specs.Told.{on, off}
 use Rattle.slots.specs.SlotLaws.{slot_short, slot_patch, slot_other, plain_numbers, patch_none, patch_some}
 use Rattle.layout.specs.Sizes.{slot_size}
 use borrow.Author.Tests.{eq-eqb, ne_eqb}
@@ -6,7 +5,6 @@ use lib.ListN.{length, get_or}
 use mathlib.Core.List.{List}
 use mathlib.Core.Path.{◌≡◌, sym, ◌∙◌}
 use Prim.Native.Nat.{ℕ}
-use borrow.Author.Rules.{rules}
 use Rattle.slots.proofs.slot_state.Goals as goal
 
 pub returns-then-slot-ne-SLOT : goal.returns-then-slot-ne-SLOT

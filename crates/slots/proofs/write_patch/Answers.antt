@@ -8,7 +8,6 @@ use mathlib.Core.List.{List}
 use mathlib.Core.Path.{◌≡◌, ap, ◌∙◌}
 use native.Mathlib.Omega.{arith}
 use Prim.Native.Nat.{ℕ, ◌+◌, ◌-◌, ◌/◌, ◌%◌}
-use borrow.Author.Rules.{rules}
 use Rattle.slots.proofs.write_patch.Goals as goal
 
 pub bounds-slot-2 : goal.bounds-slot-2

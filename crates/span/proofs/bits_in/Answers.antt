@@ -1,7 +1,6 @@
-use lib.Dec.{eqb}
 use borrow.Author.Rules.{rules}
 use Rattle.span.proofs.Turns.{seen_zero}
-use Prim.Native.Nat.{ℕ, ◌-◌, ◌≤◌}
+use Prim.Native.Nat.{ℕ}
 use native.Mathlib.Omega.{arith}
 use mathlib.Core.Path.{◌≡◌, sym, ap, ◌∙◌}
 use mathlib.Core.List.{List, []}

@@ -1,12 +1,7 @@
 use lib.Dec.{eqb}
-use borrow.Author.Rules.{rules}
-use Rattle.span.proofs.Turns.{seen_zero}
-use Prim.Native.Nat.{ℕ, ◌-◌, ◌≤◌}
-use native.Mathlib.Omega.{arith}
-use mathlib.Core.Path.{◌≡◌, sym, ap, ◌∙◌}
-use mathlib.Core.List.{List, []}
+use Prim.Native.Nat.{◌-◌, ◌≤◌}
+use mathlib.Core.Path.{◌≡◌}
 use Rattle.span.specs.Bytes.{zeros, part, same}
-use Rattle.span.specs.Laws.{zeros_nil, part_none}
 use Rattle.span.proofs.bits_in.Given as goal
 
 abbrev pub invariant-loop-i : goal.invariant-loop-i

@@ -4,10 +4,6 @@ use mathlib.Core.List.{List}
 use lib.ListN.{length}
 use Rattle.span.specs.Bytes.{zeros}
 use Rattle.span.specs.Laws.{same_is}
-use borrow.Author.Rules.{rules}
-use Rattle.span.proofs.clear.Reads as reads
-use Rattle.span.proofs.all_zero.Reads as all-zero-reads
-use Rattle.span.proofs.fill_bytes.Reads as fill-bytes-reads
 use Rattle.span.proofs.clear.Goals as goal
 
 -- src/lib.rt:37:9

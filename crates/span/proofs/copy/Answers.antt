@@ -7,7 +7,7 @@ use Rattle.span.specs.Bytes.{splice}
 use mathlib.Core.List.{List}
 use mathlib.Core.Path.{◌≡◌, refl, sym, ap, ◌∙◌}
 use native.Mathlib.Omega.{arith}
-use Prim.Native.Nat.{ℕ, ◌+◌, ◌-◌, ◌≤◌, min}
+use Prim.Native.Nat.{ℕ, ◌+◌, ◌-◌, min}
 use borrow.Author.Rules.{rules}
 use Rattle.span.proofs.copy.Goals as goal
 

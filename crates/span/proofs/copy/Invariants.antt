@@ -1,14 +1,7 @@
-use borrow.Rule.Slice.PartMut.{same_len_mid}
-use lib.Seq.{length-take-le}
-use lib.ListN.{length-drop, length, take, drop}
-use Rattle.span.proofs.Turns.{moved_on}
-use Rattle.span.specs.Laws.{splice_none, take_min, put_splice, put_copied}
+use lib.ListN.{length, take}
 use Rattle.span.specs.Bytes.{splice}
-use mathlib.Core.List.{List}
-use mathlib.Core.Path.{◌≡◌, refl, sym, ap, ◌∙◌}
-use native.Mathlib.Omega.{arith}
-use Prim.Native.Nat.{ℕ, ◌+◌, ◌-◌, ◌≤◌, min}
-use borrow.Author.Rules.{rules}
+use mathlib.Core.Path.{◌≡◌}
+use Prim.Native.Nat.{◌-◌, ◌≤◌}
 use Rattle.span.proofs.copy.Given as goal
 
 abbrev pub invariant-loop-at : goal.invariant-loop-at

@@ -1,12 +1,7 @@
-use borrow.Author.Rules.{rules}
-use Rattle.span.proofs.Turns.{copied}
-use Prim.Native.Nat.{ℕ, ◌-◌, ◌≤◌, min}
-use native.Mathlib.Omega.{arith}
-use mathlib.Core.Path.{◌≡◌, refl, sym, ap, ◌∙◌}
-use mathlib.Core.List.{List}
+use Prim.Native.Nat.{◌-◌, ◌≤◌}
+use mathlib.Core.Path.{◌≡◌}
 use lib.ListN.{length, take}
 use Rattle.span.specs.Bytes.{splice}
-use Rattle.span.specs.Laws.{splice_none, take_min}
 use Rattle.span.proofs.copy_bytes.Given as goal
 
 abbrev pub invariant-loop-i : goal.invariant-loop-i

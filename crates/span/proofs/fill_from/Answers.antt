@@ -5,7 +5,6 @@ use mathlib.Core.List.{List}
 use lib.ListN.{length}
 use Rattle.span.specs.Laws.{put_filled}
 use Rattle.span.specs.EmptiedLaws.{emptied_short, emptied_is}
-use borrow.Author.Rules.{rules}
 use Rattle.span.proofs.fill_from.Goals as goal
 
 pub returns-then-end-at : goal.returns-then-end-at

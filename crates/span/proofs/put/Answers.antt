@@ -1,6 +1,5 @@
 use mathlib.Core.Path.{sym}
 use lib.Seq.{set_out}
-use borrow.Author.Rules.{rules}
 use Rattle.span.proofs.put.Goals as goal
 
 pub returns-else-at-dst : goal.returns-else-at-dst

@@ -6,7 +6,6 @@ use lib.Dec.{eqb, leb}
 use borrow.Author.Tests.{eq-eqb, ne_eqb, le-leb, lt-leb}
 use Rattle.layout.specs.Sizes.{page_at}
 use Rattle.layout.specs.Lengths.{full_fits, pages_in}
-use borrow.Author.Rules.{rules}
 use Rattle.layout.proofs.area.full_fits.Goals as goal
 
 pub returns-then-full_length-eq0 : goal.returns-then-full_length-eq0

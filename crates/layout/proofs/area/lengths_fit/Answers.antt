@@ -2,11 +2,9 @@ use Prim.Native.Nat.{ℕ, ◌≤◌}
 use mathlib.Core.Path.{◌≡◌, sym, ap, ◌∙◌}
 use native.Mathlib.Omega.{arith}
 use mathlib.Core.Bool.{true, false}
-use borrow.Author.Tests.{not-true, not-false}
 use Rattle.layout.specs.Sizes.{blocks_at_most}
 use Rattle.layout.specs.Lengths.{patch_fits, full_fits, blocks_in}
 use Rattle.layout.specs.LengthLaws.{patch_fits_is, most_blocks}
-use borrow.Author.Rules.{rules}
 use Rattle.layout.proofs.area.lengths_fit.Goals as goal
 
 pub returns-then-not-patch_fits : goal.returns-then-not-patch_fits

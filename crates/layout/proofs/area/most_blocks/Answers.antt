@@ -2,7 +2,6 @@ use Prim.Native.Nat.{ℕ, ◌/◌}
 use mathlib.Core.Path.{sym, ap, ◌∙◌}
 use native.Mathlib.Nat.{div-zero}
 use Rattle.layout.specs.Sizes.{segment}
-use borrow.Author.Rules.{rules}
 use Rattle.layout.proofs.area.most_blocks.Goals as goal
 
 pub returns-then-size-eq0 : goal.returns-then-size-eq0

@@ -7,7 +7,6 @@ use borrow.Author.Tests.{ne_eqb, le-leb, lt-leb}
 use Rattle.layout.specs.Sizes.{slot_at, blocks_at_most}
 use Rattle.layout.specs.LengthLaws.{most_blocks}
 use Rattle.layout.specs.Lengths.{patch_fits, blocks_in}
-use borrow.Author.Rules.{rules}
 use Rattle.layout.proofs.area.patch_fits.Goals as goal
 
 pub returns-then-patch_length-lt-PATCH_HEAD : goal.returns-then-patch_length-lt-PATCH_HEAD

@@ -7,7 +7,6 @@ use lib.IntN.{ℤ, pos, ◌+ℤ◌}
 use Prim.Native.Nat.{◌+◌}
 use native.Mathlib.Omega.{arith}
 use Rattle.payload.specs.Steps.{reach}
-use borrow.Author.Rules.{rules}
 use Rattle.payload.proofs.entry.landed.Goals as goal
 
 pub returns-then-to-lt0 : goal.returns-then-to-lt0

@@ -1,7 +1,6 @@
 use Prim.Native.Nat.{◌+◌}
 use native.Mathlib.Omega.{arith}
 use Rattle.payload.proofs.Reading.{jumped_cut, jumped_below, jumped_on}
-use borrow.Author.Rules.{rules}
 use Rattle.payload.proofs.entry.long_jump.Goals as goal
 
 pub returns-then-payload-place-lt-LONG_WIDTH : goal.returns-then-payload-place-lt-LONG_WIDTH

@@ -3,7 +3,6 @@ use mir.Syntax.{w64}
 use mathlib.Core.Path.{◌∙◌}
 use Prim.Native.Nat.{◌<◌, ◌^◌}
 use Rattle.payload.proofs.Signed.{widens, sum_read, moved_fits}
-use borrow.Author.Rules.{rules}
 use Rattle.payload.proofs.entry.moved.Goals as goal
 
 pub overflow_cast-result : goal.overflow_cast-result

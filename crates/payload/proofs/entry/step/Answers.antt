@@ -6,7 +6,6 @@ use Prim.Native.Nat.{◌+◌}
 use native.Mathlib.Omega.{arith}
 use Rattle.payload.specs.Steps.{reach}
 use Rattle.payload.proofs.Reading.{Opened, at_end, cut, opened_short, opened_long, lands}
-use borrow.Author.Rules.{rules}
 use Rattle.payload.proofs.entry.step.Goals as goal
 
 pub returns-then-payload-place : goal.returns-then-payload-place

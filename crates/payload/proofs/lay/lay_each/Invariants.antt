@@ -1,11 +1,6 @@
-use Prim.Native.Nat.{ℕ, ◌+◌, ◌-◌, ◌*◌, ◌≤◌, ◌<◌}
-use native.Mathlib.Omega.{arith}
-use mathlib.Core.Path.{◌≡◌, sym, ap, ◌∙◌, subst}
-use mathlib.Core.List.{List}
-use lib.ListN.{get_or}
+use Prim.Native.Nat.{◌+◌, ◌-◌, ◌*◌, ◌≤◌}
+use mathlib.Core.Path.{◌≡◌}
 use Rattle.payload.specs.Steps.{jumps_of, LaysTo}
-use Rattle.payload.proofs.Turns.{lays_none}
-use Rattle.payload.proofs.Together.{jumps_none, Taken, taken, lands_in, lands_next, lays_each}
 use Rattle.payload.proofs.lay.lay_each.Given as goal
 
 abbrev pub invariant-loop-i : goal.invariant-loop-i

@@ -1,11 +1,9 @@
 use Prim.Native.Nat.{ℕ, ◌+◌, ◌-◌}
 use mathlib.Core.List.{List}
 use native.Mathlib.Omega.{arith}
-use lib.ListN.{length, get_or}
-use Rattle.payload.specs.Steps.{Lays}
+use lib.ListN.{get_or}
 use Rattle.payload.proofs.Reading.{Opened, opened_long, enters, leaves}
 use Rattle.payload.proofs.Turns.{lays_none, lays_more, over_broken, over_few}
-use borrow.Author.Rules.{rules}
 use Rattle.payload.proofs.lay.lay_longs.Goals as goal
 
 pub loop-place-init : goal.loop-place-init

@@ -1,7 +1,6 @@
-use Prim.Native.Nat.{ℕ, ◌+◌, ◌-◌, ◌≤◌}
+use Prim.Native.Nat.{ℕ, ◌+◌, ◌-◌}
 use native.Mathlib.Omega.{arith}
 use mathlib.Core.Path.{◌≡◌, sym, ◌∙◌, subst}
-use lib.ListN.{length}
 use Rattle.payload.specs.Steps.{after_together, LaysTo}
 use Rattle.payload.proofs.Turns.{lays_none, lays_then}
 use Rattle.payload.proofs.Together.{Taken, taken}

@@ -1,10 +1,6 @@
-use Prim.Native.Nat.{ℕ, ◌+◌, ◌-◌, ◌≤◌}
-use native.Mathlib.Omega.{arith}
-use mathlib.Core.Path.{◌≡◌, sym, ◌∙◌, subst}
+use Prim.Native.Nat.{◌+◌, ◌-◌, ◌≤◌}
 use lib.ListN.{length}
-use Rattle.payload.specs.Steps.{after_together, LaysTo}
-use Rattle.payload.proofs.Turns.{lays_none, lays_then}
-use Rattle.payload.proofs.Together.{Taken, taken}
+use Rattle.payload.specs.Steps.{LaysTo}
 use Rattle.payload.proofs.lay.lay_together.Given as goal
 
 abbrev pub invariant-loop-from : goal.invariant-loop-from

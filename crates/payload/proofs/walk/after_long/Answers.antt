@@ -8,7 +8,6 @@ use Rattle.payload.specs.Entries.{stream, code}
 use Rattle.payload.specs.Positions.{before}
 use Rattle.payload.specs.Steps.{Entered}
 use Rattle.payload.proofs.Reading.{opened_long, enters}
-use borrow.Author.Rules.{rules}
 use Rattle.payload.proofs.walk.after_long.Goals as goal
 
 pub returns-then-payload-place-lt-LONG_WIDTH : goal.returns-then-payload-place-lt-LONG_WIDTH

@@ -5,7 +5,6 @@ use mathlib.Core.Bool.{false}
 use mathlib.Core.List.{List}
 use Rattle.payload.specs.Steps.{long_among}
 use Rattle.payload.proofs.Together.{long_first, together_cut, together_long, together_out, together_in}
-use borrow.Author.Rules.{rules}
 use Rattle.payload.proofs.walk.after_together.Goals as goal
 
 pub returns-then-payload-place-lt-TOGETHER_WIDTH : goal.returns-then-payload-place-lt-TOGETHER_WIDTH

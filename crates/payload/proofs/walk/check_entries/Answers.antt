@@ -2,7 +2,7 @@ use Prim.Native.Nat.{ℕ, ◌+◌, ◌-◌, ◌≤◌}
 use mathlib.Core.Path.{◌≡◌, sym, ap, subst, ◌∙◌}
 use native.Mathlib.Omega.{arith}
 use lib.IntN.{ℤ, pos, nat_abs}
-use lib.ListN.{length, drop}
+use lib.ListN.{drop}
 use mir.Syntax.{w32}
 use mir.Val.{to_z, of_z}
 use mir.ValLaws.{to_z-of_z}
@@ -14,7 +14,6 @@ use Rattle.payload.specs.declared.Step.{Step}
 use Rattle.payload.specs.declared.Step.TheVariants.{End, Broken, Entry}
 use Rattle.payload.proofs.Together.{passed_together}
 use Rattle.payload.proofs.Turns.{told, index_is, index_in, index_fits, Passed, passed_none, passed_more, passed_all, passed_broken}
-use borrow.Author.Rules.{rules}
 use Rattle.payload.proofs.walk.check_entries.Goals as goal
 use Rattle.payload.proofs.walk.check_entries.Goals.{After-position_before-last, After-step, In-Entry, Then-far-ne0, Then-to-ne0}
 

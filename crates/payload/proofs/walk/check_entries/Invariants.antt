@@ -1,20 +1,9 @@
-use Prim.Native.Nat.{ℕ, ◌+◌, ◌-◌, ◌≤◌}
-use mathlib.Core.Path.{◌≡◌, sym, ap, subst, ◌∙◌}
-use native.Mathlib.Omega.{arith}
-use lib.IntN.{ℤ, pos, nat_abs}
-use lib.ListN.{length, drop}
-use mir.Syntax.{w32}
-use mir.Val.{to_z, of_z}
-use mir.ValLaws.{to_z-of_z}
-use Rattle.payload.specs.Entries.{stream, code}
-use Rattle.payload.specs.Positions.{before, before_next}
-use Rattle.payload.specs.Steps.{reach, Entered, Passes, Follows}
-use Rattle.payload.specs.StepLaws.{SoundAs, unsound_told, sound_told}
-use Rattle.payload.specs.declared.Step.{Step}
-use Rattle.payload.specs.declared.Step.TheVariants.{End, Broken, Entry}
-use Rattle.payload.proofs.Together.{passed_together}
-use Rattle.payload.proofs.Turns.{told, index_is, index_in, index_fits, Passed, passed_none, passed_more, passed_all, passed_broken}
-use borrow.Author.Rules.{rules}
+use Prim.Native.Nat.{◌-◌, ◌≤◌}
+use mathlib.Core.Path.{◌≡◌}
+use lib.ListN.{length}
+use Rattle.payload.specs.Positions.{before}
+use Rattle.payload.specs.Steps.{reach}
+use Rattle.payload.proofs.Turns.{Passed}
 use Rattle.payload.proofs.walk.check_entries.Given as goal
 
 abbrev pub invariant-loop-after : goal.invariant-loop-after

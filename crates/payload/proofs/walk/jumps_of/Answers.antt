@@ -1,9 +1,8 @@
-use Prim.Native.Nat.{◌+◌, ◌-◌, ◌*◌, ◌≤◌}
+use Prim.Native.Nat.{◌+◌, ◌*◌}
 use native.Mathlib.Omega.{arith}
 use mathlib.Core.Path.{◌≡◌, sym, ap, ◌∙◌}
 use Rattle.payload.specs.Steps.{jumps_of}
 use Rattle.payload.proofs.Together.{jumps_none, jumps_next, jumps_few}
-use borrow.Author.Rules.{rules}
 use Rattle.payload.proofs.walk.jumps_of.Goals as goal
 
 pub loop-i-init : goal.loop-i-init

@@ -1,9 +1,6 @@
-use Prim.Native.Nat.{◌+◌, ◌-◌, ◌*◌, ◌≤◌}
-use native.Mathlib.Omega.{arith}
-use mathlib.Core.Path.{◌≡◌, sym, ap, ◌∙◌}
+use Prim.Native.Nat.{◌-◌, ◌≤◌}
+use mathlib.Core.Path.{◌≡◌}
 use Rattle.payload.specs.Steps.{jumps_of}
-use Rattle.payload.proofs.Together.{jumps_none, jumps_next, jumps_few}
-use borrow.Author.Rules.{rules}
 use Rattle.payload.proofs.walk.jumps_of.Given as goal
 
 abbrev pub invariant-loop-i : goal.invariant-loop-i

@@ -1,4 +1,4 @@
-use Prim.Native.Nat.{◌+◌, ◌-◌, ◌*◌, ◌≤◌}
+use Prim.Native.Nat.{◌+◌, ◌*◌}
 use native.Mathlib.Omega.{arith}
 use mathlib.Core.Path.{◌≡◌, sym, ap, ◌∙◌}
 use mathlib.Core.Bool.{Bool, ◌||◌}
@@ -6,7 +6,6 @@ use lib.Dec.{eqb}
 use lib.ListN.{get_or}
 use Rattle.payload.specs.Steps.{long_among}
 use Rattle.payload.proofs.Together.{long_none, long_next}
-use borrow.Author.Rules.{rules}
 use Rattle.payload.proofs.walk.long_among.Goals as goal
 
 pub loop-i-init : goal.loop-i-init

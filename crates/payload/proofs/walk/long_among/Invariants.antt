@@ -1,12 +1,6 @@
-use Prim.Native.Nat.{◌+◌, ◌-◌, ◌*◌, ◌≤◌}
-use native.Mathlib.Omega.{arith}
-use mathlib.Core.Path.{◌≡◌, sym, ap, ◌∙◌}
-use mathlib.Core.Bool.{Bool, ◌||◌}
-use lib.Dec.{eqb}
-use lib.ListN.{get_or}
+use Prim.Native.Nat.{◌-◌, ◌≤◌}
+use mathlib.Core.Path.{◌≡◌}
 use Rattle.payload.specs.Steps.{long_among}
-use Rattle.payload.proofs.Together.{long_none, long_next}
-use borrow.Author.Rules.{rules}
 use Rattle.payload.proofs.walk.long_among.Given as goal
 
 abbrev pub invariant-loop-i : goal.invariant-loop-i

@@ -4,7 +4,6 @@ use mir.Syntax.{w32}
 use mir.Val.{to_z}
 use mir.ValLaws.{to_z-of_z}
 use Rattle.payload.specs.Positions.{before_read, before_fits}
-use borrow.Author.Rules.{rules}
 use Rattle.payload.proofs.walk.position_before.Goals as goal
 
 pub overflow_sub-result : goal.overflow_sub-result
