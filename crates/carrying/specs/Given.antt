@@ -1,6 +1,6 @@
 -- "Each refusal is given when its condition holds and no earlier one does, and at no other time": carrying out, alone and with a lent map,
 -- whatever number of stores is told.
-use Rattle.std.specs.Prelude.{ℕ, ◌≡◌, refl, true, List, [], length}
+use Rattle.std.specs.Prelude.{ℕ, ◌≡◌, refl, true, List, []}
 use Rattle.layout.specs.Refusals.{Row}
 use Rattle.layout.specs.RefusalLaws.{Exactly, exactly, no_row, row, both}
 use Rattle.layout.specs.Groups.{ordered}

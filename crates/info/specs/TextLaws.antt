@@ -1,6 +1,6 @@
 -- The paper's examples of what `slotinfo` prints, whole.
 use Rattle.std.specs.Prelude.{ℕ, ◌-◌, ◌≡◌, refl, List, [], ◌∷◌, length}
-use Rattle.std.proofs.Common.{ap, ◌∙◌}
+use Rattle.std.proofs.Common.{ap}
 use Rattle.span.specs.Ascii.{ascii}
 use Rattle.span.specs.Bytes.{zeros, part, same}
 use Rattle.layout.specs.Sizes.{page_size, slot_size}

@@ -17,7 +17,7 @@ use Rattle.layout.specs.Numbers.{kind_number}
 use Rattle.layout.specs.declared.Kind.{Kind}
 use Rattle.layout.specs.declared.Kind.TheVariants.{Patch}
 use Rattle.layout.specs.declared.Refusal.TheVariants.{Page, Payload, Buffer}
-use Rattle.payload.specs.Entries.{payload_stream, sound, entries, last, applied}
+use Rattle.payload.specs.Entries.{payload_stream, sound, applied}
 use Rattle.writer.specs.Differences.{diffs, coded, written}
 use Rattle.payload.specs.Steps.{farthest, reach}
 use Rattle.payload.specs.StepLaws.{SoundAs, UnsoundAt}

@@ -15,7 +15,7 @@ use Rattle.layout.specs.Sizes.{room}
 use Rattle.layout.specs.Numbers.{le}
 use Rattle.layout.specs.Refusals.{first_of}
 use Rattle.layout.specs.RefusalLaws.{decided_number}
-use Rattle.payload.specs.Entries.{start, sound, entries, last}
+use Rattle.payload.specs.Entries.{start, sound}
 use Rattle.writer.specs.Differences.{Change, diffs, spelled, coded, written, last_place}
 use Rattle.writer.specs.Writer.{diffs_rising}
 use Rattle.writer.specs.LastPlace.{LastDiffers, last_none, last_differs}

@@ -7,7 +7,7 @@ use Rattle.span.specs.Bytes.{zeros}
 use Rattle.layout.specs.Sizes.{page_size}
 use Rattle.payload.specs.Entries.{stream, in_page, start, payload_stream, whole, sound, put, applied}
 use Rattle.payload.specs.Listing.{Listed, listed}
-use Rattle.payload.specs.Spelling.{Spelt, bytes, joined, Coded, Spelled, Bytes, landed}
+use Rattle.payload.specs.Spelling.{Spelt, joined, Coded, Spelled, Bytes, landed}
 use Rattle.payload.specs.Soundness.{sound_spelled, spelled_lists}
 use Rattle.writer.specs.Differences.{Change, diffs, spelled, coded, written}
 use Rattle.writer.specs.Steps.{before}

@@ -1,5 +1,5 @@
 -- What Compare and Apply owe over a base that is there.
-use Rattle.std.specs.Prelude.{ℕ, ◌≡◌, Bool, true, false, cond, List, eqb, length, take, length as length_of, pos}
+use Rattle.std.specs.Prelude.{ℕ, ◌≡◌, Bool, true, false, cond, List, eqb, length, take, length as length_of}
 use Rattle.span.specs.Bytes.{splice}
 use Rattle.writer.specs.Differences.{diffs, written}
 use Rattle.payload.specs.Entries.{start, payload_stream, sound, breaks_at, entries as entries_of, last as last_of, applied}

@@ -1,5 +1,5 @@
 -- What the pieces of the writer owe their callers.
-use Rattle.std.specs.Prelude.{ℕ, ◌+◌, ◌-◌, ◌*◌, ◌≤◌, ◌≡◌, List, ◌++◌, length, drop, take, length as length_of}
+use Rattle.std.specs.Prelude.{ℕ, ◌+◌, ◌-◌, ◌*◌, ◌≤◌, ◌≡◌, List, ◌++◌, drop, take, length as length_of}
 use Rattle.span.specs.Bytes.{part, splice}
 use Rattle.writer.specs.Differences.{Change, diffs, spelled, coded, written, last_place}
 use Rattle.payload.specs.Entries.{start, short_entry}

@@ -1,6 +1,5 @@
 use Rattle.blockmap.specs.Pack.{byte_of}
 use native.Mathlib.Omega.{arith}
-use borrow.Author.Rules.{rules}
 use Rattle.blockmap.proofs.byte_of.Goals as goal
 
 pub returns : goal.returns

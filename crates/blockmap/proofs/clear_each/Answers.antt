@@ -1,11 +1,10 @@
-use Prim.Native.Nat.{ℕ, ◌+◌, ◌-◌, ◌≤◌}
+use Prim.Native.Nat.{ℕ, ◌+◌, ◌-◌}
 use native.Mathlib.Omega.{arith}
 use mathlib.Core.Path.{◌≡◌, refl, sym, ap, ◌∙◌}
 use mathlib.Core.List.{List}
 use lib.ListN.{length}
 use Rattle.blockmap.specs.Pack.{set_pair, clear_pairs}
 use Rattle.blockmap.specs.ClearLaws.{clear_length, clear_next, clear_none}
-use borrow.Author.Rules.{rules}
 use Rattle.blockmap.proofs.clear_each.Goals as goal
 
 pub loop-block-init : goal.loop-block-init

@@ -1,11 +1,7 @@
-use Prim.Native.Nat.{ℕ, ◌+◌, ◌-◌, ◌≤◌}
-use native.Mathlib.Omega.{arith}
-use mathlib.Core.Path.{◌≡◌, refl, sym, ap, ◌∙◌}
-use mathlib.Core.List.{List}
+use Prim.Native.Nat.{◌-◌, ◌≤◌}
+use mathlib.Core.Path.{◌≡◌}
 use lib.ListN.{length}
-use Rattle.blockmap.specs.Pack.{set_pair, clear_pairs}
-use Rattle.blockmap.specs.ClearLaws.{clear_length, clear_next, clear_none}
-use borrow.Author.Rules.{rules}
+use Rattle.blockmap.specs.Pack.{clear_pairs}
 use Rattle.blockmap.proofs.clear_each.Given as goal
 
 abbrev pub invariant-loop-block : goal.invariant-loop-block

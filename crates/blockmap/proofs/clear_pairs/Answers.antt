@@ -6,7 +6,6 @@ use borrow.Author.Tests.{le-leb, lt-leb}
 use Rattle.span.specs.Laws.{put_filled}
 use Rattle.blockmap.specs.Pairs.{map_bytes}
 use Rattle.blockmap.specs.ClearLaws.{clear_length, cleared_by_bytes}
-use borrow.Author.Rules.{rules}
 use Rattle.blockmap.proofs.clear_pairs.Goals as goal
 use Rattle.blockmap.proofs.clear_pairs.Goals.{After-slice_known-2-1, Else-map-map_bytes}
 

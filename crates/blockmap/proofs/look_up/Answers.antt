@@ -4,7 +4,6 @@ use Rattle.layout.specs.Sizes.{page_size}
 use mathlib.Core.Path.{sym, ap, ◌∙◌}
 use Prim.Native.Nat.{ℕ, ◌%◌}
 use native.Mathlib.Omega.{arith}
-use borrow.Author.Rules.{rules}
 use Rattle.blockmap.proofs.look_up.Goals as goal
 
 pub returns-then-n-gt-BLOCKS : goal.returns-then-n-gt-BLOCKS

@@ -1,6 +1,5 @@
 use Rattle.blockmap.specs.Pairs.{map_bytes}
 use native.Mathlib.Omega.{arith}
-use borrow.Author.Rules.{rules}
 use Rattle.blockmap.proofs.map_bytes.Goals as goal
 
 pub returns-then-n-eq0 : goal.returns-then-n-eq0

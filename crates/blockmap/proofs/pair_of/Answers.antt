@@ -2,7 +2,6 @@ use Rattle.blockmap.specs.Pack.{pair_of}
 use Rattle.layout.specs.declared.Kind.{Kind}
 use Rattle.layout.specs.Numbers.{kind_number}
 use mathlib.Core.Path.{sym, ap}
-use borrow.Author.Rules.{rules}
 use Rattle.blockmap.proofs.pair_of.Goals as goal
 
 pub returns-in-Empty : goal.returns-in-Empty

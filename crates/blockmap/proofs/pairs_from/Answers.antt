@@ -2,7 +2,6 @@ use Rattle.blockmap.specs.PairLaws.{four_power}
 use mathlib.Core.Path.{ap}
 use Prim.Native.Nat.{ℕ, ◌/◌, ◌%◌}
 use native.Mathlib.Omega.{arith}
-use borrow.Author.Rules.{rules}
 use Rattle.blockmap.proofs.pairs_from.Goals as goal
 
 pub returns : goal.returns

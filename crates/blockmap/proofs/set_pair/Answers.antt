@@ -3,7 +3,6 @@ use Rattle.blockmap.specs.SetLaws.{set_short}
 use Prim.Native.Nat.{ℕ, ◌/◌}
 use mathlib.Core.Path.{sym, ap}
 use lib.ListN.{set}
-use borrow.Author.Rules.{rules}
 use Rattle.blockmap.proofs.set_pair.Goals as goal
 
 pub returns-then-map-at : goal.returns-then-map-at

@@ -6,7 +6,6 @@ use mathlib.Core.Bool.{not}
 use native.Mathlib.Nat.{zero-div}
 use Prim.Native.Nat.{ℕ, ◌/◌, ◌%◌, ◌^◌}
 use native.Mathlib.Omega.{arith}
-use borrow.Author.Rules.{rules}
 use Rattle.blockmap.proofs.unused_met.Goals as goal
 
 pub returns-then-n-eq0 : goal.returns-then-n-eq0

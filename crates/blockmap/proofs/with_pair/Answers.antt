@@ -3,7 +3,6 @@ use Rattle.blockmap.specs.SetLaws.{with_first, with_second, with_third, with_fou
 use Prim.Native.Nat.{ℕ, ◌%◌}
 use native.Mathlib.Omega.{arith}
 use mathlib.Core.Path.{◌≡◌, sym, ap, ◌∙◌}
-use borrow.Author.Rules.{rules}
 use Rattle.blockmap.proofs.with_pair.Goals as goal
 
 pub returns-then-place-eq0 : goal.returns-then-place-eq0

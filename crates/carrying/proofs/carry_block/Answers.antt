@@ -5,7 +5,6 @@ use Rattle.layout.specs.Refusals.{first_of}
 use Rattle.carrying.specs.CarryLaws.{kind_known}
 use Rattle.carrying.specs.Parts.{decision_rows}
 use Rattle.carrying.proofs.Decisions.{decision_refused, used_within, used_fits, decision_stored}
-use borrow.Author.Rules.{rules}
 use Rattle.carrying.proofs.carry_block.Goals as goal
 use Rattle.carrying.proofs.carry_block.Goals.{In-Nothing}
 

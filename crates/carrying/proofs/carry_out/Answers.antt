@@ -1,6 +1,5 @@
 use Rattle.layout.specs.Sizes.{page_size}
 use Rattle.carrying.proofs.CarryTold.{told_alone}
-use borrow.Author.Rules.{rules}
 use Rattle.carrying.proofs.carry_out.Goals as goal
 
 pub returns : goal.returns

@@ -1,7 +1,6 @@
 use native.Mathlib.Omega.{arith}
 use Rattle.layout.specs.Sizes.{page_size}
 use Rattle.carrying.proofs.CarryTold.{told_refused, told_block, told_lent, told_within}
-use borrow.Author.Rules.{rules}
 use Rattle.carrying.proofs.carry_with.Goals as goal
 
 pub returns-then-n-block : goal.returns-then-n-block

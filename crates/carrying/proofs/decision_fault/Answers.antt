@@ -7,7 +7,6 @@ use borrow.Author.Tests.{lt-leb, ne_eqb}
 use Rattle.layout.specs.Sizes.{full_kind}
 use Rattle.layout.specs.Lengths.{pages_in}
 use Rattle.carrying.proofs.Decisions.{place_there, kind_above, no_place, wrong_payload, nothing_wrong}
-use borrow.Author.Rules.{rules}
 use Rattle.carrying.proofs.decision_fault.Goals as goal
 use Rattle.carrying.proofs.decision_fault.Goals.{Joined-else-kind-2, else-kind-2-via-then-kind-2+else-m-block, else-kind-2-via-else-kind-2}
 

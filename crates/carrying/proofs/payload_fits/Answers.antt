@@ -1,7 +1,6 @@
 use borrow.Author.Tests.{eq-eqb, ne_eqb}
 use Rattle.layout.specs.Sizes.{patch_kind}
 use Rattle.carrying.proofs.Decisions.{checked_unsound, checked_sound}
-use borrow.Author.Rules.{rules}
 use Rattle.carrying.proofs.payload_fits.Goals as goal
 
 pub returns-then-kind : goal.returns-then-kind

@@ -1,6 +1,5 @@
 use borrow.Author.Tests.{eq-eqb, ne_eqb}
 use Rattle.layout.specs.Sizes.{patch_kind}
-use borrow.Author.Rules.{rules}
 use Rattle.carrying.proofs.room_used.Goals as goal
 
 pub returns-then-kind : goal.returns-then-kind

@@ -7,7 +7,6 @@ use native.Mathlib.Omega.{arith}
 use Rattle.entry_reader.proofs.Positions.{below, past, inside}
 use Rattle.payload.proofs.Signed.{not_below, read_fits}
 use Rattle.payload.specs.Steps.{reach}
-use borrow.Author.Rules.{rules}
 use Rattle.entry_reader.proofs.stands.Goals as goal
 
 -- what the code reads back of the place after the position

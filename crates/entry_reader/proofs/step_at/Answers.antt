@@ -4,7 +4,6 @@ use Rattle.payload.specs.Steps.{reach}
 use Rattle.payload.specs.declared.Step.TheVariants.{End, Broken}
 use Rattle.entry_reader.specs.TurnLaws.{room_empty, room_long, room_some}
 use Rattle.entry_reader.proofs.Answers.{unfit, ended, outside, stepped, entered}
-use borrow.Author.Rules.{rules}
 use Rattle.entry_reader.proofs.step_at.Goals as goal
 
 pub returns-then-payload-eq0 : goal.returns-then-payload-eq0

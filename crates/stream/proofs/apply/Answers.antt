@@ -5,9 +5,7 @@ use mathlib.Core.Path.{◌≡◌, sym, ◌∙◌}
 use native.Mathlib.Omega.{arith}
 use Rattle.layout.specs.Sizes.{page_size}
 use Rattle.stream.specs.Laws.{page_length, base_length, base_none, base_some}
-use Rattle.span.specs.Told.{on, off}
 use Rattle.stream.proofs.Answers.{apply_refused_is, apply_over}
-use borrow.Author.Rules.{rules}
 use Rattle.stream.proofs.apply.Goals as goal
 
 pub returns-then-not-pages_fit : goal.returns-then-not-pages_fit

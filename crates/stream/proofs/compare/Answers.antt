@@ -6,9 +6,7 @@ use Rattle.layout.specs.Sizes.{page_size}
 use Rattle.span.specs.Bytes.{zeros}
 use Rattle.stream.specs.Calls.{pages_fit}
 use Rattle.stream.specs.Laws.{page_length, base_none, base_some}
-use Rattle.span.specs.Told.{on, off}
 use Rattle.stream.proofs.Answers.{compare_refused_page, compare_refused_buffer, compare_with}
-use borrow.Author.Rules.{rules}
 use Rattle.std.proofs.Common.{sym, ◌∙◌}
 use Rattle.stream.proofs.compare.Goals as goal
 

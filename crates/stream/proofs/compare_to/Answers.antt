@@ -13,7 +13,6 @@ use Rattle.stream.specs.declared.Compared.{Compared}
 use Rattle.stream.specs.Steps.{Compares}
 use Rattle.stream.proofs.Answers.{compares_kept, compares_patch}
 use Rattle.stream.specs.Laws.{patch_fits_at}
-use borrow.Author.Rules.{rules}
 use Rattle.stream.proofs.compare_to.Goals as goal
 
 pub slice_bounds-copy-end : goal.slice_bounds-copy-end

@@ -1,9 +1,6 @@
-use Prim.Native.Nat.{◌-◌, ◌≤◌}
 use native.Mathlib.Omega.{arith}
 use mathlib.Core.Path.{◌∙◌}
-use borrow.Author.Rules.{rules}
 use Rattle.differ.specs.Differ.{stride}
-use Rattle.writer.specs.Steps.{Reached, Stored}
 use Rattle.writer.proofs.Writing.{stored_none, stored_full}
 use Rattle.writer.proofs.Spelling.{reached_none, Chunk, chunk_reached, spelled_all}
 use Rattle.writer.proofs.encode.Goals as goal

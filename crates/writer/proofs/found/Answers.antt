@@ -4,7 +4,6 @@ use mir.Syntax.{w32}
 use lib.IntN.{pos, ◌-ℤ◌}
 use mathlib.Core.Path.{refl, ◌∙◌}
 use Rattle.payload.specs.Positions.{before_read, before_fits}
-use borrow.Author.Rules.{rules}
 use Rattle.writer.proofs.found.Goals as goal
 
 pub overflow_sub-result : goal.overflow_sub-result

@@ -6,7 +6,6 @@ use native.Mathlib.Omega.{arith}
 use Rattle.writer.specs.Steps.{Differs}
 use Rattle.span.specs.Laws.{part_short}
 use Rattle.span.specs.Bytes.{part}
-use borrow.Author.Rules.{rules}
 use Rattle.writer.proofs.stream_of.Goals as goal
 
 pub encode-requires : goal.encode-requires

@@ -6,7 +6,6 @@ use Rattle.layout.specs.Lengths.{blocks_in}
 use Rattle.layout.specs.Sizes.{page_size}
 use Rattle.blockmap.specs.Pairs.{map_bytes}
 use Rattle.carrying.proofs.CarryTold.{mapped_refused, mapped_done}
-use borrow.Author.Rules.{rules}
 use Rattle.carrying.proofs.mapped.carry_out_mapped.Goals as goal
 use Rattle.carrying.proofs.mapped.carry_out_mapped.Goals.{After-carry_with}
 

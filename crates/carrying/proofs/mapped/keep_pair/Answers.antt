@@ -3,7 +3,6 @@ use native.Mathlib.Omega.{arith}
 use mathlib.Core.Path.{ap, ◌∙◌}
 use borrow.Author.Tests.{lt-ltb, le-ltb}
 use Rattle.blockmap.specs.Pack.{set_pair}
-use borrow.Author.Rules.{rules}
 use Rattle.carrying.proofs.mapped.keep_pair.Goals as goal
 
 pub returns-then-stores-gt1 : goal.returns-then-stores-gt1

@@ -1,6 +1,5 @@
 use Rattle.layout.specs.Numbers.{kind_number}
 use Rattle.carrying.proofs.Making.{place_made, slot_made}
-use borrow.Author.Rules.{rules}
 use Rattle.carrying.proofs.stores.one_store.Goals as goal
 
 pub returns-then-of_place : goal.returns-then-of_place

@@ -3,7 +3,6 @@ use lib.Dec.{eqb}
 use Rattle.layout.specs.Sizes.{full_kind}
 use Rattle.layout.specs.Numbers.{kind_number}
 use Rattle.layout.specs.declared.Kind.{Kind}
-use borrow.Author.Rules.{rules}
 use Rattle.carrying.proofs.stores.place_first.Goals as goal
 
 pub returns-in-Full : goal.returns-in-Full

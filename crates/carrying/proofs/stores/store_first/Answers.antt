@@ -4,7 +4,6 @@ use lib.ListN.{length}
 use Rattle.layout.specs.Numbers.{kind_number}
 use Rattle.layout.specs.Lengths.{pages_in}
 use Rattle.carrying.proofs.Making.{places_kept, none_told, one_told, both_told}
-use borrow.Author.Rules.{rules}
 use Rattle.carrying.proofs.stores.store_first.Goals as goal
 
 pub returns-then-stores-eq0 : goal.returns-then-stores-eq0

@@ -6,7 +6,6 @@ use lib.ListN.{length}
 use mathlib.Core.Path.{◌≡◌, sym, ap, ◌∙◌}
 use native.Mathlib.Omega.{arith}
 use Prim.Native.Nat.{ℕ, ◌+◌, ◌≤◌, ◌<◌}
-use borrow.Author.Rules.{rules}
 use Rattle.carrying.proofs.stores.store_place.Goals as goal
 
 other-kind : {k j : ℕ} → k ≡ j → (j ≡ 2 → ⊥) → k ≡ 2 → ⊥

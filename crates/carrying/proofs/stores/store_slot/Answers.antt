@@ -1,6 +1,5 @@
 use Rattle.carrying.specs.PutLaws.{slot_stored}
 use Rattle.layout.specs.Numbers.{kind_number}
-use borrow.Author.Rules.{rules}
 use Rattle.carrying.proofs.stores.store_slot.Goals as goal
 
 pub returns : goal.returns

@@ -1,6 +1,4 @@
 use Rattle.differ.specs.Differ.{next_diff}
-use mathlib.Core.Path.{◌≡◌}
-use Prim.Native.Nat.{◌-◌, ◌≤◌}
 use native.Mathlib.Omega.{arith}
 use borrow.Author.Rules.{rules}
 use Rattle.cases.proofs.delta.delta.Goals as goal

@@ -1,8 +1,6 @@
 use Rattle.differ.specs.Differ.{next_diff}
 use mathlib.Core.Path.{◌≡◌}
 use Prim.Native.Nat.{◌-◌, ◌≤◌}
-use native.Mathlib.Omega.{arith}
-use borrow.Author.Rules.{rules}
 use Rattle.cases.proofs.delta.delta.Given as goal
 
 abbrev pub invariant-loop-at : goal.invariant-loop-at

@@ -1,5 +1,4 @@
 use Prim.Native.Nat.{◌-◌, ◌≤◌, ◌<◌}
-use borrow.Author.Rules.{rules}
 use Rattle.cases.proofs.delta.run_end.Given as goal
 
 abbrev pub invariant-loop-last : goal.invariant-loop-last

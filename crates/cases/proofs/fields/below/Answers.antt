@@ -8,7 +8,6 @@ use mir.ValLaws.{to_z-of_z}
 use Rattle.span.specs.Tests.{tests}
 use Rattle.cases.specs.Position.{below}
 use Rattle.cases.proofs.Signs.{under, under_fits, below_is}
-use borrow.Author.Rules.{rules}
 use Rattle.cases.proofs.fields.below.Goals as goal
 
 pub returns-then-size-eq0 : goal.returns-then-size-eq0

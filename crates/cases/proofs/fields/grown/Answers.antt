@@ -1,7 +1,6 @@
 use Rattle.span.specs.Tests.{tests}
 use Rattle.cases.specs.Decimal.{grow, grow_digit}
 use native.Mathlib.Omega.{arith}
-use borrow.Author.Rules.{rules}
 use Rattle.cases.proofs.fields.grown.Goals as goal
 
 pub returns-then-digit-lt48 : goal.returns-then-digit-lt48

@@ -5,7 +5,6 @@ use mir.ValLaws.{to_z_pos}
 use Rattle.span.specs.Tests.{tests}
 use Rattle.cases.specs.Position.{above}
 use Rattle.cases.proofs.Signs.{above_is}
-use borrow.Author.Rules.{rules}
 use Rattle.cases.proofs.fields.held.Goals as goal
 
 pub returns-then-size-ge-HELD : goal.returns-then-size-ge-HELD

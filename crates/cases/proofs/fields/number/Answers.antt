@@ -1,7 +1,5 @@
-use Rattle.cases.specs.Decimal.{decimal, decimal_turn, decimal_end}
-use lib.ListN.{length, drop}
-use mathlib.Core.Path.{◌≡◌, sym, ◌∙◌}
-use Prim.Native.Nat.{◌-◌, ◌≤◌}
+use Rattle.cases.specs.Decimal.{decimal_turn, decimal_end}
+use mathlib.Core.Path.{sym, ◌∙◌}
 use native.Mathlib.Omega.{arith}
 use borrow.Author.Rules.{rules}
 use Rattle.cases.proofs.fields.number.Goals as goal

@@ -1,9 +1,7 @@
-use Rattle.cases.specs.Decimal.{decimal, decimal_turn, decimal_end}
+use Rattle.cases.specs.Decimal.{decimal}
 use lib.ListN.{length, drop}
-use mathlib.Core.Path.{◌≡◌, sym, ◌∙◌}
+use mathlib.Core.Path.{◌≡◌}
 use Prim.Native.Nat.{◌-◌, ◌≤◌}
-use native.Mathlib.Omega.{arith}
-use borrow.Author.Rules.{rules}
 use Rattle.cases.proofs.fields.number.Given as goal
 
 abbrev pub invariant-loop-at : goal.invariant-loop-at

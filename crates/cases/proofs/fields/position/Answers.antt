@@ -2,7 +2,6 @@ use mathlib.Core.Path.{◌∙◌}
 use mir.Syntax.{w32}
 use mir.ValLaws.{to_z-of_z}
 use Rattle.cases.proofs.Signs.{said_below, said_above}
-use borrow.Author.Rules.{rules}
 use Rattle.cases.proofs.fields.position.Goals as goal
 
 pub returns-then-first-eq45 : goal.returns-then-first-eq45

@@ -1,6 +1,5 @@
 use lib.ListN.{length}
 use Prim.Native.Nat.{◌-◌, ◌≤◌}
-use borrow.Author.Rules.{rules}
 use Rattle.cases.proofs.fields.up_to.Given as goal
 
 abbrev pub invariant-loop-end : goal.invariant-loop-end

@@ -3,7 +3,6 @@ use native.Mathlib.Omega.{arith}
 use mathlib.Core.Path.{subst}
 use Rattle.io.specs.Digits.{IsDigitCount}
 use Rattle.cases.proofs.Signs.{flipped_fits, flipped_cast, flipped_far, left_cast, left_far}
-use borrow.Author.Rules.{rules}
 use Rattle.cases.proofs.say.position.Goals as goal
 
 pub overflow_sub-at : goal.overflow_sub-at

@@ -1,7 +1,6 @@
 use Prim.Native.Nat.{ℕ}
 use mathlib.Core.Path.{subst}
 use Rattle.io.specs.Digits.{IsDigitCount}
-use borrow.Author.Rules.{rules}
 use Rattle.cases.proofs.say.refused.Goals as goal
 
 pub returns : goal.returns

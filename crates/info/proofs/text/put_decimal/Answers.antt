@@ -1,5 +1,4 @@
 use Rattle.info.proofs.Words.{number_put}
-use borrow.Author.Rules.{rules}
 use Rattle.info.proofs.text.put_decimal.Goals as goal
 
 pub returns : goal.returns

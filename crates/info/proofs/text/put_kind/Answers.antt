@@ -3,7 +3,6 @@ use Rattle.span.specs.Bytes.{Put}
 use Rattle.info.proofs.Words.{kind_put}
 use Rattle.info.specs.Text.{kind_line}
 use native.Mathlib.Omega.{arith}
-use borrow.Author.Rules.{rules}
 use Rattle.info.proofs.text.put_kind.Goals as goal
 
 pub returns-in-Empty : goal.returns-in-Empty

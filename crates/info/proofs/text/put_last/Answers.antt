@@ -5,7 +5,6 @@ use mir.Val.{to_z, of_z}
 use mir.Syntax.{w32}
 use lib.IntN.{ℤ}
 use native.Mathlib.Omega.{arith}
-use borrow.Author.Rules.{rules}
 use Rattle.info.proofs.text.put_last.Goals as goal
 
 pub returns-then-last-lt0 : goal.returns-then-last-lt0

@@ -3,7 +3,6 @@ use Rattle.info.specs.Text.{decimal, number_line}
 use Rattle.info.proofs.Words.{put_then}
 use mathlib.Core.List.{◌++◌}
 use native.Mathlib.Omega.{arith}
-use borrow.Author.Rules.{rules}
 use Rattle.info.proofs.text.put_line.Goals as goal
 
 pub returns : goal.returns

@@ -1,9 +1,6 @@
 use Rattle.info.proofs.Words.{word_turn, word_whole}
-use Prim.Native.Nat.{◌-◌, ◌≤◌}
 use native.Mathlib.Omega.{arith}
-use mathlib.Core.Path.{◌≡◌, ◌∙◌}
-use lib.ListN.{length, take}
-use lib.Seq.{sets}
+use mathlib.Core.Path.{◌∙◌}
 use borrow.Author.Rules.{rules}
 use Rattle.info.proofs.text.put_word.Goals as goal
 

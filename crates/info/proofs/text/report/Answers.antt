@@ -3,7 +3,6 @@ use Rattle.info.specs.Info.{InfoNumbers}
 use Rattle.span.specs.Bytes.{Put}
 use mathlib.Core.Path.{subst}
 use native.Mathlib.Omega.{arith}
-use borrow.Author.Rules.{rules}
 use Rattle.info.proofs.text.report.Goals as goal
 
 pub returns : goal.returns

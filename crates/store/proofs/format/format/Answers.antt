@@ -1,11 +1,9 @@
-use Rattle.span.specs.Told.{on, off}
 use Rattle.store.specs.Format.{format_outcome}
 use Rattle.store.specs.FormatLaws.{format_refused, format_done, format_patch, format_full}
 use Rattle.headers.specs.Fresh.{fresh_patch, fresh_full}
 use Rattle.layout.specs.Sizes.{page_size}
 use lib.ListN.{length}
 use mathlib.Core.Path.{◌≡◌, ◌∙◌}
-use borrow.Author.Rules.{rules}
 use Rattle.std.proofs.Common.{sym}
 use Rattle.store.proofs.format.format.Goals as goal
 

@@ -1,8 +1,5 @@
-use Rattle.span.specs.Told.{on, off}
 use Rattle.store.specs.FrameLaws.{frame_is, frame_by}
 use Rattle.layout.specs.Refusals.{or_else}
-use mathlib.Core.Path.{refl}
-use borrow.Author.Rules.{rules}
 use Rattle.std.proofs.Common.{sym, ◌∙◌}
 use Rattle.store.proofs.frame.frame_fault.Goals as goal
 

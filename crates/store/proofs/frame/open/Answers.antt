@@ -5,7 +5,6 @@ use Rattle.layout.specs.NumberLaws.{refusal_some}
 use mathlib.Core.Path.{◌≡◌, sym, ap, ◌∙◌}
 use native.Mathlib.Omega.{arith}
 use Prim.Native.Nat.{ℕ}
-use borrow.Author.Rules.{rules}
 use Rattle.store.proofs.frame.open.Goals as goal
 use Rattle.store.proofs.frame.open.Goals.{In-Nothing}
 

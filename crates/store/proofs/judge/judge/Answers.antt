@@ -3,7 +3,6 @@ use Rattle.slots.specs.Slots.{state_numbers}
 use mathlib.Core.List.{List}
 use mathlib.Core.Path.{sym, ap, ◌∙◌}
 use Prim.Native.Nat.{ℕ}
-use borrow.Author.Rules.{rules}
 use Rattle.store.proofs.judge.judge.Goals as goal
 
 pub returns-then-slot-ne-SLOT : goal.returns-then-slot-ne-SLOT

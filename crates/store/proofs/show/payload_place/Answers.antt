@@ -16,7 +16,6 @@ use mathlib.Core.Path.{◌≡◌, sym, ap, ◌∙◌}
 use native.Mathlib.Omega.{arith}
 use Prim.Native.Nat.{ℕ, ◌+◌, ◌<◌}
 use Rattle.store.specs.Open.{opened_numbers}
-use borrow.Author.Rules.{rules}
 use Rattle.store.proofs.show.payload_place.Goals as goal
 use Rattle.store.proofs.show.payload_place.Goals.{After-payload_length-n, In-Frame}
 

@@ -1,11 +1,10 @@
-use borrow.Author.Rules.{rules}
 use native.Mathlib.Omega.{arith}
-use Prim.Native.Nat.{ℕ, ◌+◌, ◌-◌, ◌≤◌}
-use lib.ListN.{length, take, drop}
-use mathlib.Core.Path.{◌≡◌, refl, sym, ap, ◌∙◌}
+use Prim.Native.Nat.{ℕ, ◌+◌, ◌-◌}
+use lib.ListN.{take, drop}
+use mathlib.Core.Path.{◌≡◌, refl, ap, ◌∙◌}
 use Rattle.layout.specs.Sizes.{page_size}
 use Rattle.span.specs.Bytes.{part}
-use Rattle.store.specs.Show.{show_place, Show}
+use Rattle.store.specs.Show.{show_place}
 use Rattle.store.specs.ShowLaws.{show_within}
 use Rattle.store.specs.declared.Place.{Place}
 use Rattle.store.proofs.show.show.Goals as goal

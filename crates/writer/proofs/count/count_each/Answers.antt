@@ -1,10 +1,7 @@
-use Prim.Native.Nat.{ℕ, ◌+◌, ◌-◌}
+use Prim.Native.Nat.{ℕ, ◌+◌}
 use native.Mathlib.Omega.{arith}
 use mathlib.Core.Path.{refl, ap}
 use mathlib.Core.Logic.{inl, inr}
-use lib.ListN.{length as length_of}
-use borrow.Author.Rules.{rules}
-use Rattle.writer.specs.Steps.{Reached}
 use Rattle.writer.specs.declared.Spelled.{Spelled}
 use Rattle.writer.proofs.Counting.{at_on}
 use Rattle.writer.proofs.Spelling.{reached_next, reached_end}

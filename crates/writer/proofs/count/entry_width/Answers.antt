@@ -1,7 +1,6 @@
 use mathlib.Core.Path.{sym}
 use native.Mathlib.Omega.{arith}
 use Rattle.writer.proofs.Counting.{width_short, width_long}
-use borrow.Author.Rules.{rules}
 use Rattle.writer.proofs.count.entry_width.Goals as goal
 
 pub returns-then-jump : goal.returns-then-jump

@@ -3,7 +3,6 @@ use native.Mathlib.Omega.{arith}
 use mathlib.Core.Path.{ap, ◌∙◌}
 use Rattle.writer.specs.Steps.{width_of}
 use Rattle.writer.proofs.Counting.{at_on, width_least}
-use borrow.Author.Rules.{rules}
 use Rattle.writer.proofs.count.excess.Goals as goal
 
 pub overflow_sub-next_diff : goal.overflow_sub-next_diff

@@ -4,7 +4,6 @@ use Rattle.differ.specs.Differ.{chunk}
 use Rattle.differ.specs.DifferLaws.{after_last_tells, chunk_after_is}
 use Rattle.writer.specs.Steps.{excess_of}
 use Rattle.writer.proofs.Chunks.{excess_none}
-use borrow.Author.Rules.{rules}
 use Rattle.writer.proofs.count.excess_after.Goals as goal
 
 pub returns-then-at-mark : goal.returns-then-at-mark

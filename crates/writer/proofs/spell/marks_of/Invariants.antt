@@ -1,9 +1,6 @@
-use Prim.Native.Nat.{ℕ, ◌-◌, ◌≤◌}
-use native.Mathlib.Omega.{arith}
-use mathlib.Core.Path.{◌≡◌, ap, ◌∙◌}
-use borrow.Author.Rules.{rules}
+use Prim.Native.Nat.{◌-◌, ◌≤◌}
+use mathlib.Core.Path.{◌≡◌}
 use Rattle.writer.specs.Words.{stride_words, marks}
-use Rattle.writer.proofs.Marks.{marks_zero, marks_next}
 use Rattle.writer.proofs.spell.marks_of.Given as goal
 
 abbrev pub invariant-loop-i : goal.invariant-loop-i

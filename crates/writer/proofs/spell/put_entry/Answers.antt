@@ -1,6 +1,5 @@
 use native.Mathlib.Omega.{arith}
 use Rattle.writer.proofs.Writing.{put_short, put_long}
-use borrow.Author.Rules.{rules}
 use Rattle.writer.proofs.spell.put_entry.Goals as goal
 
 pub returns-then-jump : goal.returns-then-jump

@@ -4,7 +4,6 @@ use Rattle.differ.specs.Differ.{next_diff}
 use Rattle.differ.specs.DifferLaws.{next_here}
 use Rattle.writer.specs.declared.Spelled.{Spelled}
 use Rattle.writer.proofs.Spelling.{spells_none, reached_alike, reached_one, spells_one}
-use borrow.Author.Rules.{rules}
 use Rattle.writer.proofs.spell.spell_byte.Goals as goal
 
 pub returns-then-base-at : goal.returns-then-base-at

@@ -1,11 +1,10 @@
-use Prim.Native.Nat.{◌+◌, ◌-◌, ◌≤◌}
+use Prim.Native.Nat.{◌+◌, ◌≤◌}
 use native.Mathlib.Omega.{arith}
 use lib.Count.{count_trailing_zeros}
 use Rattle.differ.specs.Differ.{stride}
-use Rattle.writer.specs.Steps.{Spells}
 use Rattle.writer.specs.WordLaws.{Bytes}
 use Rattle.writer.proofs.Spelling.{spells_none, spells_then}
-use Rattle.writer.proofs.Marks.{Passed, NextWord, passed_none, all_passed, next_word, fewer}
+use Rattle.writer.proofs.Marks.{NextWord, passed_none, all_passed, next_word, fewer}
 use Rattle.writer.proofs.spell.spell_chunk.Goals as goal
 use Rattle.writer.proofs.spell.spell_chunk.Goals.{In-loop-left}
 

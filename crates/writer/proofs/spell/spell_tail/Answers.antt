@@ -1,7 +1,7 @@
-use Prim.Native.Nat.{ℕ, ◌-◌, ◌≤◌}
+use Prim.Native.Nat.{ℕ}
 use native.Mathlib.Omega.{arith}
 use mathlib.Core.Path.{◌≡◌, subst}
-use Rattle.writer.specs.Steps.{Reached, Spells}
+use Rattle.writer.specs.Steps.{Reached}
 use Rattle.writer.proofs.Spelling.{spells_none, spells_then}
 use Rattle.writer.proofs.spell.spell_tail.Goals as goal
 

@@ -1,8 +1,5 @@
-use Prim.Native.Nat.{ℕ, ◌-◌, ◌≤◌}
-use native.Mathlib.Omega.{arith}
-use mathlib.Core.Path.{◌≡◌, subst}
+use Prim.Native.Nat.{◌-◌, ◌≤◌}
 use Rattle.writer.specs.Steps.{Reached, Spells}
-use Rattle.writer.proofs.Spelling.{spells_none, spells_then}
 use Rattle.writer.proofs.spell.spell_tail.Given as goal
 
 abbrev pub invariant-loop-at : goal.invariant-loop-at

@@ -1,13 +1,7 @@
-use Prim.Native.Nat.{ℕ, ◌+◌, ◌-◌, ◌/◌, ◌≤◌}
-use native.Mathlib.Omega.{arith}
-use mathlib.Core.Path.{◌≡◌, refl, ap, ◌∙◌}
-use lib.Bits.{bit_xor}
-use lib.Count.{count_trailing_zeros}
-use Rattle.writer.specs.declared.Spelled.{Spelled}
-use Rattle.writer.proofs.Spelling.{spells_none, reached_one, spells_one, word_done, NextIn, next_in_word}
+use Prim.Native.Nat.{◌+◌, ◌-◌, ◌≤◌}
+use mathlib.Core.Path.{◌≡◌}
 use Rattle.writer.specs.Steps.{Reached, Spells}
 use Rattle.writer.specs.Words.{word_bytes, unlike}
-use Rattle.writer.specs.WordLaws.{Bytes}
 use Rattle.writer.proofs.spell.spell_word.Given as goal
 
 abbrev pub invariant-loop-left : goal.invariant-loop-left

@@ -3,7 +3,6 @@ use native.Mathlib.Omega.{arith}
 use mathlib.Core.Path.{◌∙◌}
 use mathlib.Core.List.{List}
 use Rattle.writer.specs.WordLaws.{Bytes, one, or_joined}
-use borrow.Author.Rules.{rules}
 use Rattle.writer.proofs.words.two.Goals as goal
 
 pub returns : goal.returns

@@ -2,7 +2,6 @@ use Prim.Native.Nat.{ℕ, ◌+◌}
 use native.Mathlib.Omega.{arith}
 use mathlib.Core.List.{List}
 use Rattle.writer.specs.WordLaws.{Bytes, below, or_joined}
-use borrow.Author.Rules.{rules}
 use Rattle.writer.proofs.words.word.Goals as goal
 
 pub returns : goal.returns
