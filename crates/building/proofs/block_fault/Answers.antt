@@ -1,7 +1,6 @@
 use Rattle.building.proofs.BuildTold.{stray_number, told_unsound, told_full_none, told_full, told_empty, told_payload, told_patched}
 use native.Mathlib.Omega.{arith}
 use mathlib.Core.Path.{◌∙◌}
-use borrow.Author.Rules.{rules}
 use Rattle.building.proofs.block_fault.Goals as goal
 
 pub returns-then-m-block : goal.returns-then-m-block

@@ -18,7 +18,6 @@ use Prim.Native.Nat.{ℕ}
 use native.Mathlib.Omega.{arith}
 use mathlib.Core.Path.{◌≡◌, sym, ap, ◌∙◌}
 use mathlib.Core.List.{List}
-use borrow.Author.Rules.{rules}
 use Rattle.building.proofs.build.Goals as goal
 use Rattle.building.proofs.build.Goals.{In-Frame}
 

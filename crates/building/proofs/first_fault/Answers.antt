@@ -5,10 +5,9 @@ use Rattle.layout.specs.FirstFaultLaws.{fault_next, fault_here, fault_end}
 use Rattle.building.specs.Build.{block_fault}
 use Rattle.building.proofs.BuildTold.{found_numbers_is}
 use Rattle.building.specs.Steps.{FindingNumbers, finding_numbers, fault_numbers}
-use Prim.Native.Nat.{ℕ, ◌-◌, ◌≤◌}
+use Prim.Native.Nat.{ℕ, ◌-◌}
 use native.Mathlib.Omega.{arith}
 use mathlib.Core.Path.{◌≡◌, sym, ap, ◌∙◌}
-use borrow.Author.Rules.{rules}
 use Rattle.building.proofs.first_fault.Goals as goal
 
 pub loop-block-init : goal.loop-block-init

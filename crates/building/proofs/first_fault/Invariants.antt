@@ -1,14 +1,7 @@
-use Rattle.layout.specs.Numbers.{refusal_number}
-use Rattle.layout.specs.NumberLaws.{refusal_some}
-use Rattle.layout.specs.FirstFault.{BlockFault, first_fault}
-use Rattle.layout.specs.FirstFaultLaws.{fault_next, fault_here, fault_end}
+use Rattle.layout.specs.FirstFault.{first_fault}
 use Rattle.building.specs.Build.{block_fault}
-use Rattle.building.proofs.BuildTold.{found_numbers_is}
-use Rattle.building.specs.Steps.{FindingNumbers, finding_numbers, fault_numbers}
 use Prim.Native.Nat.{ℕ, ◌-◌, ◌≤◌}
-use native.Mathlib.Omega.{arith}
-use mathlib.Core.Path.{◌≡◌, sym, ap, ◌∙◌}
-use borrow.Author.Rules.{rules}
+use mathlib.Core.Path.{◌≡◌}
 use Rattle.building.proofs.first_fault.Given as goal
 
 abbrev pub invariant-loop-block : goal.invariant-loop-block

@@ -1,5 +1,4 @@
 use Rattle.blockmap.specs.Pack.{packed_byte}
-use borrow.Author.Rules.{rules}
 use Rattle.building.proofs.map_byte.Goals as goal
 
 pub returns : goal.returns

@@ -1,7 +1,6 @@
 use Rattle.building.proofs.BuildTold.{stray_number}
 use Rattle.layout.specs.Numbers.{fault_number}
 use mathlib.Core.Path.{sym, ap}
-use borrow.Author.Rules.{rules}
 use Rattle.building.proofs.no_offset.Goals as goal
 
 pub returns-in-Found : goal.returns-in-Found

@@ -6,7 +6,6 @@ use lib.ListN.{get_or}
 use Prim.Native.Nat.{ℕ, ◌+◌}
 use native.Mathlib.Omega.{arith}
 use mathlib.Core.Path.{◌≡◌, sym, ap, ◌∙◌}
-use borrow.Author.Rules.{rules}
 use Rattle.building.proofs.pair_at.Goals as goal
 
 pub returns-then-n-block : goal.returns-then-n-block

@@ -2,7 +2,6 @@ use Rattle.building.proofs.BuildTold.{place_told}
 use Rattle.building.specs.BuildLaws.{no_place, clean_place, stray_place}
 use native.Mathlib.Omega.{arith}
 use mathlib.Core.Path.{sym, ◌∙◌}
-use borrow.Author.Rules.{rules}
 use Rattle.building.proofs.place_fault.Goals as goal
 
 pub returns-then-m-block : goal.returns-then-m-block

@@ -4,8 +4,7 @@ use Rattle.blockmap.specs.Pack.{packed_first, packed}
 use Rattle.blockmap.specs.Pairs.{map_bytes}
 use Rattle.span.specs.Laws.{splice_none}
 use Rattle.span.specs.Bytes.{splice}
-use lib.ListN.{length}
-use Prim.Native.Nat.{ℕ, ◌-◌, ◌≤◌}
+use Prim.Native.Nat.{ℕ}
 use native.Mathlib.Omega.{arith}
 use mathlib.Core.Path.{◌≡◌, refl, sym, ap, ◌∙◌}
 use borrow.Author.Rules.{rules}

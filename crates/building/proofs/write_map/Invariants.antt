@@ -1,14 +1,9 @@
 use Rattle.building.specs.Steps.{kind_pair}
-use Rattle.building.specs.MapLaws.{map_turn}
-use Rattle.blockmap.specs.Pack.{packed_first, packed}
-use Rattle.blockmap.specs.Pairs.{map_bytes}
-use Rattle.span.specs.Laws.{splice_none}
+use Rattle.blockmap.specs.Pack.{packed_first}
 use Rattle.span.specs.Bytes.{splice}
 use lib.ListN.{length}
-use Prim.Native.Nat.{ℕ, ◌-◌, ◌≤◌}
-use native.Mathlib.Omega.{arith}
-use mathlib.Core.Path.{◌≡◌, refl, sym, ap, ◌∙◌}
-use borrow.Author.Rules.{rules}
+use Prim.Native.Nat.{◌-◌, ◌≤◌}
+use mathlib.Core.Path.{◌≡◌}
 use Rattle.building.proofs.write_map.Given as goal
 
 abbrev pub invariant-loop-at : goal.invariant-loop-at

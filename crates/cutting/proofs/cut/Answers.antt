@@ -2,7 +2,6 @@ use mathlib.Core.Path.{ap, ◌∙◌}
 use Rattle.layout.specs.Sizes.{page_size}
 use Rattle.cutting.specs.Cut.{CutOutcome}
 use Rattle.cutting.specs.CutLaws.{cut_alone}
-use borrow.Author.Rules.{rules}
 use Rattle.cutting.proofs.cut.Goals as goal
 
 pub returns : goal.returns

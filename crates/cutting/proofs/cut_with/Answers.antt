@@ -6,7 +6,6 @@ use Rattle.layout.specs.Sizes.{page_size}
 use Rattle.cutting.specs.Cut.{cut_done, cut_refused, cut_by}
 use Rattle.cutting.specs.Parts.{told_rows}
 use Rattle.cutting.proofs.CutTold.{told_refused, told_above, told_within}
-use borrow.Author.Rules.{rules}
 use Rattle.cutting.proofs.cut_with.Goals as goal
 
 pub returns-then-n-k : goal.returns-then-n-k

@@ -15,7 +15,6 @@ use mathlib.Core.List.{List}
 use mathlib.Core.Path.{◌≡◌, sym, ap, subst, ◌∙◌}
 use native.Mathlib.Omega.{arith}
 use Prim.Native.Nat.{ℕ}
-use borrow.Author.Rules.{rules}
 use Rattle.reading.proofs.read_block.Goals as goal
 
 pub returns-in-Unsound : goal.returns-in-Unsound

@@ -1,5 +1,4 @@
 use Rattle.reading.proofs.Pages.{apply_reads, apply_refuses}
-use borrow.Author.Rules.{rules}
 use Rattle.reading.proofs.read_patch.Goals as goal
 
 pub returns-in-Refused : goal.returns-in-Refused

@@ -10,7 +10,6 @@ use mathlib.Core.List.{List}
 use mathlib.Core.Path.{◌≡◌, ap, ◌∙◌}
 use native.Mathlib.Omega.{arith}
 use Prim.Native.Nat.{ℕ, ◌≤◌, ◌<◌}
-use borrow.Author.Rules.{rules}
 use Rattle.reading.proofs.read_place.Goals as goal
 
 pub returns-then-m-block : goal.returns-then-m-block

@@ -1,4 +1,4 @@
-use Prim.Native.Nat.{ℕ, ◌-◌, ◌≤◌}
+use Prim.Native.Nat.{ℕ, ◌-◌}
 use native.Mathlib.Omega.{arith}
 use mathlib.Core.Path.{◌≡◌, sym, ap, ◌∙◌}
 use Rattle.layout.specs.Numbers.{refusal_number, fault_number}
@@ -6,7 +6,6 @@ use Rattle.layout.specs.NumberLaws.{refusal_some}
 use Rattle.layout.specs.FirstFault.{BlockFault, first_fault}
 use Rattle.layout.specs.FirstFaultLaws.{fault_next, fault_here, fault_end}
 use Rattle.sweeping.specs.Parts.{slot_fault}
-use borrow.Author.Rules.{rules}
 use Rattle.sweeping.proofs.first_fault.Goals as goal
 
 pub loop-block-init : goal.loop-block-init

@@ -1,12 +1,7 @@
-use Prim.Native.Nat.{ℕ, ◌-◌, ◌≤◌}
-use native.Mathlib.Omega.{arith}
-use mathlib.Core.Path.{◌≡◌, sym, ap, ◌∙◌}
-use Rattle.layout.specs.Numbers.{refusal_number, fault_number}
-use Rattle.layout.specs.NumberLaws.{refusal_some}
-use Rattle.layout.specs.FirstFault.{BlockFault, first_fault}
-use Rattle.layout.specs.FirstFaultLaws.{fault_next, fault_here, fault_end}
+use Prim.Native.Nat.{◌-◌, ◌≤◌}
+use mathlib.Core.Path.{◌≡◌}
+use Rattle.layout.specs.FirstFault.{first_fault}
 use Rattle.sweeping.specs.Parts.{slot_fault}
-use borrow.Author.Rules.{rules}
 use Rattle.sweeping.proofs.first_fault.Given as goal
 
 -- nothing is wrong below `block`, so that the rest decides

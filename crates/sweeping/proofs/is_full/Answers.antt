@@ -2,7 +2,6 @@ use Prim.Native.Nat.{◌+◌}
 use native.Mathlib.Omega.{arith}
 use mathlib.Core.Path.{◌≡◌}
 use Rattle.layout.specs.Sizes.{slot_at}
-use borrow.Author.Rules.{rules}
 use Rattle.sweeping.proofs.is_full.Goals as goal
 
 pub returns : goal.returns

@@ -5,7 +5,6 @@ use Rattle.slots.specs.declared.SlotState.{SlotState}
 use Rattle.store.specs.Block.{slot_of}
 use Rattle.store.specs.BlockLaws.{slot_state}
 use Rattle.sweeping.specs.SweepLaws.{fault_unsound, fault_none, fault_full, fault_other}
-use borrow.Author.Rules.{rules}
 use Rattle.sweeping.proofs.slot_fault.Goals as goal
 use Rattle.sweeping.proofs.slot_fault.Goals.{After-slot_state}
 

@@ -1,7 +1,6 @@
 use native.Mathlib.Omega.{arith}
 use Rattle.layout.specs.Sizes.{page_size}
 use Rattle.sweeping.proofs.SweepTold.{told_refused, told_few, told_places, told_faulty, told_swept}
-use borrow.Author.Rules.{rules}
 use Rattle.sweeping.proofs.sweep.Goals as goal
 
 pub first_fault-requires : goal.first_fault-requires

@@ -1,6 +1,5 @@
 use mathlib.Core.Path.{sym, ◌∙◌}
 use Rattle.sweeping.proofs.SweepTold.{place_filled}
-use borrow.Author.Rules.{rules}
 use Rattle.sweeping.proofs.sweep_place.Goals as goal
 
 pub returns-then-is_full : goal.returns-then-is_full

@@ -1,7 +1,6 @@
-use Prim.Native.Nat.{ℕ, ◌-◌, ◌≤◌, ◌<◌}
+use Prim.Native.Nat.{ℕ, ◌<◌}
 use native.Mathlib.Omega.{arith}
 use mathlib.Core.Path.{◌≡◌, refl, sym, ap, ◌∙◌}
-use lib.ListN.{length}
 use Rattle.sweeping.specs.Sweep.{zeroed_but}
 use Rattle.sweeping.specs.Parts.{marked}
 use Rattle.sweeping.specs.ZeroedLaws.{zeroed_none}

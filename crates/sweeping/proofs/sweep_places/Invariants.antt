@@ -1,12 +1,8 @@
-use Prim.Native.Nat.{ℕ, ◌-◌, ◌≤◌, ◌<◌}
-use native.Mathlib.Omega.{arith}
-use mathlib.Core.Path.{◌≡◌, refl, sym, ap, ◌∙◌}
+use Prim.Native.Nat.{◌-◌, ◌≤◌}
+use mathlib.Core.Path.{◌≡◌}
 use lib.ListN.{length}
 use Rattle.sweeping.specs.Sweep.{zeroed_but}
 use Rattle.sweeping.specs.Parts.{marked}
-use Rattle.sweeping.specs.ZeroedLaws.{zeroed_none}
-use Rattle.sweeping.proofs.SweepTold.{place_swept}
-use borrow.Author.Rules.{rules}
 use Rattle.sweeping.proofs.sweep_places.Given as goal
 
 abbrev pub invariant-loop-block : goal.invariant-loop-block

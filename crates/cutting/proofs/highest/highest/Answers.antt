@@ -4,7 +4,6 @@ use Rattle.layout.specs.Sizes.{page_size, segment}
 use Rattle.cutting.specs.Highest.{highest_numbers}
 use Rattle.cutting.specs.Parts.{scan_numbers}
 use Rattle.cutting.proofs.HighestTold.{alone_refused, alone_frame}
-use borrow.Author.Rules.{rules}
 use Rattle.cutting.proofs.highest.highest.Goals as goal
 use Rattle.cutting.proofs.highest.highest.Goals.{In-Frame}
 

@@ -6,7 +6,6 @@ use Rattle.slots.specs.declared.SlotState.{SlotState}
 use Rattle.store.specs.Block.{slot_of}
 use Rattle.store.specs.BlockLaws.{slot_state}
 use Rattle.cutting.specs.HighestLaws.{slot_unsound, slot_empty, slot_used}
-use borrow.Author.Rules.{rules}
 use Rattle.cutting.proofs.highest.reaching.Goals as goal
 use Rattle.cutting.proofs.highest.reaching.Goals.{After-slot_state}
 

@@ -12,7 +12,6 @@ use Rattle.cutting.specs.Mapped.{cut_mapped_outcome}
 use Rattle.cutting.specs.Parts.{told_rows}
 use Rattle.cutting.specs.CutLaws.{cut_told, map_done, map_not}
 use Rattle.cutting.proofs.CutTold.{told_fits}
-use borrow.Author.Rules.{rules}
 use Rattle.cutting.proofs.mapped.cut_mapped.Goals as goal
 use Rattle.cutting.proofs.mapped.cut_mapped.Goals.{After-cut_with}
 

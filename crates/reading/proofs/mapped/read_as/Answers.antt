@@ -9,7 +9,6 @@ use lib.ListN.{length}
 use mathlib.Core.Path.{◌≡◌, sym, ap, subst, ◌∙◌}
 use native.Mathlib.Omega.{arith}
 use Prim.Native.Nat.{ℕ}
-use borrow.Author.Rules.{rules}
 use Rattle.reading.proofs.mapped.read_as.Goals as goal
 
 pub returns-in-Empty : goal.returns-in-Empty

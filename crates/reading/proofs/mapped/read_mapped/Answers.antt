@@ -13,7 +13,6 @@ use lib.ListN.{length}
 use mathlib.Core.Path.{◌≡◌, refl, sym, ◌∙◌}
 use native.Mathlib.Omega.{arith}
 use Prim.Native.Nat.{◌<◌}
-use borrow.Author.Rules.{rules}
 use Rattle.reading.proofs.mapped.read_mapped.Goals as goal
 use Rattle.reading.proofs.mapped.read_mapped.Goals.{In-Done, In-Frame}
 

@@ -11,7 +11,6 @@ use mathlib.Core.List.{List}
 use mathlib.Core.Path.{◌≡◌, sym, ap, ◌∙◌}
 use native.Mathlib.Omega.{arith}
 use Prim.Native.Nat.{ℕ}
-use borrow.Author.Rules.{rules}
 use Rattle.reading.proofs.mapped.read_slot.Goals as goal
 
 pub returns-then-length-eq0 : goal.returns-then-length-eq0

@@ -2,7 +2,6 @@ use Rattle.thonxiliko.specs.Widths.{build_offset_fits}
 use Rattle.thonxiliko.specs.AreaLaws.{build_held}
 use Rattle.building.specs.Build.{built_numbers}
 use mathlib.Core.Path.{sym, ap, ◌∙◌}
-use borrow.Author.Rules.{rules}
 use Rattle.thonxiliko.proofs.areas.thx_build.Goals as goal
 
 pub overflow_cast-result : goal.overflow_cast-result

@@ -2,7 +2,6 @@ use Rattle.thonxiliko.specs.Widths.{carry_fits}
 use Rattle.thonxiliko.specs.AreaLaws.{carry_held}
 use Rattle.carrying.specs.CarryOut.{written_numbers}
 use mathlib.Core.Path.{sym, ap, ◌∙◌}
-use borrow.Author.Rules.{rules}
 use Rattle.thonxiliko.proofs.areas.thx_carry_out.Goals as goal
 
 pub overflow_cast-result : goal.overflow_cast-result

@@ -1,7 +1,6 @@
 use Rattle.thonxiliko.specs.AreaLaws.{format_held}
 use Rattle.store.specs.Format.{formatted_number}
 use mathlib.Core.Path.{sym, ap, ◌∙◌}
-use borrow.Author.Rules.{rules}
 use Rattle.thonxiliko.proofs.areas.thx_format.Goals as goal
 
 pub returns-in-Done : goal.returns-in-Done

@@ -2,7 +2,6 @@ use Rattle.thonxiliko.specs.Widths.{judge_fits}
 use Rattle.thonxiliko.specs.AreaLaws.{judge_held}
 use Rattle.store.specs.Judge.{judged_numbers}
 use mathlib.Core.Path.{sym, ap, ◌∙◌}
-use borrow.Author.Rules.{rules}
 use Rattle.thonxiliko.proofs.areas.thx_judge.Goals as goal
 
 pub overflow_cast-result : goal.overflow_cast-result

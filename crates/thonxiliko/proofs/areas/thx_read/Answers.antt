@@ -2,7 +2,6 @@ use Rattle.thonxiliko.specs.Widths.{read_offset_fits}
 use Rattle.thonxiliko.specs.AreaLaws.{read_held}
 use Rattle.reading.specs.Read.{reading_numbers}
 use mathlib.Core.Path.{sym, ap, ◌∙◌}
-use borrow.Author.Rules.{rules}
 use Rattle.thonxiliko.proofs.areas.thx_read.Goals as goal
 
 pub overflow_cast-result : goal.overflow_cast-result

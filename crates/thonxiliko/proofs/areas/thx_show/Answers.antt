@@ -1,4 +1,3 @@
-use borrow.Author.Rules.{rules}
 use Rattle.thonxiliko.proofs.areas.thx_show.Goals as goal
 
 pub returns : goal.returns

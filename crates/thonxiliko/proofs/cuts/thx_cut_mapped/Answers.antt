@@ -1,7 +1,6 @@
 use Rattle.thonxiliko.specs.CutLaws.{cut_mapped_held}
 use Rattle.cutting.specs.Cut.{shortened_number}
 use mathlib.Core.Path.{sym, ap, ◌∙◌}
-use borrow.Author.Rules.{rules}
 use Rattle.thonxiliko.proofs.cuts.thx_cut_mapped.Goals as goal
 
 pub returns-in-Done : goal.returns-in-Done

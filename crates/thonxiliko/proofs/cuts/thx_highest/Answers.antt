@@ -1,7 +1,6 @@
 use Rattle.thonxiliko.specs.CutLaws.{highest_held}
 use Rattle.cutting.specs.Highest.{extent_numbers}
 use mathlib.Core.Path.{sym, ap, ◌∙◌}
-use borrow.Author.Rules.{rules}
 use Rattle.thonxiliko.proofs.cuts.thx_highest.Goals as goal
 
 pub returns-in-Done : goal.returns-in-Done

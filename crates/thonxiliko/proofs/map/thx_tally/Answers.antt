@@ -1,7 +1,6 @@
 use Rattle.thonxiliko.specs.MapLaws.{tally_held}
 use Rattle.blockmap.specs.Calls.{tallied_numbers}
 use mathlib.Core.Path.{sym, ap, ◌∙◌}
-use borrow.Author.Rules.{rules}
 use Rattle.thonxiliko.proofs.map.thx_tally.Goals as goal
 
 pub returns-in-Done : goal.returns-in-Done

@@ -2,7 +2,6 @@ use Rattle.thonxiliko.specs.Widths.{carry_mapped_fits}
 use Rattle.thonxiliko.specs.MappedLaws.{carry_mapped_held}
 use Rattle.carrying.specs.CarryOut.{written_numbers}
 use mathlib.Core.Path.{sym, ap, ◌∙◌}
-use borrow.Author.Rules.{rules}
 use Rattle.thonxiliko.proofs.mapped.thx_carry_out_mapped.Goals as goal
 
 pub overflow_cast-result : goal.overflow_cast-result

@@ -2,7 +2,6 @@ use Rattle.thonxiliko.specs.Widths.{read_mapped_offset_fits}
 use Rattle.thonxiliko.specs.MappedLaws.{read_mapped_held}
 use Rattle.reading.specs.Read.{reading_numbers}
 use mathlib.Core.Path.{sym, ap, ◌∙◌}
-use borrow.Author.Rules.{rules}
 use Rattle.thonxiliko.proofs.mapped.thx_read_mapped.Goals as goal
 
 pub overflow_cast-result : goal.overflow_cast-result

@@ -1,7 +1,7 @@
 use Rattle.thonxiliko.specs.Widths.{apply_fits, apply_offset_fits}
 use Rattle.thonxiliko.specs.PageLaws.{apply_held}
 use Rattle.stream.specs.Calls.{applied_numbers, apply_done, apply_refused}
-use lib.IntN.{ℤ, pos}
+use lib.IntN.{ℤ}
 use mir.ValLaws.{to_z-of_z}
 use mir.Syntax.{w32}
 use mir.Val.{SFits}

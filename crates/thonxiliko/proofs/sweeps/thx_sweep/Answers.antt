@@ -1,7 +1,6 @@
 use Rattle.thonxiliko.specs.SweepLaws.{sweep_held}
 use Rattle.sweeping.specs.Sweep.{swept_number}
 use mathlib.Core.Path.{sym, ap, ◌∙◌}
-use borrow.Author.Rules.{rules}
 use Rattle.thonxiliko.proofs.sweeps.thx_sweep.Goals as goal
 
 pub returns-in-Done : goal.returns-in-Done
