@@ -12,7 +12,7 @@ use Rattle.promises.specs.FrameLaws.{lengths_moved, headers_moved}
 use Rattle.promises.specs.CarryWords.{CarriedAs, Carried}
 use Rattle.promises.specs.CarryTables.{accepted}
 use Rattle.promises.specs.StoreLaws.{carries}
-use Rattle.promises.specs.RunStore.{cell_at, store}
+use Rattle.promises.specs.RunStore.{cell_at}
 use Rattle.promises.specs.RunStoreLaws.{frame_is, good_frame, store_laws}
 
 pub carried_length : (P : ℕ) (patch full : List ℕ) (b : ℕ) (d : Decision) → (carry_outcome P patch full b d).number ≡ 0

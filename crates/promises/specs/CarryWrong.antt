@@ -34,7 +34,7 @@ use Rattle.promises.specs.DemandTwo.{carry_gives, kind_stored, length_stored, ca
 use Rattle.promises.specs.DemandThree.{highest_done}
 use Rattle.promises.specs.CutLaws.{highest_is}
 use Rattle.promises.specs.Sample.{sample, sample_fresh, two_blocks, two_places, takes, areas_fit, page, one, many}
-use Rattle.promises.specs.Sample.{one_fits, many_fits, two, two_fits, to, puts, reads}
+use Rattle.promises.specs.Sample.{one_fits, many_fits, two, two_fits, to, puts}
 
 -- "carries out a decision (kind 0, 1 or 2, payload, page) on a block, answering the kind and the payload's length, 0 unless PATCH. It looks at
 -- the payload only for PATCH, taking any sound one, and at the page only for FULL_REF. ... Refusals: 1 for a FULL_REF page, 6 for a kind above

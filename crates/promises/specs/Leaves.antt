@@ -2,7 +2,7 @@
 -- result alone on one side there is nothing to show; these are the others.
 use Rattle.std.specs.Prelude.{ℕ, ◌≡◌, refl, List}
 use Rattle.std.proofs.Common.{arith, sym, ap, ◌∙◌}
-use Rattle.layout.specs.Numbers.{kind_number, refusal_number, fault_number}
+use Rattle.layout.specs.Numbers.{kind_number, fault_number}
 use Rattle.layout.specs.NumberLaws.{kind_one, refusal_one, refusal_some}
 use Rattle.layout.specs.declared.Kind.{Kind}
 use Rattle.layout.specs.declared.Fault.{Fault}

@@ -1,6 +1,6 @@
 -- Wrong programs about a lent map, each shut out by the request's own words and a proved input: the two blocks of `Sample` and a map of one
 -- byte. `MapBuilt` is demand 3's sentence on the map for the runs of given programs, `GoesByMap` the request's words on reads.
-use Rattle.std.specs.Prelude.{ℕ, zero, suc, ◌/◌, ◌%◌, ◌≤◌, ◌<◌, ◌≡◌, refl, Bool, not, ◌&&◌, cond, eqb, length, get_or, set}
+use Rattle.std.specs.Prelude.{ℕ, zero, suc, ◌/◌, ◌%◌, ◌<◌, ◌≡◌, refl, Bool, not, ◌&&◌, cond, eqb, length, get_or, set}
 use Rattle.std.proofs.Common.{arith, sym, ◌∙◌, subst, lit≤, lit<}
 use Rattle.std.proofs.Math.Path.{ap}
 use mathlib.Core.List.{List, [], ◌∷◌}

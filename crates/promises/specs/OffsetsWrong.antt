@@ -1,7 +1,7 @@
 -- Wrong offsets, each broken by one input: that of the entry after the unsound one, one counted from the slot, and one beside 5. The
 -- store has one block, whose payload `00 07 FF 00 20 01 00 09` is an entry, one that leaves the page, and another entry: it breaks at 2.
-use Rattle.std.specs.Prelude.{ℕ, suc, ◌+◌, ◌≤◌, ◌≡◌, refl, false, List, [], ◌∷◌, ◌++◌, length}
-use Rattle.std.proofs.Common.{arith, sym, ap, ◌∙◌, inl, inr, lit≤, lit<, length-append}
+use Rattle.std.specs.Prelude.{ℕ, suc, ◌+◌, ◌≡◌, refl, false, List, [], ◌∷◌, ◌++◌, length}
+use Rattle.std.proofs.Common.{arith, sym, ap, ◌∙◌, inl, lit≤, lit<, length-append}
 use Rattle.span.specs.Laws.{part_whole, part_first, part_second}
 use Rattle.span.specs.Bytes.{zeros}
 use Rattle.span.specs.Laws.{zeros_length}

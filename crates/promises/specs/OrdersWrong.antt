@@ -1,6 +1,6 @@
 -- Wrong refusals, each broken by one input: lengths looked at before pages, a buffer before lengths, and a map that is long enough for its
 -- block but not for n.
-use Rattle.std.specs.Prelude.{ℕ, ◌≡◌, List, [], ◌∷◌}
+use Rattle.std.specs.Prelude.{[], ◌∷◌}
 use Rattle.std.proofs.Common.{arith, ap}
 use Rattle.span.specs.Bytes.{zeros}
 use Rattle.layout.specs.Sizes.{page_size}

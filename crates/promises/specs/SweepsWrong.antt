@@ -1,6 +1,6 @@
 -- Wrong programs for Sweep, each shut out by the request's own words and a proved input: the two blocks of `Sample`, with some bytes laid over
 -- them. `SweepsClean` are those words for a given program; the right one keeps them.
-use Rattle.std.specs.Prelude.{ℕ, ◌+◌, ◌-◌, ◌≤◌, ◌<◌, ◌≡◌, refl, Bool, true, false, not, ◌&&◌, cond, ◌↔◌, List, [], ◌∷◌, ◌++◌, eqb, length, get_or}
+use Rattle.std.specs.Prelude.{ℕ, ◌+◌, ◌≤◌, ◌<◌, ◌≡◌, refl, Bool, true, false, not, ◌&&◌, cond, ◌↔◌, List, [], ◌∷◌, ◌++◌, eqb, length, get_or}
 use Rattle.std.proofs.Common.{arith, sym, ap, ◌∙◌, inl, append-nil, lit≤, lit<, eq-eqb}
 use Rattle.std.proofs.Math.Decide.{dec_lt}
 use Rattle.span.specs.Bytes.{zeros, splice, same}

@@ -1,6 +1,5 @@
 use lib.ListN.{get_or-eq_default}
 use mathlib.Core.Path.{sym}
-use borrow.Author.Rules.{rules}
 use Rattle.replay.proofs.cut_at.Goals as goal
 
 pub returns-then-cuts-i : goal.returns-then-cuts-i

@@ -1,5 +1,4 @@
 use Rattle.replay.proofs.Turns.{cut_done_is, cut_refused_is}
-use borrow.Author.Rules.{rules}
 use Rattle.replay.proofs.cut_turn.Goals as goal
 
 pub returns-in-Done : goal.returns-in-Done

@@ -1,5 +1,4 @@
 use Rattle.replay.proofs.Turns.{cut_mapped_done, cut_mapped_refused}
-use borrow.Author.Rules.{rules}
 use Rattle.replay.proofs.cut_turn_mapped.Goals as goal
 
 pub returns-in-Done : goal.returns-in-Done

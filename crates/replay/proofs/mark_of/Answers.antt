@@ -1,7 +1,6 @@
 use Rattle.layout.specs.NumberLaws.{refusal_some}
 use Rattle.layout.specs.Numbers.{refusal_number}
 use borrow.Author.Tests.{ne_eqb}
-use borrow.Author.Rules.{rules}
 use Rattle.replay.proofs.mark_of.Goals as goal
 
 pub returns-in-Done : goal.returns-in-Done

@@ -3,7 +3,6 @@ use Rattle.span.specs.Laws.{part_past}
 use Prim.Native.Nat.{◌*◌}
 use native.Mathlib.Omega.{arith}
 use mathlib.Core.Path.{sym}
-use borrow.Author.Rules.{rules}
 use Rattle.replay.proofs.nth_page.Goals as goal
 
 pub returns-then-pages-i : goal.returns-then-pages-i

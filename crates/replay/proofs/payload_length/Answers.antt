@@ -1,4 +1,3 @@
-use borrow.Author.Rules.{rules}
 use Rattle.replay.proofs.payload_length.Goals as goal
 
 pub returns-in-Empty : goal.returns-in-Empty

@@ -1,11 +1,6 @@
 use native.Mathlib.Omega.{arith}
-use Rattle.replay.specs.Laws.{Going, begin, go_on, countable, ended}
-use Rattle.replay.specs.Operations.{both}
-use Rattle.promises.specs.RunWords.{outcome, cutting, takes_by, does_by}
-use Rattle.layout.specs.Sizes.{page_size}
-use lib.ListN.{length}
-use mathlib.Core.Path.{◌≡◌, refl}
-use Prim.Native.Nat.{◌-◌}
+use Rattle.replay.specs.Laws.{begin, go_on, countable, ended}
+use mathlib.Core.Path.{refl}
 use borrow.Author.Rules.{rules}
 use Rattle.replay.proofs.replay.Goals as goal
 

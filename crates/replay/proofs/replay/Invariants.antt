@@ -1,12 +1,10 @@
-use native.Mathlib.Omega.{arith}
-use Rattle.replay.specs.Laws.{Going, begin, go_on, countable, ended}
+use Rattle.replay.specs.Laws.{Going}
 use Rattle.replay.specs.Operations.{both}
 use Rattle.promises.specs.RunWords.{outcome, cutting, takes_by, does_by}
 use Rattle.layout.specs.Sizes.{page_size}
 use lib.ListN.{length}
-use mathlib.Core.Path.{◌≡◌, refl}
+use mathlib.Core.Path.{◌≡◌}
 use Prim.Native.Nat.{◌-◌}
-use borrow.Author.Rules.{rules}
 use Rattle.replay.proofs.replay.Given as goal
 
 abbrev pub invariant-loop-i : goal.invariant-loop-i

@@ -1,13 +1,11 @@
-use native.Mathlib.Omega.{arith}
-use Rattle.replay.specs.Laws.{Going, begin, go_on, countable, ended}
+use Rattle.replay.specs.Laws.{Going}
 use Rattle.replay.specs.Operations.{both}
 use Rattle.promises.specs.MapWords.{mapped, cut_mapped, takes_with_by, does_with_by}
 use Rattle.promises.specs.MapStore.{with}
 use Rattle.layout.specs.Sizes.{page_size}
 use lib.ListN.{length}
-use mathlib.Core.Path.{◌≡◌, refl}
+use mathlib.Core.Path.{◌≡◌}
 use Prim.Native.Nat.{◌-◌}
-use borrow.Author.Rules.{rules}
 use Rattle.replay.proofs.replay_mapped.Given as goal
 
 abbrev pub invariant-loop-i : goal.invariant-loop-i

@@ -1,5 +1,4 @@
 use Rattle.replay.proofs.Turns.{made_write, made_cut}
-use borrow.Author.Rules.{rules}
 use Rattle.replay.proofs.turn_mapped.Goals as goal
 
 pub returns-then-cut-eq0 : goal.returns-then-cut-eq0

@@ -2,7 +2,6 @@ use native.Mathlib.Nat.{sub-zero}
 use native.Mathlib.Omega.{arith}
 use Rattle.span.specs.Bytes.{zeros}
 use Rattle.replay.proofs.Turns.{write_refused, used_fits, decision_is, made_decided, carried_out_mapped}
-use borrow.Author.Rules.{rules}
 use Rattle.replay.proofs.write_turn_mapped.Goals as goal
 
 pub slice_bounds-payload-end : goal.slice_bounds-payload-end
