@@ -1,5 +1,5 @@
-// The entry reader: a payload and a place in it, moved one entry at a time. The borrow checker covers no function over a struct that
-// holds a slice, so the two functions over the reader are thin, and `step_at` does the work on a slice and numbers.
+// The entry reader: a payload and a place in it, moved one entry at a time. The two functions over the reader are thin, and `step_at`
+// does the work on a slice and numbers.
 #![tactic(auto)]
 
 ghost use Rattle.std.specs.Prelude.{◌≡◌};

@@ -120,7 +120,7 @@ impl Layout {
         Self::FULL_HEAD + (size as usize) * (block as usize)
     }
 
-    // An array cannot stand in a clause of `agrees`, so each magic is tied by a function of its own.
+    // The magics are arrays: each is tied by a function of its own.
     pub fn patch_magic() -> [u8; 8]
         ensures { result ≡ patch_magic }
     {
