@@ -105,9 +105,9 @@ fn carry_block(
     page: &[u8],
     stores: usize,
 ) -> Written
-    requires sized { Sized size × (kind ≡ full_kind → length page.now ≡ size) }
-    requires slot_size_in_bounds { slot_at block + slot_size ≤ length patch.old }
-    requires m_value { (m ≡ pages_in size (length full.old)) × Places size full.old }
+    requires sizes { Sized size × (kind ≡ full_kind → length page.now ≡ size) }
+    requires slot_within { slot_at block + slot_size ≤ length patch.old }
+    requires full_area { (m ≡ pages_in size (length full.old)) × Places size full.old }
     ensures { BlockCarry size patch.old full.old block
         (record { kind = kind; payload = payload.now; page = page.now }) stores result patch.new full.new }
 {

@@ -22,8 +22,8 @@ fn store_slot(patch: &mut [u8], block: u32, kind: Kind, payload: &[u8])
 
 // The block's place in the full area of m pages, if there is one: the page for FULL_REF, zeros for any other kind.
 fn store_place(size: u32, m: u32, full: &mut [u8], block: u32, kind: Kind, page: &[u8])
-    requires m_value { (m ≡ pages_in size (length full.old)) × Places size full.old }
-    requires page_len { kind_number kind ≡ full_kind → length page.now ≡ size }
+    requires full_area { (m ≡ pages_in size (length full.old)) × Places size full.old }
+    requires page_length { kind_number kind ≡ full_kind → length page.now ≡ size }
     ensures { full.new ≡ put_place size full.old block (kind_number kind) page.now }
 {
     if m <= block {
@@ -50,9 +50,9 @@ fn one_store(
     payload: &[u8],
     page: &[u8],
 )
-    requires slot_size_in_bounds { (slot_at block + slot_size ≤ length patch.old) × (length payload.now ≤ room) }
-    requires m_value { (m ≡ pages_in size (length full.old)) × Places size full.old }
-    requires page_len { kind_number kind ≡ full_kind → length page.now ≡ size }
+    requires slot_within { (slot_at block + slot_size ≤ length patch.old) × (length payload.now ≤ room) }
+    requires full_area { (m ≡ pages_in size (length full.old)) × Places size full.old }
+    requires page_length { kind_number kind ≡ full_kind → length page.now ≡ size }
     ensures { Made size block (record { kind = kind_number kind; payload = payload.now; page = page.now })
         (cond of_place place slot ∷ []) patch.old full.old patch.new full.new }
 {
@@ -86,9 +86,9 @@ pub(crate) fn store_first(
     payload: &[u8],
     page: &[u8],
 )
-    requires slot_size_in_bounds { (slot_at block + slot_size ≤ length patch.old) × (length payload.now ≤ room) }
-    requires m_value { (m ≡ pages_in size (length full.old)) × Places size full.old }
-    requires page_len { kind_number kind ≡ full_kind → length page.now ≡ size }
+    requires slot_within { (slot_at block + slot_size ≤ length patch.old) × (length payload.now ≤ room) }
+    requires full_area { (m ≡ pages_in size (length full.old)) × Places size full.old }
+    requires page_length { kind_number kind ≡ full_kind → length page.now ≡ size }
     ensures { Made size block (record { kind = kind_number kind; payload = payload.now; page = page.now })
         (take stores (order (kind_number kind))) patch.old full.old patch.new full.new }
 {

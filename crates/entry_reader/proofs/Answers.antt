@@ -17,12 +17,12 @@ use Rattle.entry_reader.specs.declared.Found.TheVariants.{Entry, End, Stopped}
 use Rattle.entry_reader.specs.declared.Turn.{Turn}
 use Rattle.payload.proofs.Turns.{place_back}
 
-module _ (n : ℕ) (payload : List ℕ) (at : ℕ) (p : ℤ) (p-fits : SFits w32 p) (t : Turn) where
+module _ (n : ℕ) (payload : List ℕ) (at : ℕ) (p : ℤ) (p_fits : SFits w32 p) (t : Turn) where
   abbrev z : ℤ
   z = to_z w32 (of_z w32 p)
 
   carried : t ≡ turn_at n payload at z → Turned n payload at p t
-  carried e = record { turn = e ∙ ap (λ (x : ℤ). turn_at n payload at x) (to_z-of_z w32 p p-fits) }
+  carried e = record { turn = e ∙ ap (λ (x : ℤ). turn_at n payload at x) (to_z-of_z w32 p p_fits) }
 
   pub unfit : roomy payload ≡ false → t ≡ stays (Stopped at) at z → Turned n payload at p t
   unfit r e = carried (e ∙ sym (turn_unfit n payload at z r))

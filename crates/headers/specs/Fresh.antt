@@ -6,7 +6,7 @@ use Rattle.headers.specs.Headers.{patch_header, full_header}
 
 -- freshly formatted areas of these lengths: headers, then zeros
 unfoldable pub fresh_patch : ℕ → ℕ → List ℕ
-fresh_patch P patchLength = patch_header P ++ zeros (patchLength - patch_head)
+fresh_patch P patch_length = patch_header P ++ zeros (patch_length - patch_head)
 
 unfoldable pub fresh_full : ℕ → ℕ → List ℕ
-fresh_full P fullLength = cond (eqb fullLength 0) [] (full_header P ++ zeros (fullLength - full_head))
+fresh_full P full_length = cond (eqb full_length 0) [] (full_header P ++ zeros (full_length - full_head))

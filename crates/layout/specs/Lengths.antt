@@ -5,18 +5,18 @@ use Rattle.layout.specs.Refusals.{Row, ◌⇐◌}
 
 -- n and m of areas of these lengths. An absent full area has m = 0.
 unfoldable pub blocks_in : ℕ → ℕ
-blocks_in patchLength = (patchLength - patch_head) / slot_size
+blocks_in patch_length = (patch_length - patch_head) / slot_size
 
 unfoldable pub pages_in : ℕ → ℕ → ℕ
-pages_in P fullLength = (fullLength - full_head) / P
+pages_in P full_length = (full_length - full_head) / P
 
 -- 512 + 512·n bytes, n from 0 to 131,072 at a page size of 8,192
 unfoldable pub patch_fits : ℕ → ℕ → Bool
-patch_fits P patchLength = eqb patchLength (slot_at (blocks_in patchLength)) && leb (blocks_in patchLength) (blocks_at_most P)
+patch_fits P patch_length = eqb patch_length (slot_at (blocks_in patch_length)) && leb (blocks_in patch_length) (blocks_at_most P)
 
 -- 0 bytes, or 4,096 + 8,192·m, m from 0 to n
 unfoldable pub full_fits : ℕ → ℕ → ℕ → Bool
-full_fits P n fullLength = eqb fullLength 0 || (eqb fullLength (page_at P (pages_in P fullLength)) && leb (pages_in P fullLength) n)
+full_fits P n full_length = eqb full_length 0 || (eqb full_length (page_at P (pages_in P full_length)) && leb (pages_in P full_length) n)
 
 unfoldable pub length_rows : ℕ → ℕ → ℕ → List Row
-length_rows P patchLength fullLength = (2 ⇐ not (patch_fits P patchLength && full_fits P (blocks_in patchLength) fullLength)) ∷ []
+length_rows P patch_length full_length = (2 ⇐ not (patch_fits P patch_length && full_fits P (blocks_in patch_length) full_length)) ∷ []

@@ -68,9 +68,9 @@ module _ (s : Areas) (fresh : FreshAreas page_size s) (os : List Operation) wher
       → length s.patch ≡ length t.patch → length s.full ≡ length t.full
       → (ls : List Lent) → JustLasts page_size s os ls
       → (accepted page_size t (map write ls) ≡ map write ls) × (after page_size t (map write ls) ≡ after page_size s os)
-  fresh_lasts_leave_the_same t t-fresh p f ls l =
+  fresh_lasts_leave_the_same t t_fresh p f ls l =
       subst (λ (x : Areas). (accepted page_size x (map write ls) ≡ map write ls) × (after page_size x (map write ls) ≡ after page_size s os))
-      (fresh_one page_size s t fresh t-fresh p f) (lasts_leave_the_same ls l)
+      (fresh_one page_size s t fresh t_fresh p f) (lasts_leave_the_same ls l)
 
   -- and there is such a list, no two of its writes to one block
   pub lasts_exist : (ls : List Lent) × JustLasts page_size s os ls × NoRepeats (λ (w : Lent). w.block) ls
@@ -111,8 +111,8 @@ module _ (s : Areas) (fresh : FreshAreas page_size s) (os : List Operation) wher
 
 -- (b) Two runs from fresh areas of the same lengths, where their bases agree at the end
 
-module _ (s t : Areas) (s-fresh : FreshAreas page_size s) (t-fresh : FreshAreas page_size t)
-    (patch-lengths : length s.patch ≡ length t.patch) (full-lengths : length s.full ≡ length t.full)
+module _ (s t : Areas) (s_fresh : FreshAreas page_size s) (t_fresh : FreshAreas page_size t)
+    (patch_lengths : length s.patch ≡ length t.patch) (full_lengths : length s.full ≡ length t.full)
     (os os' : List Operation) where
   -- equal bytes give equal outcomes of Read at every block
   pub same_bytes_read_same : after page_size s os ≡ after page_size t os'
@@ -132,7 +132,7 @@ module _ (s t : Areas) (s-fresh : FreshAreas page_size s) (t-fresh : FreshAreas 
       ↔ ((b : ℕ) → b < blocks s.patch → (read_at page_size (after page_size s os) b (bases b) (into b)).page
       ≡ (read_at page_size (after page_size t os') b (bases' b) (into b)).page)
   same_bytes_iff bases bases' into fits fits' agree =
-      runs_agreeing page_size (lit≤ tt) s t s-fresh t-fresh patch-lengths full-lengths bases bases' into fits fits' agree os os'
+      runs_agreeing page_size (lit≤ tt) s t s_fresh t_fresh patch_lengths full_lengths bases bases' into fits fits' agree os os'
 
   -- and block by block: where the base pages of one block agree at the end, whatever those of the others are, its slot and its place are
   -- the same exactly when it reads the same
@@ -143,7 +143,7 @@ module _ (s t : Areas) (s-fresh : FreshAreas page_size s) (t-fresh : FreshAreas 
       × (place_of page_size (after page_size s os).full b ≡ place_of page_size (after page_size t os').full b))
       ↔ ((read_at page_size (after page_size s os) b base into).page ≡ (read_at page_size (after page_size t os') b base' into).page)
   same_block_iff b n base base' into f g agree =
-      two_blocks page_size (lit≤ tt) s t s-fresh t-fresh patch-lengths full-lengths b n base base' into f g agree os os'
+      two_blocks page_size (lit≤ tt) s t s_fresh t_fresh patch_lengths full_lengths b n base base' into f g agree os os'
 
 -- which is so of every run in which "only the blocks it covers may have another base after it": at its end, over the bases that it ends with
 pub changed_bases_enough : (s : Areas) (os : List Operation) (start end : ℕ → List ℕ) → FollowsBases page_size start s os end
@@ -240,13 +240,13 @@ module _ (x : Mapped) (fresh : FreshWith page_size x) (os : List Operation) wher
       → SameRoom x.areas x.map y.map
       → (ls : List Lent) → JustLastsWith page_size x os ls
       → (accepted_with page_size y (map write ls) ≡ map write ls) × Alike (after_with page_size x os) (after_with page_size y (map write ls))
-  fresh_lasts_leave_the_same_map y y-fresh p f rooms ls l = lasts_alike page_size (lit≤ tt) x y fresh y-fresh p f rooms os ls l
+  fresh_lasts_leave_the_same_map y y_fresh p f rooms ls l = lasts_alike page_size (lit≤ tt) x y fresh y_fresh p f rooms os ls l
 
 -- (b) two runs with maps, whose bases agree at the end, leave the same bytes in both areas, and in their maps those that count, exactly when
 -- each block below n reads as the same page over its base
-module _ (x y : Mapped) (x-fresh : FreshWith page_size x) (y-fresh : FreshWith page_size y)
-    (patch-lengths : length x.areas.patch ≡ length y.areas.patch)
-    (full-lengths : length x.areas.full ≡ length y.areas.full) (rooms : SameRoom x.areas x.map y.map)
+module _ (x y : Mapped) (x_fresh : FreshWith page_size x) (y_fresh : FreshWith page_size y)
+    (patch_lengths : length x.areas.patch ≡ length y.areas.patch)
+    (full_lengths : length x.areas.full ≡ length y.areas.full) (rooms : SameRoom x.areas x.map y.map)
     (os os' : List Operation) where
   pub same_bytes_with_maps_iff : (bases bases' into : ℕ → List ℕ)
       → ((b : ℕ) → b < blocks x.areas.patch → PagesFit page_size (bases b) (into b))
@@ -257,7 +257,7 @@ module _ (x y : Mapped) (x-fresh : FreshWith page_size x) (y-fresh : FreshWith p
       ↔ ((b : ℕ) → b < blocks x.areas.patch → (read_at page_size (after_with page_size x os).areas b (bases b) (into b)).page
       ≡ (read_at page_size (after_with page_size y os').areas b (bases' b) (into b)).page)
   same_bytes_with_maps_iff bases bases' into fits fits' agree over over' =
-      two_runs_with page_size (lit≤ tt) x y x-fresh y-fresh patch-lengths full-lengths rooms bases bases' into fits fits' agree os os' over over'
+      two_runs_with page_size (lit≤ tt) x y x_fresh y_fresh patch_lengths full_lengths rooms bases bases' into fits fits' agree os os' over over'
 
 -- which is so of every run in which "only the blocks it covers may have another base after it"
 pub changed_bases_enough_with_map : (x : Mapped) → FreshWith page_size x → (os : List Operation) (start end : ℕ → List ℕ)

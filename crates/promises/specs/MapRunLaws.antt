@@ -253,10 +253,10 @@ module _ (P : ℕ) (x : Mapped) (h : FreshWith P x) where
 -- (b) Two runs
 
 module _ (P : ℕ) (small : P ≤ 65536) (x y : Mapped) (h : FreshWith P x) (k : FreshWith P y)
-    (patch-lengths : length x.areas.patch ≡ length y.areas.patch)
-    (full-lengths : length x.areas.full ≡ length y.areas.full) (rooms : SameRoom x.areas x.map y.map) where
+    (patch_lengths : length x.areas.patch ≡ length y.areas.patch)
+    (full_lengths : length x.areas.full ≡ length y.areas.full) (rooms : SameRoom x.areas x.map y.map) where
   one : x.areas ≡ y.areas
-  one = fresh_one P x.areas y.areas h.fresh k.fresh patch-lengths full-lengths
+  one = fresh_one P x.areas y.areas h.fresh k.fresh patch_lengths full_lengths
 
   -- both maps are long enough, or neither
   sides : (Long x.areas x.map × Long y.areas y.map)
@@ -338,7 +338,7 @@ module _ (P : ℕ) (small : P ≤ 65536) (x y : Mapped) (h : FreshWith P x) (k :
           let o : OverBases P bases x.areas os = rw (accepted_is P x h l.0 os) at over in
           let o' : OverBases P bases' y.areas os' = rw (accepted_is P y k l.1 os') at over' in
           p
-          ∙ (runs_agreeing P small x.areas y.areas h.fresh k.fresh patch-lengths full-lengths bases bases' into fits fits' agree os
+          ∙ (runs_agreeing P small x.areas y.areas h.fresh k.fresh patch_lengths full_lengths bases bases' into fits fits' agree os
           os' o o').1
           (λ b n.
           ap (λ (t : Areas). (read_at P t b (bases b) (into b)).page) (sym p) ∙ r b n

@@ -102,10 +102,10 @@ module _ (P : ℕ) (s : Areas) (map : List ℕ) (w : Lent) where
         ∙ eqb-true (outcome P s w).number 0 e in
         let l : length (built_map s.patch) ≡ map_bytes (blocks s.patch) = built_length s.patch in
         let b : w.block < blocks s.patch = (accepted_write P s w e).below in
-        let own-byte : w.block / 4 < length (built_map s.patch) =
+        let own_byte : w.block / 4 < length (built_map s.patch) =
         reaches (blocks s.patch) w.block (length (built_map s.patch)) (omega arith) b in
         map_done P s.patch s.full (laid s map) w.block w.decision all n
-        ∙ set_laid map (built_map s.patch) w.block (pair_of w.decision.kind) own-byte
+        ∙ set_laid map (built_map s.patch) w.block (pair_of w.decision.kind) own_byte
         ∙ ap (λ (x : List ℕ). splice map 0 x) (built_next P s w e)
     map_next false e =
         let h : (outcome P s w).number ≡ 0 → ⊥ = eqb-false (outcome P s w).number 0 e in

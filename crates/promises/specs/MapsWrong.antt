@@ -105,10 +105,10 @@ pub wrote : (os : List Operation) (v b : ℕ) → b < 2 → mapped page_size (wi
     ≡ kept_by (outcome page_size (after page_size sample os) (to b one)) (v ∷ []) b
 wrote os v b h =
     let s : Areas = after page_size sample os in
-    let takes-it = takes os (to b one) h one_fit in
+    let takes_it = takes os (to b one) h one_fit in
     let same = mapped_as_carry page_size s.patch s.full (v ∷ []) b (decides [] one) (one_byte os (v ∷ []) refl) in
-    let set = map_done page_size s.patch s.full (v ∷ []) b (decides [] one) all (ap (λ (o : CarryOutcome). o.number) same ∙ takes-it)
-    ∙ ap (λ (k : ℕ). set_pair (v ∷ []) b (pair_of k)) (sym (carried_kind page_size s.patch s.full b (decides [] one) takes-it)) in
+    let set = map_done page_size s.patch s.full (v ∷ []) b (decides [] one) all (ap (λ (o : CarryOutcome). o.number) same ∙ takes_it)
+    ∙ ap (λ (k : ℕ). set_pair (v ∷ []) b (pair_of k)) (sym (carried_kind page_size s.patch s.full b (decides [] one) takes_it)) in
     λ i. record { areas = same i; map = set i }
 
 -- after one write of a program that leaves the right areas, its map is the right one
@@ -160,10 +160,10 @@ not_whole_byte claim =
     let more : List Operation = puts 0 one ∷ [] in
     let wrong_first : does_with_by whole_byte (cut_mapped page_size) start (puts 0 one) ≡ with (T one) (2 ∷ []) =
     rw (wrote [] 0 0 (lit< tt), takes [] (to 0 one) (lit< tt) one_fit, one_kind [] 0 (lit< tt)) refl in
-    let wrong-then : does_with_by whole_byte (cut_mapped page_size) (with (T one) (2 ∷ [])) (puts 1 one) ≡ with end (8 ∷ []) =
+    let wrong_then : does_with_by whole_byte (cut_mapped page_size) (with (T one) (2 ∷ [])) (puts 1 one) ≡ with end (8 ∷ []) =
     rw (wrote more 2 1 (lit< tt), takes more (to 1 one) (lit< tt) one_fit, one_kind more 1 (lit< tt)) refl in
     let wrong : after_with_by whole_byte (cut_mapped page_size) start os ≡ with end (8 ∷ []) =
-    ap (λ (x : Mapped). does_with_by whole_byte (cut_mapped page_size) x (puts 1 one)) wrong_first ∙ wrong-then in
+    ap (λ (x : Mapped). does_with_by whole_byte (cut_mapped page_size) x (puts 1 one)) wrong_first ∙ wrong_then in
     let first : does_with_by (mapped page_size) (cut_mapped page_size) start (puts 0 one) ≡ with (T one) (2 ∷ []) =
     rw (wrote [] 0 0 (lit< tt), one_kind [] 0 (lit< tt)) refl in
     let then : does_with_by (mapped page_size) (cut_mapped page_size) (with (T one) (2 ∷ [])) (puts 1 one) ≡ with end (10 ∷ []) =

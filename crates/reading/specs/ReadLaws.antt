@@ -115,7 +115,7 @@ pub patch_read : (P : ℕ) (patch full : List ℕ) (b : ℕ) (base page : List �
     → page_of P base ≡ base
     → PatchRead P base payload page answer page'
     → BlockRead P patch full b base page answer page'
-patch_read P patch full b base page n payload answer page' told same_payload same-base' r = go (sound P payload) refl
+patch_read P patch full b base page n payload answer page' told same_payload same_base' r = go (sound P payload) refl
   where
     go : (t : Bool) → sound P payload ≡ t → BlockRead P patch full b base page answer page'
     go true h =
@@ -124,7 +124,7 @@ patch_read P patch full b base page n payload answer page' told same_payload sam
         slot_patched P patch full b base page n told (ap (λ (l : List ℕ). sound P l) (sym same_payload) ∙ h) in
         record {
           numbers = rw e (r.numbers ∙ rw h);
-          bytes = rw e (r.bytes ∙ rw (h, same-base', same_payload));
+          bytes = rw e (r.bytes ∙ rw (h, same_base', same_payload));
         }
     go false h =
         let e : slot_outcome P patch full b base page ≡ read_refused 7 (breaks_at P (payload_of (slot_of patch b))) page =

@@ -41,8 +41,8 @@ fn read_patch(base: &[u8], payload: &[u8], page: &mut [u8]) -> Reading
 
 // A block's place in the full area of m pages; a block not below m has none.
 fn read_place(size: u32, m: u32, full: &[u8], block: u32, page: &mut [u8]) -> Reading
-    requires page_len { length page.old ≡ size }
-    requires m_value { (m ≡ pages_in size (length full.now)) × Places size full.now }
+    requires page_length { length page.old ≡ size }
+    requires full_area { (m ≡ pages_in size (length full.now)) × Places size full.now }
     ensures { PlaceRead size full.now block page.old result page.new }
 {
     if m <= block {
@@ -66,8 +66,8 @@ fn read_block(
     base: &[u8],
     page: &mut [u8],
 ) -> Reading
-    requires base_len { (length base.now ≡ size) × (length page.old ≡ size) × Sized size }
-    requires m_value { (m ≡ pages_in size (length full.now)) × Places size full.now }
+    requires page_lengths { (length base.now ≡ size) × (length page.old ≡ size) × Sized size }
+    requires full_area { (m ≡ pages_in size (length full.now)) × Places size full.now }
     ensures { BlockRead size patch.now full.now block base.now page.old result
         page.new }
 {

@@ -40,8 +40,8 @@ fn read_as(
     base: &[u8],
     page: &mut [u8],
 ) -> Reading
-    requires base_len { (length base.now ≡ size) × (length page.old ≡ size) × Sized size }
-    requires m_value { (m ≡ pages_in size (length full.now)) × Places size full.now }
+    requires page_lengths { (length base.now ≡ size) × (length page.old ≡ size) × Sized size }
+    requires full_area { (m ≡ pages_in size (length full.now)) × Places size full.now }
     ensures { KindRead (kind_number kind) size patch.now full.now block base.now
         page.old result page.new }
 {

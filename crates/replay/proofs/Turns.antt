@@ -74,8 +74,8 @@ module _ {P : ℕ} {base page buffer : List ℕ} {a : Compared} (q : Compare P b
         → payload ≡ take used buffer → ◌≡◌ {A = Decision} (record { kind = number; payload = payload; page = page }) (decision_of P base page)
     unfolding decision_of
     decision_is en eu ep =
-        let used-is = eu ∙ (λ j. cond (eqb (kind_is j) patch_kind) (length_is j) 0) in
-        λ i. record { kind = (en ∙ kind_is) i; payload = (ep ∙ (λ j. take (used-is j) (q.bytes j))) i; page = page }
+        let used_is = eu ∙ (λ j. cond (eqb (kind_is j) patch_kind) (length_is j) 0) in
+        λ i. record { kind = (en ∙ kind_is) i; payload = (ep ∙ (λ j. take (used_is j) (q.bytes j))) i; page = page }
 
     -- and it is the operation
     pub made_decided : {S : Type 0} {takes : S → Operation → Bool} {does : S → Operation → S} {s s' : S} {b m : ℕ}

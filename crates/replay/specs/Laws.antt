@@ -319,13 +319,13 @@ module _ (P : ℕ) (base : ℕ → List ℕ) (numbers cuts bases pages : List �
   over_base : (w : Lent) → Memᴰ (write w) (made (operations P numbers cuts bases pages)) → ComparedBy P (base w.block) w.decision
   over_base w m =
       let l = each_lent P numbers cuts bases pages w m in
-      let lentBase : List ℕ = part (P * l.place) P bases in
-      let c : Compared P (page_of P lentBase) w.decision = compared_by P lentBase w.decision l.compared in
-      let f : PagesFit P lentBase (part (P * l.place) P pages) = record {
-        base_length = base_fits P lentBase c.base_length;
+      let lent_base : List ℕ = part (P * l.place) P bases in
+      let c : Compared P (page_of P lent_base) w.decision = compared_by P lent_base w.decision l.compared in
+      let f : PagesFit P lent_base (part (P * l.place) P pages) = record {
+        base_length = base_fits P lent_base c.base_length;
         page_length = ap (λ (x : List ℕ). length x) (sym l.page) ∙ c.page_length;
       } in
-      other_base P lentBase (base w.block) w.decision
+      other_base P lent_base (base w.block) w.decision
       (one l.place l.within l.no_cut f ∙ ap (λ (k : ℕ). page_of P (base k)) (sym l.block)) l.compared
 
   pub keeps_bases : (s : Areas) → KeepsBases P base s (made (operations P numbers cuts bases pages))

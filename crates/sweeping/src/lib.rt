@@ -69,8 +69,8 @@ fn is_full(patch: &[u8], block: u32) -> bool
 
 // A block's place becomes zeros, unless its slot is FULL_REF.
 fn sweep_place(size: u32, patch: &[u8], full: &mut [u8], block: u32)
-    requires slot_size_in_bounds { slot_at block + slot_size ≤ length patch.now }
-    requires size_in_bounds { page_at size block + size ≤ length full.old }
+    requires slot_within { slot_at block + slot_size ≤ length patch.now }
+    requires place_within { page_at size block + size ≤ length full.old }
     ensures { full.new ≡ cond (marked patch.now block) full.old
         (splice full.old (page_at size block) (zeros size)) }
 {

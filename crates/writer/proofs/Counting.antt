@@ -166,12 +166,12 @@ passed_near base page (suc k) last from r q o n e w =
         → ((from + 1 ≡ r → last ≡ r) → Passed base page last (from + 1) (2 * later) later r)
         → Passed base page (from + 1) (from + 1) (2 * later) later r
         → Passed base page last from (2 * diffs_in base page from (suc k)) (diffs_in base page from (suc k)) r
-    go later first true t i same-last here =
+    go later first true t i same_last here =
         let alike : get_or base from 0 ≡ get_or page from 0 = eqb-true (get_or base from 0) (get_or page from 0) t in
         let none : differs_at base page from ≡ 0 = alike_at base page from alike in
         let s : rest base page from ≡ rest base page (from + 1) = rest_same base page from (omega arith) (omega arith) alike in
         let p : Passed base page last (from + 1) (2 * later) later r =
-        same-last
+        same_last
         (λ f.
         let j : r - 1 ≡ from = omega arith in
         absurd (i.2 (ap (λ (x : ℕ). get_or base x 0) j ∙ alike ∙ ap (λ (x : ℕ). get_or page x 0) (sym j)))) in
@@ -183,7 +183,7 @@ passed_near base page (suc k) last from r q o n e w =
           many = omega (arith, p.many);
           final = ap (λ (ds : List Change). last_place (before last) ds) s ∙ p.final;
         }
-    go later first false t i same-last here =
+    go later first false t i same_last here =
         let unlike : get_or base from 0 ≡ get_or page from 0 → ⊥ = eqb-false (get_or base from 0) (get_or page from 0) t in
         let one : differs_at base page from ≡ 1 = unlike_at base page from unlike in
         let two : width_of (from - last) ≡ 2 = width_short (from - last) 0 (omega arith) in

@@ -135,7 +135,7 @@ zeros_few (suc j) w x r h l =
           let f : count_trailing_zeros (suc (j + w)) n ≡ suc (count_trailing_zeros (j + w) (n / 2)) = zeros_even (j + w) n (omega arith) in
           let g : count_trailing_zeros (j + w) (n / 2) ≡ count_trailing_zeros (j + w) (x * 2 ^ j + r / 2) = ap (count_trailing_zeros (j + w)) half in
           omega (arith, zeros_few j w x (r / 2) (omega arith) (omega arith))
-      | no odd-digit ↦ omega (arith, zeros_odd (j + w) n (omega arith))
+      | no odd_digit ↦ omega (arith, zeros_odd (j + w) n (omega arith))
     ]
   where
     pow_two : (j : ℕ) → 2 ^ suc j ≡ 2 ^ j * 2

@@ -22,9 +22,9 @@ pub store_first-requires : goal.store_first-requires
 store_first-requires c = let a = c.args in
     let r = c.room_used-length in
     let k = kind_known a.size a.full.now a.block a.kind a.payload.now (none (goal.at.store_first-requires c).In-Nothing) in record {
-      slot_size_in_bounds = (c.requires.slot_size_in_bounds, used_fits a.size a.full.now a.block a.kind a.payload.now (none (goal.at.store_first-requires c).In-Nothing) r.result r.ensures);
-      m_value = c.requires.m_value;
-      page_len = λ q. c.requires.sized.1 (sym (c.kind_of-stored.ensures k) ∙ q);
+      slot_within = (c.requires.slot_within, used_fits a.size a.full.now a.block a.kind a.payload.now (none (goal.at.store_first-requires c).In-Nothing) r.result r.ensures);
+      full_area = c.requires.full_area;
+      page_length = λ q. c.requires.sizes.1 (sym (c.kind_of-stored.ensures k) ∙ q);
     }
 
 pub returns-in-Found : goal.returns-in-Found

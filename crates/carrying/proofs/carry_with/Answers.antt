@@ -21,9 +21,9 @@ carry_block-requires c = let a = c.args in
     c.in-Frame.size c.in-Frame.n c.in-Frame.m c.in-Frame.is (omega (arith, c.if-n-block.false))
     (omega arith, omega arith) in
     record {
-      sized = (l.sized, l.page_size_is);
-      slot_size_in_bounds = l.slot;
-      m_value = (l.counted, l.places_in);
+      sizes = (l.sized, l.page_size_is);
+      slot_within = l.slot;
+      full_area = (l.counted, l.places_in);
     }
 
 pub returns-in-Refused : goal.returns-in-Refused

@@ -41,8 +41,8 @@ pub read_block-requires : goal.read_block-requires
 read_block-requires c = let a = c.args in
     let o = opened (goal.at.read_block-requires c).In-Frame in
     let some : 0 < c.in-Frame.size = omega (arith, o.own) in record {
-      base_len = (sym o.own, o.page_size_is, (some, omega (arith, o.own)));
-      m_value = (o.places, places _ (blocks_in (length a.patch.now)) a.full.now some o.full_fit);
+      page_lengths = (sym o.own, o.page_size_is, (some, omega (arith, o.own)));
+      full_area = (o.places, places _ (blocks_in (length a.patch.now)) a.full.now some o.full_fit);
     }
 
 pub returns-then-base-eq0 : goal.returns-then-base-eq0
@@ -67,8 +67,8 @@ pub read_block-requires-in-Frame : goal.read_block-requires-in-Frame
 read_block-requires-in-Frame c = let a = c.args in
     let o = opened (goal.at.read_block-requires-in-Frame c).In-Frame in
     let some : 0 < c.in-Frame.size = omega (arith, o.own) in record {
-      base_len = (o.base_size c.if-base-eq0.false, o.page_size_is, (some, omega (arith, o.own)));
-      m_value = (o.places, places _ (blocks_in (length a.patch.now)) a.full.now some o.full_fit);
+      page_lengths = (o.base_size c.if-base-eq0.false, o.page_size_is, (some, omega (arith, o.own)));
+      full_area = (o.places, places _ (blocks_in (length a.patch.now)) a.full.now some o.full_fit);
     }
 
 pub returns-in-Refused : goal.returns-in-Refused

@@ -41,13 +41,13 @@ returns-in-Empty c = let a = c.args in
     ≡ read_done 0 (page_of a.size a.base.now) =
     slot_empty a.size a.patch.now a.full.now a.block a.base.now a.page.now (sym numbers
     ∙ ap state_numbers c.in-Empty.is) in
-    let lb : length a.base.now ≡ a.size = c.requires.base_len.0 in
+    let lb : length a.base.now ≡ a.size = c.requires.page_lengths.0 in
     record {
       numbers = rw e;
       bytes =
           rw e
-          (copied_page a.size a.page.now a.base.now c.copy.new.dst c.requires.base_len.1 lb c.copy.ensures
-          ∙ sym (base_some a.size a.base.now (λ q. omega (arith, lb, c.requires.base_len.2.0))));
+          (copied_page a.size a.page.now a.base.now c.copy.new.dst c.requires.page_lengths.1 lb c.copy.ensures
+          ∙ sym (base_some a.size a.base.now (λ q. omega (arith, lb, c.requires.page_lengths.2.0))));
     }
 
 pub returns-in-Patch : goal.returns-in-Patch
@@ -64,12 +64,12 @@ returns-in-Patch c = let a = c.args in
     let told : slot_numbers s ≡ sound_slot 1 n = sym numbers ∙ ap state_numbers c.in-Patch.is in
     let payload : c.part.result.now ≡ payload_of s = c.part.ensures.bytes
     ∙ ap (λ (l : List ℕ). part payload_at n l) same-slot ∙ ap (λ (k : ℕ). part payload_at k s) (sym (told_patch s n (sym told)).1) in
-    let lb : length a.base.now ≡ a.size = c.requires.base_len.0 in
+    let lb : length a.base.now ≡ a.size = c.requires.page_lengths.0 in
     patch_read a.size a.patch.now a.full.now a.block a.base.now a.page.now n c.part.result.now
     c.read_patch.result c.read_patch.new.page told payload
-    (base_some a.size a.base.now (λ q. omega (arith, lb, c.requires.base_len.2.0)))
+    (base_some a.size a.base.now (λ q. omega (arith, lb, c.requires.page_lengths.2.0)))
     (subst (λ (P : ℕ). PatchRead P a.base.now c.part.result.now a.page.now c.read_patch.result
-    c.read_patch.new.page) c.requires.base_len.1 c.read_patch.ensures)
+    c.read_patch.new.page) c.requires.page_lengths.1 c.read_patch.ensures)
 
 pub returns-in-Full : goal.returns-in-Full
 unfolding slot_of

@@ -14,7 +14,7 @@ use Rattle.reading.proofs.read_place.Goals as goal
 
 pub returns-then-m-block : goal.returns-then-m-block
 returns-then-m-block c = let a = c.args in
-    let none : pages_in a.size (length a.full.now) ≤ a.block = omega (arith, c.requires.m_value.0, c.if-m-block.true) in
+    let none : pages_in a.size (length a.full.now) ≤ a.block = omega (arith, c.requires.full_area.0, c.if-m-block.true) in
     let e = le-ltb a.block (pages_in a.size (length a.full.now)) none in
     record { numbers = rw e; bytes = rw e }
 
@@ -24,13 +24,13 @@ returns c = let a = c.args in
     let w = c.part in
     let v = c.copy in
     let t = c.if-m-block in
-    let below : a.block < pages_in a.size (length a.full.now) = omega (arith, c.requires.m_value.0, t.false) in
+    let below : a.block < pages_in a.size (length a.full.now) = omega (arith, c.requires.full_area.0, t.false) in
     let e = lt-ltb a.block (pages_in a.size (length a.full.now)) below in
     let p : w.result.now ≡ part (page_at a.size a.block) a.size a.full.now = w.ensures.bytes
     ∙ ap (λ (k : ℕ). part k a.size a.full.now) c.page_at-at.ensures in
     let l : length w.result.now ≡ a.size = ap (λ (x : List ℕ). length x) p
-    ∙ part_length (page_at a.size a.block) a.size a.full.now (c.requires.m_value.1 a.block below) in
+    ∙ part_length (page_at a.size a.block) a.size a.full.now (c.requires.full_area.1 a.block below) in
     record {
       numbers = rw e;
-      bytes = rw e (copied_page a.size a.page.now w.result.now v.new.dst c.requires.page_len l v.ensures ∙ p);
+      bytes = rw e (copied_page a.size a.page.now w.result.now v.new.dst c.requires.page_length l v.ensures ∙ p);
     }

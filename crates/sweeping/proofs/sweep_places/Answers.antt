@@ -16,8 +16,8 @@ pub sweep_place-requires : goal.sweep_place-requires
 sweep_place-requires c = let l = c.loop-block in
     let below : l.block < c.args.m = omega (arith, c.loop-block-test.true) in
     record {
-      slot_size_in_bounds = omega (arith, c.requires.0);
-      size_in_bounds = omega (arith, l.invariant.1, c.requires.2 l.block (omega (arith, c.requires.1)));
+      slot_within = omega (arith, c.requires.0);
+      place_within = omega (arith, l.invariant.1, c.requires.2 l.block (omega (arith, c.requires.1)));
     }
 
 pub loop-block-preserved : goal.loop-block-preserved

@@ -19,9 +19,9 @@ returns-then-stores-eq1 c = let a = c.args in
 pub one_store-requires-2 : goal.one_store-requires-2
 one_store-requires-2 c = let a = c.args in
     let n : length c.one_store.new.full ≡ length a.full.now = c.one_store.auto.full in record {
-      slot_size_in_bounds = (omega (arith, c.requires.slot_size_in_bounds.0, c.one_store.auto.patch), c.requires.slot_size_in_bounds.1);
-      m_value = (c.requires.m_value.0 ∙ ap (pages_in a.size) (sym n), places_kept a.size a.full.now c.one_store.new.full n c.requires.m_value.1);
-      page_len = c.requires.page_len;
+      slot_within = (omega (arith, c.requires.slot_within.0, c.one_store.auto.patch), c.requires.slot_within.1);
+      full_area = (c.requires.full_area.0 ∙ ap (pages_in a.size) (sym n), places_kept a.size a.full.now c.one_store.new.full n c.requires.full_area.1);
+      page_length = c.requires.page_length;
     }
 
 pub returns : goal.returns

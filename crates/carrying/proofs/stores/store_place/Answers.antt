@@ -13,37 +13,37 @@ other-kind e h q = h (sym e ∙ q)
 
 pub returns-then-m-block : goal.returns-then-m-block
 returns-then-m-block c = let a = c.args in
-    nothing_stored a.size a.full.now a.block (kind_number a.kind) a.page.now (omega (arith, c.requires.m_value.0, c.if-m-block.true))
+    nothing_stored a.size a.full.now a.block (kind_number a.kind) a.page.now (omega (arith, c.requires.full_area.0, c.if-m-block.true))
 
 pub overflow_add-end : goal.overflow_add-end
 overflow_add-end c = let a = c.args in
     let below : a.block < pages_in a.size (length a.full.now) = omega
-    (arith, c.requires.m_value.0, c.if-m-block.false) in
-    let fits : page_at a.size a.block + a.size ≤ length a.full.now = c.requires.m_value.1 a.block below in
+    (arith, c.requires.full_area.0, c.if-m-block.false) in
+    let fits : page_at a.size a.block + a.size ≤ length a.full.now = c.requires.full_area.1 a.block below in
     let e : c.page_at-at.result ≡ page_at a.size a.block = c.page_at-at.ensures in
     omega arith
 
 pub slice_bounds-fill-end : goal.slice_bounds-fill-end
 slice_bounds-fill-end c = let a = c.args in
     let below : a.block < pages_in a.size (length a.full.now) = omega
-    (arith, c.requires.m_value.0, c.if-m-block.false) in
-    let fits : page_at a.size a.block + a.size ≤ length a.full.now = c.requires.m_value.1 a.block below in
+    (arith, c.requires.full_area.0, c.if-m-block.false) in
+    let fits : page_at a.size a.block + a.size ≤ length a.full.now = c.requires.full_area.1 a.block below in
     let e : c.page_at-at.result ≡ page_at a.size a.block = c.page_at-at.ensures in
     omega arith
 
 pub slice_bounds-fill-end-in-Patch : goal.slice_bounds-fill-end-in-Patch
 slice_bounds-fill-end-in-Patch c = let a = c.args in
     let below : a.block < pages_in a.size (length a.full.now) = omega
-    (arith, c.requires.m_value.0, c.if-m-block.false) in
-    let fits : page_at a.size a.block + a.size ≤ length a.full.now = c.requires.m_value.1 a.block below in
+    (arith, c.requires.full_area.0, c.if-m-block.false) in
+    let fits : page_at a.size a.block + a.size ≤ length a.full.now = c.requires.full_area.1 a.block below in
     let e : c.page_at-at.result ≡ page_at a.size a.block = c.page_at-at.ensures in
     omega arith
 
 pub slice_bounds-copy-end : goal.slice_bounds-copy-end
 slice_bounds-copy-end c = let a = c.args in
     let below : a.block < pages_in a.size (length a.full.now) = omega
-    (arith, c.requires.m_value.0, c.if-m-block.false) in
-    let fits : page_at a.size a.block + a.size ≤ length a.full.now = c.requires.m_value.1 a.block below in
+    (arith, c.requires.full_area.0, c.if-m-block.false) in
+    let fits : page_at a.size a.block + a.size ≤ length a.full.now = c.requires.full_area.1 a.block below in
     let e : c.page_at-at.result ≡ page_at a.size a.block = c.page_at-at.ensures in
     omega arith
 
@@ -51,10 +51,10 @@ pub returns-in-Empty : goal.returns-in-Empty
 returns-in-Empty c = let a = c.args in
     let below : a.block < pages_in a.size (length a.full.now) = omega (
       arith,
-      c.requires.m_value.0,
+      c.requires.full_area.0,
       c.if-m-block.false,
     ) in
-    let fits : page_at a.size a.block + a.size ≤ length a.full.now = c.requires.m_value.1 a.block below in
+    let fits : page_at a.size a.block + a.size ≤ length a.full.now = c.requires.full_area.1 a.block below in
     let e : c.page_at-at.result ≡ page_at a.size a.block = c.page_at-at.ensures in
     zeros_stored a.size a.full.now a.block c.page_at-at.result a.page.now
     c.fill.new.dst e below fits (kind_number a.kind)
@@ -64,10 +64,10 @@ pub returns-in-Patch : goal.returns-in-Patch
 returns-in-Patch c = let a = c.args in
     let below : a.block < pages_in a.size (length a.full.now) = omega (
       arith,
-      c.requires.m_value.0,
+      c.requires.full_area.0,
       c.if-m-block.false,
     ) in
-    let fits : page_at a.size a.block + a.size ≤ length a.full.now = c.requires.m_value.1 a.block below in
+    let fits : page_at a.size a.block + a.size ≤ length a.full.now = c.requires.full_area.1 a.block below in
     let e : c.page_at-at.result ≡ page_at a.size a.block = c.page_at-at.ensures in
     zeros_stored a.size a.full.now a.block c.page_at-at.result a.page.now
     c.fill-in-Patch.new.dst e below fits (kind_number a.kind)
@@ -77,11 +77,11 @@ pub returns-in-Full : goal.returns-in-Full
 returns-in-Full c = let a = c.args in
     let below : a.block < pages_in a.size (length a.full.now) = omega (
       arith,
-      c.requires.m_value.0,
+      c.requires.full_area.0,
       c.if-m-block.false,
     ) in
-    let fits : page_at a.size a.block + a.size ≤ length a.full.now = c.requires.m_value.1 a.block below in
+    let fits : page_at a.size a.block + a.size ≤ length a.full.now = c.requires.full_area.1 a.block below in
     let e : c.page_at-at.result ≡ page_at a.size a.block = c.page_at-at.ensures in
     page_stored a.size a.full.now a.block c.page_at-at.result a.page.now
     c.copy.new.dst e below fits (kind_number a.kind) (ap kind_number c.in-Full.is)
-    (c.requires.page_len (ap kind_number c.in-Full.is)) c.copy.ensures
+    (c.requires.page_length (ap kind_number c.in-Full.is)) c.copy.ensures

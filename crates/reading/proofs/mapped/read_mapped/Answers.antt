@@ -56,8 +56,8 @@ pub read_as-requires : goal.read_as-requires
 read_as-requires c = let a = c.args in
     let o = (found (goal.at.read_as-requires c).In-Done).lent in
     let some : 0 < c.in-Frame.size = omega (arith, o.own) in record {
-      base_len = (sym o.own, o.page_size_is, (some, omega (arith, o.own)));
-      m_value = (o.places, places _ (blocks_in (length a.patch.now)) a.full.now some o.full_fit);
+      page_lengths = (sym o.own, o.page_size_is, (some, omega (arith, o.own)));
+      full_area = (o.places, places _ (blocks_in (length a.patch.now)) a.full.now some o.full_fit);
     }
 
 pub returns-then-base-eq0 : goal.returns-then-base-eq0
@@ -77,8 +77,8 @@ pub read_as-requires-in-Done : goal.read_as-requires-in-Done
 read_as-requires-in-Done c = let a = c.args in
     let o = (found (goal.at.read_as-requires-in-Done c).In-Done).lent in
     let some : 0 < c.in-Frame.size = omega (arith, o.own) in record {
-      base_len = (o.base_size c.if-base-eq0.false, o.page_size_is, (some, omega (arith, o.own)));
-      m_value = (o.places, places _ (blocks_in (length a.patch.now)) a.full.now some o.full_fit);
+      page_lengths = (o.base_size c.if-base-eq0.false, o.page_size_is, (some, omega (arith, o.own)));
+      full_area = (o.places, places _ (blocks_in (length a.patch.now)) a.full.now some o.full_fit);
     }
 
 pub returns-in-Refused : goal.returns-in-Refused
