@@ -25,9 +25,8 @@
  *
  * LINKING
  *
- * The archive libthonxiliko.a is for x86-64 Linux (`rt staticlib thonxiliko` makes it). It needs
- * memcpy, memmove and memset and nothing else. It links into C and C++ programs and into shared
- * libraries:
+ * The archive libthonxiliko.a is for x86-64 Linux (`rust/archive` makes it). It needs memcpy, memmove
+ * and memset and nothing else. It links into C and C++ programs and into shared libraries:
  *
  *   cc -I include program.c target/staticlib/libthonxiliko.a -o program
  *

@@ -148,6 +148,13 @@ if [ "$MACHINE" != "$TARGET" ] && [ "$TARGET" = x86-64 ] && [ -z "${QEMU_CPU:-}"
     export QEMU_CPU
 fi
 
+# prove_archive PROCESSOR FOLDER: has the kit prove what is missing and compile the archive for this sort of
+# processor, and puts it into the folder.
+prove_archive() (
+    cd "$ROOT/crates/thonxiliko" && rt lib --cpu "$1" </dev/null \
+        && mkdir -p "$2" && cp out/libthonxiliko.a "$2/libthonxiliko.a"
+)
+
 # Settles THX_LIB_DIR, the folder of the archive: as given, or below target/, brought up to date where
 # the kit is there. Gives 1 and sets PROBLEM if there is no archive.
 find_archive() {
@@ -156,7 +163,7 @@ find_archive() {
         make_archive || return 1
     fi
     if [ ! -f "$THX_LIB_DIR/libthonxiliko.a" ]; then
-        PROBLEM="no libthonxiliko.a in $THX_LIB_DIR; 'rt staticlib thonxiliko' makes it"
+        PROBLEM="no libthonxiliko.a in $THX_LIB_DIR; 'rust/archive' makes it"
         return 1
     fi
     THX_LIB_DIR=$(cd "$THX_LIB_DIR" && pwd)
@@ -166,7 +173,7 @@ find_archive() {
 make_archive() {
     if [ "$TARGET" = x86-64 ]; then
         THX_LIB_DIR=$ROOT/target/staticlib
-        set -- rt staticlib thonxiliko
+        set -- rust/archive
     else
         THX_LIB_DIR=$ROOT/target/native/$TRIPLE
         set -- rust/native "$TRIPLE"
@@ -178,7 +185,7 @@ make_archive() {
 }
 
 # Settles THX_LIB_DIR and, if it was not given and the target is x86-64, V3_LIB_DIR too: the folder of the
-# archive for x86-64-v3. Both are made anew from one module; where the kit is not there, one that stands
+# archive for x86-64-v3. Both are made anew from one source; where the kit is not there, one that stands
 # beside another archive is not taken.
 find_archives() {
     V3_LIB_DIR=
@@ -193,11 +200,11 @@ find_archives() {
     find_archive
 }
 
-# What stands between the tests and an archive for x86-64-v3 of the same module.
+# What stands between the tests and an archive for x86-64-v3 of the same source.
 missing_of_v3() {
     beside=$(cat "$V3_LIB_DIR/beside" 2>/dev/null)
     [ "$beside" = "$(cksum <"$THX_LIB_DIR/libthonxiliko.a")" ] \
-        || echo "both archives of one module ('rust/native x86-64-v3' makes them)"
+        || echo "both archives of one source ('rust/native x86-64-v3' makes them)"
 }
 
 # The folder of PostgreSQL's server programs, or nothing.

@@ -24,7 +24,7 @@ fn main() {
     println!("cargo:rerun-if-changed={}", archive.display());
     if !archive.is_file() {
         eprintln!(
-            "{} is not there. Make it with 'rt staticlib thonxiliko' in the root of the \
+            "{} is not there. Make it with 'rust/archive' in the root of the \
              repository, or set THX_LIB_DIR to the (absolute) folder that holds {}.",
             archive.display(),
             ARCHIVE
