@@ -3,7 +3,6 @@ ghost use Rattle.std.specs.Prelude.{◌≤◌, ◌<◌, length};
 ghost use Rattle.cases.specs.Delta.{Kept};
 
 use crate::say;
-use crate::say::STDOUT;
 
 // After so many runs the rest is left out.
 const MOST: usize = 16;
@@ -39,7 +38,7 @@ fn tell(first: usize, last: usize, value: u8) {
         say::digits(last as u64);
     }
     say::text(b":");
-    io::print_hex(STDOUT, wide(value), 2);
+    io::print_hex(say::STDOUT, wide(value), 2);
 }
 
 // All that changed. It answers how many runs it told, which is 0 only where nothing changed.

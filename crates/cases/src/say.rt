@@ -7,7 +7,7 @@ use crate::fields::{field, first};
 use layout::{Kind, Refusal};
 
 // The descriptor that is printed to.
-pub(crate) const STDOUT: i32 = 1;
+pub const STDOUT: i32 = 1;
 
 // Text as it is.
 pub fn text(bytes: &[u8]) -> usize

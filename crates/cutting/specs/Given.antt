@@ -42,7 +42,8 @@ module _ (P : ℕ) where
   unfolding highest_rows ordered patch_head_rows head_rows
   highest_exactly patch =
       exactly (highest_rows P patch) _ (highest_number patch)
-      (row (row (row (row (both (rows_numbered (λ b. slot_rows (slot_of patch b)) (λ b. slot_numbered (slot_of patch b)) 0 (blocks_in (length patch))) no_row)))))
+      (row (row (row (row
+      (both (rows_numbered (λ b. slot_rows (slot_of patch b)) (λ b. slot_numbered (slot_of patch b)) 0 (blocks_in (length patch))) no_row)))))
 
 pub cut_once : (P : ℕ) (patch full : List ℕ) (K : ℕ) → once (cut_groups P [] patch full K) ≡ true
 cut_once P patch full K = refl

@@ -118,16 +118,13 @@ fn wide(byte: u8) -> u64 {
     byte as u64
 }
 
-// The descriptor that is printed to.
-const STDOUT: i32 = 1;
-
 // The first bytes, at most eight, in hexadecimal.
 pub(crate) fn first_bytes(bytes: &[u8]) {
     say::text(b" ");
     let end = span::shorter(bytes.len(), 8);
     let mut i = 0;
     while i < end {
-        io::print_hex(STDOUT, wide(bytes[i]), 2);
+        io::print_hex(say::STDOUT, wide(bytes[i]), 2);
         i += 1;
     }
 }

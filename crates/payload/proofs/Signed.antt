@@ -39,6 +39,14 @@ widens p f = subst (SFits w64) (sym (to_z-of_z w32 p f)) (sfits_widen tt f)
 pub sum_read : (p : ℤ) (by : ℕ) → SFits w32 p → by < 2 ^ 32 → to_z w64 (of_z w64 (to_z w32 (of_z w32 p))) +ℤ to_z w64 by ≡ p +ℤ pos by
 sum_read p by f h = λ i. widened p f i +ℤ to_z_pos w64 by (omega arith) i
 
+pub sum_fits : (p : ℤ) (by : ℕ) → SFits w32 p → by < 2 ^ 32
+    → SFits w64 (to_z w64 (of_z w64 (to_z w32 (of_z w32 p))) +ℤ to_z w64 by)
+sum_fits p by f h = rw (sum_read p by f h) (moved_fits p by f h)
+
+pub sum_back : (p : ℤ) (by : ℕ) → SFits w32 p → by < 2 ^ 32
+    → to_z w64 (of_z w64 (to_z w64 (of_z w64 (to_z w32 (of_z w32 p))) +ℤ to_z w64 by)) ≡ p +ℤ pos by
+sum_back p by f h = to_z-of_z w64 _ (sum_fits p by f h) ∙ sum_read p by f h
+
 -- Where an entry lands. The code reads the place that it moved to, q, back from its bits, as r.
 
 pub below : (n : ℕ) (r q : ℤ) (v next : ℕ) → r ≡ q → lt_z r (pos 0) ≡ true → Broken ≡ landing (in_page n q) q v next
@@ -77,7 +85,8 @@ module _ (r : ℤ) (h : lt_z r (pos 0) ≡ false) where
   pub place_fits : nat_abs r < 65536 → SFits w32 r
   place_fits k = subst (SFits w32) (sym is_place) (record { sfits = omega arith })
 
-  pub landed_in : (n : ℕ) (q : ℤ) (v next : ℕ) → r ≡ q → nat_abs r < 65536 → nat_abs r < n → Entry (to_z w32 (of_z w32 r)) v next ≡ landing (in_page n q) q v next
+  pub landed_in : (n : ℕ) (q : ℤ) (v next : ℕ) → r ≡ q → nat_abs r < 65536 → nat_abs r < n
+      → Entry (to_z w32 (of_z w32 r)) v next ≡ landing (in_page n q) q v next
   unfolding in_page
   landed_in n q v next e k m =
       let f : q ≡ pos (nat_abs r) = sym e ∙ is_place in

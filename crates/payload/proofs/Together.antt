@@ -150,7 +150,9 @@ module _ (n : ℕ) (s : List ℕ) (place after : ℕ) (m : n ≤ 65536) (t : Tak
 
   module _ (count : ℕ) (h : Passed n s place (before after) count) where
     at : (x y a b c d : ℕ) → x ≡ y → a ≡ b → c ≡ d → Passed n s x (before a) c → Passed n s y (before b) d
-    at x y a b c d e f g r = subst (λ (z : ℕ). Passed n s z (before b) d) e (subst (λ (z : ℕ). Passed n s x (before z) d) f (subst (Passed n s x (before a)) g r))
+    at x y a b c d e f g r =
+        subst (λ (z : ℕ). Passed n s z (before b) d) e
+        (subst (λ (z : ℕ). Passed n s x (before z) d) f (subst (Passed n s x (before a)) g r))
 
     passed_short : (k : ℕ) → k ≤ 8 → Passed n s (place + 2 * k) (before (after + k + jumps_of s place k)) (count + k)
     passed_short zero l =

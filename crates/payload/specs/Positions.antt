@@ -1,9 +1,9 @@
 -- The position before a place, and where a jump from there leads.
 use Rattle.std.specs.Prelude.{ℕ, zero, suc, ◌+◌, ◌-◌, ◌≤◌, ◌≡◌, ℤ, pos, ◌+ℤ◌, ◌-ℤ◌}
-use Rattle.std.proofs.Common.{arith, ap, ◌∙◌, SFits, to_z, le-ltb}
+use Rattle.std.proofs.Common.{arith, ap, ◌∙◌, SFits, to_z, of_z, le-ltb}
 use Rattle.std.proofs.Math.IntN.{sub_ℕ}
 use Rattle.std.specs.Int.{w32}
-use Rattle.std.proofs.lemmas.Int.{to_z_pos}
+use Rattle.std.proofs.lemmas.Int.{to_z_pos, to_z-of_z}
 
 -- −1 before the first
 abbrev pub before : ℕ → ℤ
@@ -30,3 +30,10 @@ before_fits (suc k) h = rw (le-ltb (suc k) 1 (omega arith)) (record { sfits = om
 
 pub before_read : (n : ℕ) → n ≤ 65536 → to_z w32 n -ℤ pos 1 ≡ before n
 before_read n h = ap (λ (z : ℤ). z -ℤ pos 1) (to_z_pos w32 n (omega arith))
+
+pub difference_fits : (n : ℕ) → n ≤ 65536 → SFits w32 (to_z w32 n -ℤ pos 1)
+difference_fits n h = rw (before_read n h) (before_fits n h)
+
+-- and reads it back from its bits
+pub difference_back : (n : ℕ) → n ≤ 65536 → to_z w32 (of_z w32 (to_z w32 n -ℤ pos 1)) ≡ before n
+difference_back n h = to_z-of_z w32 (to_z w32 n -ℤ pos 1) (difference_fits n h) ∙ before_read n h

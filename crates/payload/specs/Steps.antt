@@ -1,6 +1,7 @@
 -- What the pieces of the reader owe their callers: the step, the check of a whole payload, and the overlay.
 use Rattle.std.specs.Prelude.{ℕ, zero, suc, ◌+◌, ◌-◌, ◌*◌, ◌<◌, ◌≤◌, min, ◌≡◌, Bool, true, false, ◌||◌, cond, List, eqb, ltb, length, drop, get_or, ℤ, pos}
-use Rattle.payload.specs.Entries.{long_code, short_entry, long_entry, Stream, done, unsound, entry, code, low, value, in_page, stream, start, payload_stream, sound, breaks_at}
+use Rattle.payload.specs.Entries.{long_code, short_entry, long_entry, Stream, done, unsound, entry, code, low, value, in_page}
+use Rattle.payload.specs.Entries.{stream, start, payload_stream, sound, breaks_at}
 use Rattle.payload.specs.Entries.{applied, entries as entries_of, last as last_of}
 use Rattle.payload.specs.Positions.{before}
 use Rattle.payload.specs.declared.Step.{Step}

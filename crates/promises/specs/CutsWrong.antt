@@ -1,6 +1,7 @@
 -- Wrong programs for Cut and Highest, each shut out by the request's own words and a proved input: the two blocks of `Sample`. `CutsDrop`,
 -- `CutNumbers`, `ClearsPairs`, `HighestTells` and `HighestNumbersGiven` are those words for a given program; the right ones keep them.
-use Rattle.std.specs.Prelude.{ℕ, zero, suc, ◌+◌, ◌-◌, ◌*◌, ◌/◌, ◌≤◌, ◌<◌, ◌≡◌, refl, Bool, true, false, ◌&&◌, cond, ◌↔◌, List, [], ◌∷◌, eqb, leb, ltb, length, get_or, set}
+use Rattle.std.specs.Prelude.{ℕ, zero, suc, ◌+◌, ◌-◌, ◌*◌, ◌/◌, ◌≤◌, ◌<◌, List, [], ◌∷◌, length, get_or, set}
+use Rattle.std.specs.Prelude.{◌≡◌, refl, Bool, true, false, ◌&&◌, cond, ◌↔◌, eqb, leb, ltb}
 use Rattle.std.proofs.Common.{arith, sym, ap, ◌∙◌, true≢false, inl, inr, lit≤, lit<, lt-ltb, le-leb, eq-eqb}
 use Rattle.std.proofs.Math.Option.{none, some}
 use mathlib.Core.List.Memᴰ

@@ -196,8 +196,18 @@ module _ (P : ℕ) (s t : Areas) (fits : LengthsFit P s.patch s.full) (e : frame
 pub store_laws : (P : ℕ) → Laws (store P)
 store_laws P =
     record {
-      frame_kept = λ s o. elim o as (λ k. (store P).frame ((store P).step s k) ≡ (store P).frame s) [ write w ↦ frame_next P s w | wipe K ↦ cut_frame_next P s K ];
-      by_frame = λ s o. elim o as (λ k. (store P).takes s k ≡ (store P).accepts ((store P).frame s) k) [ write w ↦ sym (taken_frame P s w) | wipe K ↦ sym (cut_taken_frame P s K) ];
+      frame_kept =
+          λ s o.
+          elim o as (λ k. (store P).frame ((store P).step s k) ≡ (store P).frame s) [
+            | write w ↦ frame_next P s w
+            | wipe K ↦ cut_frame_next P s K
+          ];
+      by_frame =
+          λ s o.
+          elim o as (λ k. (store P).takes s k ≡ (store P).accepts ((store P).frame s) k) [
+            | write w ↦ sym (taken_frame P s w)
+            | wipe K ↦ sym (cut_taken_frame P s K)
+          ];
       refused =
           λ s o.
           elim o as (λ k. (store P).accepts ((store P).frame s) k ≡ false → (store P).step s k ≡ s) [

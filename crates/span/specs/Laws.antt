@@ -1,7 +1,9 @@
 -- The laws of zeros, parts and splices that the whole project cites. Lengths first, then a byte at a place, then equations of lists,
 -- each of which follows from the bytes at every place.
 use Rattle.std.specs.Prelude.{ℕ, ◌+◌, ◌-◌, ◌≤◌, ◌<◌, min, ◌≡◌, refl, Bool, true, false, ◌&&◌, List, [], ◌∷◌, ◌++◌, eqb, take, set, replicate}
-use Rattle.std.proofs.Common.{arith, add-one, sym, ◌∙◌, length-set, length-append, length-take, length-drop, drop_of_length-le, get_or-drop, ext_get_or, length-take-le, drop-drop, take-add, take_all, get_or-set_same, get_or-set_other, drop_at, drop-cons, take-suc, eq-eqb, eqb-true}
+use Rattle.std.proofs.Common.{arith, add-one, sym, ◌∙◌, eq-eqb, eqb-true}
+use Rattle.std.proofs.Common.{length-set, length-append, length-take, length-drop, drop_of_length-le, get_or-drop, ext_get_or, length-take-le}
+use Rattle.std.proofs.Common.{drop-drop, take-add, take_all, get_or-set_same, get_or-set_other, drop_at, drop-cons, take-suc}
 use Rattle.std.proofs.Math.Decide.{dec_lt}
 use Rattle.std.proofs.Math.Path.{ap}
 use Rattle.std.proofs.lemmas.Bool.{false≢true}

@@ -162,7 +162,8 @@ passed_near base page (suc k) last from r q o n e w =
     (passed_near base page k (from + 1) (from + 1) r (omega arith) (omega arith) (omega arith) (λ f. f) (λ _. w (omega arith)))
   where
     go : (later : ℕ) → diffs_in base page from (suc k) ≡ differs_at base page from + later
-        → (t : Bool) → eqb (get_or base from 0) (get_or page from 0) ≡ t → (r ≤ length base) × (r ≤ length page) × (get_or base (r - 1) 0 ≡ get_or page (r - 1) 0 → ⊥)
+        → (t : Bool) → eqb (get_or base from 0) (get_or page from 0) ≡ t
+        → (r ≤ length base) × (r ≤ length page) × (get_or base (r - 1) 0 ≡ get_or page (r - 1) 0 → ⊥)
         → ((from + 1 ≡ r → last ≡ r) → Passed base page last (from + 1) (2 * later) later r)
         → Passed base page (from + 1) (from + 1) (2 * later) later r
         → Passed base page last from (2 * diffs_in base page from (suc k)) (diffs_in base page from (suc k)) r

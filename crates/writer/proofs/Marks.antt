@@ -59,7 +59,8 @@ pub record NextWord (base page : List ℕ) (at left i : ℕ) (s : Spelled) : Typ
   pub on : (r : Spelled) → Reached base page (at + word_bytes * i + word_bytes) r → Passed base page at (bit_and left (left - 1)) r
 
 -- none yet
-pub passed_none : (base page : List ℕ) (at left : ℕ) (s : Spelled) → left ≡ marks base page at stride_words → Reached base page at s → Passed base page at left s
+pub passed_none : (base page : List ℕ) (at left : ℕ) (s : Spelled) → left ≡ marks base page at stride_words
+    → Reached base page at s → Passed base page at left s
 passed_none base page at left s e w =
     let q : at ≡ at + word_bytes * 0 = omega arith in
     let m : marks base page (at + word_bytes * 0) stride_words ≡ marks base page at stride_words = ap (λ (n : ℕ). marks base page n stride_words) (sym q) in
@@ -117,7 +118,8 @@ module _ (base page : List ℕ) (wb : Bytes base) (wp : Bytes page) (at left : �
         (λ i. count_trailing_zeros (q i) (p.marks_left i)) ∙ zeros_shifted words (64 - words) rest
 
     -- the marks without the lowest one
-    marks_after : bit_and left (left - 1) ≡ marks base page (at + word_bytes * (words + alike + 1)) (stride_words - (words + alike + 1)) * 2 ^ (words + alike + 1)
+    marks_after : bit_and left (left - 1) ≡ marks base page (at + word_bytes * (words + alike + 1))
+        (stride_words - (words + alike + 1)) * 2 ^ (words + alike + 1)
     marks_after =
         let then : at + word_bytes * words + word_bytes * (alike + 1) ≡ at + word_bytes * (words + alike + 1) = omega arith in
         let many : stride_words - words - (alike + 1) ≡ stride_words - (words + alike + 1) = omega arith in
@@ -140,7 +142,8 @@ module _ (base page : List ℕ) (wb : Bytes base) (wp : Bytes page) (at left : �
           within = omega (arith, zeros_are);
           reached =
               subst (λ (i : ℕ). Reached base page i s) q
-              (reached_on base page (at + word_bytes * words) s p.reached (at + word_bytes * words + word_bytes * alike) (omega arith) (omega arith) (omega arith)
+              (reached_on base page (at + word_bytes * words) s p.reached
+              (at + word_bytes * words + word_bytes * alike) (omega arith) (omega arith) (omega arith)
               lowest.alike);
           on =
               λ r w.

@@ -91,7 +91,8 @@ pub record Chunk (base page : List ℕ) (from end r : ℕ) (s : Spelled) : Type 
   pub within : r ≤ end
   pub reached : Reached base page r s
 
-pub chunk_reached : (width : ℕ) (base page : List ℕ) (from end r : ℕ) (s : Spelled) → from ≤ end → end ≡ min (length base) (length page) → Reached base page from s
+pub chunk_reached : (width : ℕ) (base page : List ℕ) (from end r : ℕ) (s : Spelled) → from ≤ end → end ≡ min (length base) (length page)
+    → Reached base page from s
     → NextChunk width base page from r → Chunk base page from end r s
 chunk_reached width base page from end r s h e w c = record {
   on = chunk_on width base page from r c;

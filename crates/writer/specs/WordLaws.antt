@@ -220,10 +220,12 @@ module _ (a b : List ℕ) (wa : Bytes a) (wb : Bytes b) where
   first_in zero at m x i h e n q = absurd (n e)
   first_in (suc k) at zero x i h e n q = absurd (omega arith)
   first_in (suc k) at (suc m) x i h e n q =
-      go (eqb (get_or a at 0) (get_or b at 0)) refl (first_in k (at + 1) m (unlike a b (at + 1) k) (count_trailing_zeros (8 * m) (unlike a b (at + 1) k) / 8) (omega arith) refl)
+      go (eqb (get_or a at 0) (get_or b at 0)) refl
+      (first_in k (at + 1) m (unlike a b (at + 1) k) (count_trailing_zeros (8 * m) (unlike a b (at + 1) k) / 8) (omega arith) refl)
     where
       go : (t : Bool) → eqb (get_or a at 0) (get_or b at 0) ≡ t
-          → ((unlike a b (at + 1) k ≡ 0 → ⊥) → count_trailing_zeros (8 * m) (unlike a b (at + 1) k) / 8 ≡ count_trailing_zeros (8 * m) (unlike a b (at + 1) k) / 8
+          → ((unlike a b (at + 1) k ≡ 0 → ⊥) → count_trailing_zeros (8 * m) (unlike a b (at + 1) k) / 8
+          ≡ count_trailing_zeros (8 * m) (unlike a b (at + 1) k) / 8
           → FirstIn a b (at + 1) k (unlike a b (at + 1) k) (count_trailing_zeros (8 * m) (unlike a b (at + 1) k) / 8))
           → FirstIn a b at (suc k) x i
       go true s rest =

@@ -21,7 +21,8 @@ unfolding added some_three
 loop-i-init c = (omega arith, refl, refl, refl)
 
 pub overflow_add-high : goal.overflow_add-high
-overflow_add-high c = let a = c.args in
+overflow_add-high c =
+    let a = c.args in
     let l = c.loop-i in
     let known = c.shared_slice_known-1.given in
     let r = next (λ x. ones (high_bits x)) a.map.now a.at l.i l.invariant.1
@@ -29,7 +30,8 @@ overflow_add-high c = let a = c.args in
     record { fits = omega (arith, r, highs_most a.map.now (λ i. (known i).fits) a.at (l.i + 1)) }
 
 pub overflow_add-low : goal.overflow_add-low
-overflow_add-low c = let a = c.args in
+overflow_add-low c =
+    let a = c.args in
     let l = c.loop-i in
     let known = c.shared_slice_known-1.given in
     let r = next (λ x. ones (low_bits x)) a.map.now a.at l.i l.invariant.2
@@ -37,7 +39,8 @@ overflow_add-low c = let a = c.args in
     record { fits = omega (arith, r, lows_most a.map.now (λ i. (known i).fits) a.at (l.i + 1)) }
 
 pub loop-i-preserved : goal.loop-i-preserved
-loop-i-preserved c = let a = c.args in
+loop-i-preserved c =
+    let a = c.args in
     let l = c.loop-i in (
       omega arith,
       next (λ x. ones (high_bits x)) a.map.now a.at l.i l.invariant.1
@@ -50,19 +53,22 @@ loop-i-preserved c = let a = c.args in
     )
 
 pub overflow_cast-result : goal.overflow_cast-result
-overflow_cast-result c = let a = c.args in
+overflow_cast-result c =
+    let a = c.args in
     let l = c.loop-i in
     let known = c.shared_slice_known-1.given in
     record { fits = omega (arith, l.invariant.1, highs_most a.map.now (λ i. (known i).fits) a.at l.i) }
 
 pub overflow_cast-result-2 : goal.overflow_cast-result-2
-overflow_cast-result-2 c = let a = c.args in
+overflow_cast-result-2 c =
+    let a = c.args in
     let l = c.loop-i in
     let known = c.shared_slice_known-1.given in
     record { fits = omega (arith, l.invariant.2, lows_most a.map.now (λ i. (known i).fits) a.at l.i) }
 
 pub returns : goal.returns
-returns c = let a = c.args in
+returns c =
+    let a = c.args in
     let l = c.loop-i in
     let all : l.i ≡ a.count = omega arith in
     record {

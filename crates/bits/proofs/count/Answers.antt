@@ -14,7 +14,8 @@ pub chunk-next-requires : goal.chunk-next-requires
 chunk-next-requires c = (omega arith, omega arith)
 
 pub overflow_add-high : goal.overflow_add-high
-overflow_add-high c = let l = c.loop-at in
+overflow_add-high c =
+    let l = c.loop-at in
     let end = c.shorter-end in
     let known = c.shared_slice_known-1.given in
     let j = counts_more c.args.map.now l.at 32 _ _ l.invariant.1 c.chunk-next.ensures in
@@ -22,7 +23,8 @@ overflow_add-high c = let l = c.loop-at in
     record { fits = omega (arith, l.invariant.0, most.0, end.ensures, c.ranges.bytes.fits) }
 
 pub overflow_add-low : goal.overflow_add-low
-overflow_add-low c = let l = c.loop-at in
+overflow_add-low c =
+    let l = c.loop-at in
     let end = c.shorter-end in
     let known = c.shared_slice_known-1.given in
     let j = counts_more c.args.map.now l.at 32 _ _ l.invariant.1 c.chunk-next.ensures in
@@ -30,7 +32,8 @@ overflow_add-low c = let l = c.loop-at in
     record { fits = omega (arith, l.invariant.0, most.1, end.ensures, c.ranges.bytes.fits) }
 
 pub loop-at-preserved : goal.loop-at-preserved
-loop-at-preserved c = let a = c.args in
+loop-at-preserved c =
+    let a = c.args in
     let l = c.loop-at in
     (omega arith, counts_more a.map.now l.at 32 _ _ l.invariant.1 c.chunk-next.ensures)
 
@@ -38,7 +41,8 @@ pub chunk-rest-requires : goal.chunk-rest-requires
 chunk-rest-requires c = (omega arith, omega arith)
 
 pub overflow_add-result : goal.overflow_add-result
-overflow_add-result c = let l = c.loop-at in
+overflow_add-result c =
+    let l = c.loop-at in
     let end = c.shorter-end in
     let known = c.shared_slice_known-1.given in
     let j = counts_more c.args.map.now l.at (end.result - l.at) _ _ l.invariant.1 c.chunk-rest.ensures in
@@ -46,7 +50,8 @@ overflow_add-result c = let l = c.loop-at in
     record { fits = omega (arith, l.invariant.0, most.0, end.ensures, c.ranges.bytes.fits) }
 
 pub overflow_add-result-2 : goal.overflow_add-result-2
-overflow_add-result-2 c = let l = c.loop-at in
+overflow_add-result-2 c =
+    let l = c.loop-at in
     let end = c.shorter-end in
     let known = c.shared_slice_known-1.given in
     let j = counts_more c.args.map.now l.at (end.result - l.at) _ _ l.invariant.1 c.chunk-rest.ensures in
@@ -54,7 +59,8 @@ overflow_add-result-2 c = let l = c.loop-at in
     record { fits = omega (arith, l.invariant.0, most.1, end.ensures, c.ranges.bytes.fits) }
 
 pub returns : goal.returns
-returns c = let a = c.args in
+returns c =
+    let a = c.args in
     let l = c.loop-at in
     let end = c.shorter-end in
     let all : l.at + (end.result - l.at) ≡ min (length a.map.now) a.bytes = omega (arith, l.invariant.0, end.ensures) in

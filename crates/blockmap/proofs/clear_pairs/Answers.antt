@@ -14,33 +14,38 @@ long : (c : Else-map-map_bytes) → let a = c.args in map_bytes a.to ≤ length 
 long c = omega (arith, c.map_bytes.ensures, c.if-map-map_bytes.false)
 
 pub returns-then-map-map_bytes : goal.returns-then-map-map_bytes
-returns-then-map-map_bytes c = let a = c.args in
+returns-then-map-map_bytes c =
+    let a = c.args in
     rw (lt-leb (map_bytes a.to) (length a.map.now) (omega (arith, c.map_bytes.ensures, c.if-map-map_bytes.true)))
 
 pub returns-then-last-first : goal.returns-then-last-first
-returns-then-last-first c = let a = c.args in
+returns-then-last-first c =
+    let a = c.args in
     rw (le-leb (map_bytes a.to) (length a.map.now) (long (goal.at.returns-then-last-first c).Else-map-map_bytes)) c.clear_each.ensures
 
 reach : (c : After-slice_known-2-1)
     → let a = c.args in
-    a.to / 4 ≤ length c.clear_each-2.new.map
+    map_bytes a.to ≤ length a.map.now → a.to / 4 ≤ length c.clear_each-2.new.map
 unfolding map_bytes
-reach c =
+reach c h =
     let a = c.args in
     let size : length c.clear_each-2.new.map ≡ length a.map.now = ap length c.clear_each-2.ensures ∙ clear_length a.map.now _ _ in
-    let h : map_bytes a.to ≤ length a.map.now = (omega (arith, c.map_bytes.ensures, c.if-map-map_bytes.false)) in
     omega arith
 
 pub slice_bounds-fill-end : goal.slice_bounds-fill-end
-slice_bounds-fill-end c = reach (goal.at.slice_bounds-fill-end c).After-slice_known-2-1
+slice_bounds-fill-end c =
+    let g = goal.at.slice_bounds-fill-end c in
+    reach g.After-slice_known-2-1 (long g.Else-map-map_bytes)
 
 pub returns : goal.returns
-returns c = let a = c.args in
+returns c =
+    let g = goal.at.returns c in
+    let a = c.args in
     let f = c.fill in
     let first : ℕ = c.map_bytes-first.result in
-    let h : map_bytes a.to ≤ length a.map.now = long (goal.at.returns c).Else-map-map_bytes in
+    let h : map_bytes a.to ≤ length a.map.now = long g.Else-map-map_bytes in
     let some : first ≤ a.to / 4 = omega (arith, c.if-last-first.false) in
-    let fits : first + (a.to / 4 - first) ≤ length c.clear_each-2.new.map = omega (arith, reach (goal.at.returns c).After-slice_known-2-1) in
+    let fits : first + (a.to / 4 - first) ≤ length c.clear_each-2.new.map = omega (arith, reach g.After-slice_known-2-1 h) in
     rw (le-leb (map_bytes a.to) (length a.map.now) h)
     (cleared_by_bytes a.map.now c.clear_each-2.new.map _ _ a.from a.to first (a.to / 4) h
     c.map_bytes-first.ensures refl some c.clear_each-2.ensures

@@ -12,15 +12,18 @@ use borrow.Author.Rules.{rules}
 use Rattle.blockmap.proofs.tally.Goals as goal
 
 pub returns-then-n-gt-BLOCKS : goal.returns-then-n-gt-BLOCKS
-returns-then-n-gt-BLOCKS c = let a = c.args in
+returns-then-n-gt-BLOCKS c =
+    let a = c.args in
     tally_length page_size a.map.now a.n (omega arith)
 
 pub returns-then-map-bytes : goal.returns-then-map-bytes
-returns-then-map-bytes c = let a = c.args in
+returns-then-map-bytes c =
+    let a = c.args in
     tally_buffer page_size a.map.now a.n (omega arith) (omega arith)
 
 pub returns-then-unused_met : goal.returns-then-unused_met
-returns-then-unused_met c = let a = c.args in
+returns-then-unused_met c =
+    let a = c.args in
     tally_pair page_size a.map.now a.n (omega arith) (omega arith) (unused_bad a.map.now a.n (sym c.unused_met.ensures
     ∙ c.if-unused_met.true))
 
@@ -29,7 +32,8 @@ unfolding map_bytes
 overflow_cast-bytes c = search rules
 
 pub returns-then-counted : goal.returns-then-counted
-returns-then-counted c = let a = c.args in
+returns-then-counted c =
+    let a = c.args in
     let k = c.type_inv.map in
     let q = c.map_bytes-bytes.ensures in
     let clean : some_used a.map.now a.n (4 * map_bytes a.n - a.n) ≡ false = sym c.unused_met.ensures
@@ -39,7 +43,8 @@ returns-then-counted c = let a = c.args in
     tally_pair page_size a.map.now a.n (omega arith) (omega arith) (bits_bad a.map.now (λ i. (k i).fits) a.n clean three)
 
 pub returns : goal.returns
-returns c = let a = c.args in
+returns c =
+    let a = c.args in
     let k = c.type_inv.map in
     let q = c.map_bytes-bytes.ensures in
     let clean : some_used a.map.now a.n (4 * map_bytes a.n - a.n) ≡ false = sym c.unused_met.ensures

@@ -33,25 +33,28 @@ opened c =
     c.in-Frame.size c.in-Frame.n c.in-Frame.m c.in-Frame.is
 
 -- and the first fault that was told is that of the call's own size and n
-fault-is : (P : ℕ) (patch full : List ℕ) (size n b : ℕ) (x y : Built) → size ≡ P → n ≡ b
+fault_is : (P : ℕ) (patch full : List ℕ) (size n b : ℕ) (x y : Built) → size ≡ P → n ≡ b
     → built_numbers x ≡ fault_numbers size patch (first_fault (block_fault size patch full) 0 n) → x ≡ y
     → fault_numbers P patch (first_fault (block_fault P patch full) 0 b) ≡ built_numbers y
-fault-is P patch full size n b x y own blocks told is =
+fault_is P patch full size n b x y own blocks told is =
     ap (λ (k : ℕ). fault_numbers k patch (first_fault (block_fault k patch full) 0 b)) (sym own)
     ∙ ap (λ (k : ℕ). fault_numbers size patch (first_fault (block_fault size patch full) 0 k)) (sym blocks)
     ∙ sym told
     ∙ ap built_numbers is
 
 pub first_fault-requires : goal.first_fault-requires
-first_fault-requires c = let o = opened (goal.at.first_fault-requires c).In-Frame in
+first_fault-requires c =
+    let o = opened (goal.at.first_fault-requires c).In-Frame in
     (o.few, (omega (arith, o.own), omega (arith, o.own)), o.places)
 
 pub write_map-requires : goal.write_map-requires
-write_map-requires c = let o = opened (goal.at.write_map-requires c).In-Frame in
+write_map-requires c =
+    let o = opened (goal.at.write_map-requires c).In-Frame in
     (o.slots, o.few, o.enough)
 
 pub returns-in-Refused : goal.returns-in-Refused
-returns-in-Refused c = let a = c.args in
+returns-in-Refused c =
+    let a = c.args in
     let n = c.blocks-2 in
     let k = c.map_bytes-needed in
     let r = c.in-Refused.refusal in
@@ -62,14 +65,15 @@ returns-in-Refused c = let a = c.args in
     record { numbers = rw e; bytes = rw e }
 
 pub returns-in-Refused-first_fault : goal.returns-in-Refused-first_fault
-returns-in-Refused-first_fault c = let a = c.args in
+returns-in-Refused-first_fault c =
+    let a = c.args in
     let w' = opened (goal.at.returns-in-Refused-first_fault c).In-Frame in
     let r = c.in-Refused-first_fault.refusal in
     let b = c.in-Refused-first_fault.block in
     let o = c.in-Refused-first_fault.offset in
     let f = c.first_fault in
     let t : fault_numbers page_size a.patch.now (build_fault page_size a.patch.now a.full.now) ≡ built_numbers (Refused r b o) =
-    fault-is page_size a.patch.now a.full.now _ _ _ f.result (Refused r b o) w'.own w'.blocks f.ensures c.in-Refused-first_fault.is in
+    fault_is page_size a.patch.now a.full.now _ _ _ f.result (Refused r b o) w'.own w'.blocks f.ensures c.in-Refused-first_fault.is in
     let e =
     build_faulty page_size a.patch.now a.full.now a.map.now w'.none (refusal_number r) b
     (ap (λ (x : BuildNumbers). x.number) t) (ap (λ (x : BuildNumbers). x.block) t) (refusal_some r) in
@@ -78,11 +82,12 @@ returns-in-Refused-first_fault c = let a = c.args in
     record { numbers = rw e (λ i. record { number = refusal_number r; block = b; offset = q i }); bytes = rw e }
 
 pub returns-in-Done : goal.returns-in-Done
-returns-in-Done c = let a = c.args in
+returns-in-Done c =
+    let a = c.args in
     let o = opened (goal.at.returns-in-Done c).In-Frame in
     let f = c.first_fault in
     let t : fault_numbers page_size a.patch.now (build_fault page_size a.patch.now a.full.now) ≡ built_numbers Done =
-    fault-is page_size a.patch.now a.full.now _ _ _ f.result Done o.own o.blocks f.ensures
+    fault_is page_size a.patch.now a.full.now _ _ _ f.result Done o.own o.blocks f.ensures
     c.in-Done.is in
     let z : (build_fault page_size a.patch.now a.full.now).number ≡ 0 = ap (λ (x : BuildNumbers). x.number) t in
     let e = build_done_is page_size a.patch.now a.full.now a.map.now o.none z in

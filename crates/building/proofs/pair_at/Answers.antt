@@ -9,12 +9,14 @@ use mathlib.Core.Path.{◌≡◌, sym, ap, ◌∙◌}
 use Rattle.building.proofs.pair_at.Goals as goal
 
 pub returns-then-n-block : goal.returns-then-n-block
-returns-then-n-block c = let a = c.args in
+returns-then-n-block c =
+    let a = c.args in
     sym (pair_unused (kind_pair a.patch.now) a.n a.block (omega arith))
 
 pub returns : goal.returns
 unfolding kind_pair
-returns c = let a = c.args in
+returns c =
+    let a = c.args in
     let at : c.slot_at-at.result + 0 ≡ slot_at a.block = omega arith in
     c.pair_of.ensures
     ∙ c.kind_of.ensures

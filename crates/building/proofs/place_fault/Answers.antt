@@ -5,18 +5,21 @@ use mathlib.Core.Path.{sym, ◌∙◌}
 use Rattle.building.proofs.place_fault.Goals as goal
 
 pub returns-then-m-block : goal.returns-then-m-block
-returns-then-m-block c = let a = c.args in
+returns-then-m-block c =
+    let a = c.args in
     sym (no_place a.size a.full.now a.block (omega (arith, c.requires, c.if-m-block.true)))
 
 pub returns-then-zero_part : goal.returns-then-zero_part
-returns-then-zero_part c = let f = c.page_at in
+returns-then-zero_part c =
+    let f = c.page_at in
     let z = c.zero_part in
     let a = c.args in
     let told = place_told a.size a.full.now a.block f.result z.result f.ensures z.ensures in
     sym (clean_place a.size a.full.now a.block (told ∙ c.if-zero_part.true))
 
 pub returns : goal.returns
-returns c = let f = c.page_at in
+returns c =
+    let f = c.page_at in
     let z = c.zero_part in
     let a = c.args in
     let told = place_told a.size a.full.now a.block f.result z.result f.ensures z.ensures in

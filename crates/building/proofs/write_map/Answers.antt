@@ -19,14 +19,16 @@ unfolding map_bytes
 map_byte-requires c = search rules
 
 pub loop-at-preserved : goal.loop-at-preserved
-loop-at-preserved c = let a = c.args in
+loop-at-preserved c =
+    let a = c.args in
     let l = c.loop-at in
     let more = map_turn a.map.now l.map (kind_pair a.patch.now) a.n l.at c.map_byte.result in
     (omega arith, search rules, more (omega arith) l.invariant.2 c.map_byte.ensures)
 
 pub returns : goal.returns
 unfolding packed
-returns c = let a = c.args in
+returns c =
+    let a = c.args in
     let l = c.loop-at in
     let q : l.at ≡ map_bytes a.n = omega arith in
     l.invariant.2 ∙ ap (λ (k : ℕ). splice a.map.now 0 (packed_first (kind_pair a.patch.now) a.n k)) q

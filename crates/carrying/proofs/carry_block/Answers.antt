@@ -14,27 +14,34 @@ none : (c : In-Nothing) → let a = c.args in
 none c = sym c.decision_fault.ensures ∙ ap fault_number c.in-Nothing.is
 
 pub slice_bounds-store_first-end : goal.slice_bounds-store_first-end
-slice_bounds-store_first-end c = let a = c.args in
+slice_bounds-store_first-end c =
+    let g = goal.at.slice_bounds-store_first-end c in
+    let a = c.args in
     let r = c.room_used-length in
-    omega (arith, used_within a.size a.full.now a.block a.kind a.payload.now (none (goal.at.slice_bounds-store_first-end c).In-Nothing) r.result r.ensures)
+    omega (arith, used_within a.size a.full.now a.block a.kind a.payload.now (none g.In-Nothing) r.result r.ensures)
 
 pub store_first-requires : goal.store_first-requires
-store_first-requires c = let a = c.args in
+store_first-requires c =
+    let g = goal.at.store_first-requires c in
+    let a = c.args in
     let r = c.room_used-length in
-    let k = kind_known a.size a.full.now a.block a.kind a.payload.now (none (goal.at.store_first-requires c).In-Nothing) in record {
-      slot_within = (c.requires.slot_within, used_fits a.size a.full.now a.block a.kind a.payload.now (none (goal.at.store_first-requires c).In-Nothing) r.result r.ensures);
+    let k = kind_known a.size a.full.now a.block a.kind a.payload.now (none g.In-Nothing) in record {
+      slot_within = (c.requires.slot_within, used_fits a.size a.full.now a.block a.kind a.payload.now (none g.In-Nothing) r.result r.ensures);
       full_area = c.requires.full_area;
       page_length = λ q. c.requires.sizes.1 (sym (c.kind_of-stored.ensures k) ∙ q);
     }
 
 pub returns-in-Found : goal.returns-in-Found
-returns-in-Found c = let a = c.args in
+returns-in-Found c =
+    let a = c.args in
     decision_refused a.size a.full.now a.block a.kind a.payload.now a.patch.now a.page.now a.stores c.in-Found.refusal
     (sym c.decision_fault.ensures ∙ ap fault_number c.in-Found.is)
 
 pub returns-in-Nothing : goal.returns-in-Nothing
-returns-in-Nothing c = let a = c.args in
+returns-in-Nothing c =
+    let g = goal.at.returns-in-Nothing c in
+    let a = c.args in
     let r = c.room_used-length in
     let k = c.kind_of-stored in
-    decision_stored a.size a.full.now a.block a.kind a.payload.now (none (goal.at.returns-in-Nothing c).In-Nothing) r.result r.ensures a.patch.now a.page.now
+    decision_stored a.size a.full.now a.block a.kind a.payload.now (none g.In-Nothing) r.result r.ensures a.patch.now a.page.now
     a.stores k.result k.ensures _ _ c.store_first.ensures

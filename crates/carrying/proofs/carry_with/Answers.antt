@@ -4,7 +4,8 @@ use Rattle.carrying.proofs.CarryTold.{told_refused, told_block, told_lent, told_
 use Rattle.carrying.proofs.carry_with.Goals as goal
 
 pub returns-then-n-block : goal.returns-then-n-block
-returns-then-n-block c = let a = c.args in
+returns-then-n-block c =
+    let a = c.args in
     let p = c.page_fits-fit in
     let o = c.open in
     told_block page_size p.result a.buffer_fits a.patch.now a.full.now a.block
@@ -12,7 +13,8 @@ returns-then-n-block c = let a = c.args in
     c.in-Frame.size c.in-Frame.n c.in-Frame.m c.in-Frame.is (omega (arith, c.if-n-block.true))
 
 pub carry_block-requires : goal.carry_block-requires
-carry_block-requires c = let a = c.args in
+carry_block-requires c =
+    let a = c.args in
     let p = c.page_fits-fit in
     let o = c.open in
     let l =
@@ -27,7 +29,8 @@ carry_block-requires c = let a = c.args in
     }
 
 pub returns-in-Refused : goal.returns-in-Refused
-returns-in-Refused c = let a = c.args in
+returns-in-Refused c =
+    let a = c.args in
     let p = c.page_fits-fit in
     let o = c.open in
     told_refused page_size p.result a.buffer_fits a.patch.now a.full.now a.block
@@ -35,7 +38,8 @@ returns-in-Refused c = let a = c.args in
     c.in-Refused.refusal c.in-Refused.is
 
 pub returns-else-n-block : goal.returns-else-n-block
-returns-else-n-block c = let a = c.args in
+returns-else-n-block c =
+    let a = c.args in
     let p = c.page_fits-fit in
     let o = c.open in
     told_within page_size p.result a.buffer_fits a.patch.now a.full.now a.block

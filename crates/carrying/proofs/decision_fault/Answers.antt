@@ -23,23 +23,28 @@ placed c =
     ]
 
 pub returns-then-kind : goal.returns-then-kind
-returns-then-kind c = let a = c.args in
+returns-then-kind c =
+    let a = c.args in
     sym (kind_above a.size a.full.now a.block a.kind a.payload.now (omega (arith, c.if-kind.true)))
 
 pub returns-then-m-block : goal.returns-then-m-block
-returns-then-m-block c = let a = c.args in
+returns-then-m-block c =
+    let a = c.args in
     sym
     (no_place a.size a.full.now a.block a.kind a.payload.now (omega (arith, c.if-kind.false)) c.if-kind-2.true
     (omega (arith, c.requires.1)))
 
 pub returns-then-not-payload_fits : goal.returns-then-not-payload_fits
-returns-then-not-payload_fits c = let a = c.args in
+returns-then-not-payload_fits c =
+    let g = goal.at.returns-then-not-payload_fits c in
+    let a = c.args in
     sym
-    (wrong_payload a.size a.full.now a.block a.kind a.payload.now (omega (arith, c.if-kind.false)) (placed (goal.at.returns-then-not-payload_fits c).Joined-else-kind-2)
+    (wrong_payload a.size a.full.now a.block a.kind a.payload.now (omega (arith, c.if-kind.false)) (placed g.Joined-else-kind-2)
     (sym c.payload_fits.ensures ∙ ap (λ (b : Bool). not b) c.if-not-payload_fits.true))
 
 pub returns : goal.returns
-returns c = let a = c.args in
+returns c =
+    let a = c.args in
     sym
     (nothing_wrong a.size a.full.now a.block a.kind a.payload.now (omega (arith, c.if-kind.false)) (placed (goal.at.returns c).Joined-else-kind-2)
     (sym c.payload_fits.ensures ∙ ap (λ (b : Bool). not b) c.if-not-payload_fits.false))

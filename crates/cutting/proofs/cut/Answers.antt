@@ -5,7 +5,8 @@ use Rattle.cutting.specs.CutLaws.{cut_alone}
 use Rattle.cutting.proofs.cut.Goals as goal
 
 pub returns : goal.returns
-returns c = let a = c.args in
+returns c =
+    let a = c.args in
     let w = c.cut_with.ensures in
     let e = cut_alone page_size a.patch.now a.full.now a.k in
     record {

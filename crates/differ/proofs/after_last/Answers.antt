@@ -8,18 +8,21 @@ pub loop-at-init : goal.loop-at-init
 loop-at-init c = (search rules, search rules, same_none c.args.a.now c.args.b.now c.args.to c.args.to (omega arith))
 
 pub returns-then-a-at : goal.returns-then-a-at
-returns-then-a-at c = let a = c.args in
+returns-then-a-at c =
+    let a = c.args in
     let l = c.loop-at in
     let w : AfterLast a.a.now a.b.now a.from a.to l.at = search rules in
     after_last_is a.a.now a.b.now a.from a.to l.at w
 
 pub loop-at-preserved : goal.loop-at-preserved
-loop-at-preserved c = let a = c.args in
+loop-at-preserved c =
+    let a = c.args in
     let l = c.loop-at in
     (search rules, search rules, same_before a.a.now a.b.now l.at a.to l.invariant.2 c.if-a-at.false)
 
 pub returns : goal.returns
-returns c = let a = c.args in
+returns c =
+    let a = c.args in
     let l = c.loop-at in
     let w : AfterLast a.a.now a.b.now a.from a.to l.at = search rules in
     after_last_is a.a.now a.b.now a.from a.to l.at w

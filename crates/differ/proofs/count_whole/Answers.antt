@@ -15,19 +15,22 @@ pub loop-i-init : goal.loop-i-init
 loop-i-init c = (search rules, sym (diffs_none c.args.a.now c.args.b.now c.args.at))
 
 pub overflow_add-count-in-loop-i-2 : goal.overflow_add-count-in-loop-i-2
-overflow_add-count-in-loop-i-2 c = let a = c.args in
+overflow_add-count-in-loop-i-2 c =
+    let a = c.args in
     let l = c.loop-i in
     let more : ℕ = bool_byte (not (eqb (get_or a.a.now (a.at + l.i) 0) (get_or a.b.now (a.at + l.i) 0))) in
     let e : l.count + more ≡ diffs_in a.a.now a.b.now a.at (l.i + 1) = counted_next a.a.now a.b.now a.at l.i l.count l.invariant.1 in
     omega (arith, diffs_few a.a.now a.b.now a.at (l.i + 1))
 
 pub loop-i-preserved : goal.loop-i-preserved
-loop-i-preserved c = let a = c.args in
+loop-i-preserved c =
+    let a = c.args in
     let l = c.loop-i in
     (search rules, counted_next a.a.now a.b.now a.at l.i l.count l.invariant.1)
 
 pub returns : goal.returns
-returns c = let a = c.args in
+returns c =
+    let a = c.args in
     let l = c.loop-i in
     let e : l.i ≡ 64 = omega arith in
     l.invariant.1 ∙ ap (λ (n : ℕ). diffs_in a.a.now a.b.now a.at n) e

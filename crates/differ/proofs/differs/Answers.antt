@@ -14,7 +14,8 @@ loop-i-init c = (
 )
 
 pub loop-i-preserved : goal.loop-i-preserved
-loop-i-preserved c = let a = c.args in
+loop-i-preserved c =
+    let a = c.args in
     let l = c.loop-i in (
       search rules,
       seen_same a.a.now a.b.now a.at l.i l.seen l.invariant.1,
@@ -22,7 +23,8 @@ loop-i-preserved c = let a = c.args in
     )
 
 pub returns : goal.returns
-returns c = let a = c.args in
+returns c =
+    let a = c.args in
     let l = c.loop-i in
     let e : l.i ≡ a.count = omega arith in
     (λ s. rw e at (l.invariant.1 s), λ s. rw e at (l.invariant.2 s))

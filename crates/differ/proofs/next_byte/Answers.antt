@@ -7,12 +7,14 @@ use Rattle.differ.specs.DifferLaws.{next_here}
 use Rattle.differ.proofs.next_byte.Goals as goal
 
 pub returns-then-a-at : goal.returns-then-a-at
-returns-then-a-at c = let a = c.args in
+returns-then-a-at c =
+    let a = c.args in
     let l = c.loop-at in
     sym (l.invariant.2 ∙ next_here a.a.now a.b.now l.at (λ h k e. c.if-a-at.true e))
 
 pub loop-at-preserved : goal.loop-at-preserved
-loop-at-preserved c = let a = c.args in
+loop-at-preserved c =
+    let a = c.args in
     let l = c.loop-at in (
       search rules,
       search rules,
@@ -21,6 +23,7 @@ loop-at-preserved c = let a = c.args in
     )
 
 pub returns : goal.returns
-returns c = let a = c.args in
+returns c =
+    let a = c.args in
     let l = c.loop-at in
     sym (l.invariant.2 ∙ next_here a.a.now a.b.now l.at (λ h k e. omega arith))

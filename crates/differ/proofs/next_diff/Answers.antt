@@ -6,15 +6,18 @@ use Rattle.differ.specs.DifferLaws.{next_here, next_skip, chunk_ahead, chunk_wit
 use Rattle.differ.proofs.next_diff.Goals as goal
 
 pub returns-then-end-from : goal.returns-then-end-from
-returns-then-end-from c = let a = c.args in
+returns-then-end-from c =
+    let a = c.args in
     sym (next_here a.a.now a.b.now a.from (λ h k e. omega arith))
 
 pub returns-then-a-from : goal.returns-then-a-from
-returns-then-a-from c = let a = c.args in
+returns-then-a-from c =
+    let a = c.args in
     sym (next_here a.a.now a.b.now a.from (λ h k e. c.if-a-from.true e))
 
 pub skip_equal-near-requires : goal.skip_equal-near-requires
-skip_equal-near-requires c = let a = c.args in
+skip_equal-near-requires c =
+    let a = c.args in
     let wide = c.skip_equal-wide in
     let end = c.shorter-end in (
       chunk_within chunk a.a.now a.b.now (a.from + 8) wide.result end.result (omega arith) end.ensures wide.ensures,
@@ -23,7 +26,8 @@ skip_equal-near-requires c = let a = c.args in
     )
 
 pub next_byte-requires-2 : goal.next_byte-requires-2
-next_byte-requires-2 c = let a = c.args in
+next_byte-requires-2 c =
+    let a = c.args in
     let wide = c.skip_equal-wide in
     let near = c.skip_equal-near in
     let end = c.shorter-end in (
@@ -34,7 +38,8 @@ next_byte-requires-2 c = let a = c.args in
     )
 
 pub returns : goal.returns
-returns c = let a = c.args in
+returns c =
+    let a = c.args in
     let wide = c.skip_equal-wide in
     let near = c.skip_equal-near in
     let word = c.differs.ensures.0 c.if-differs.false in

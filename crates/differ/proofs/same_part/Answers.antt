@@ -5,7 +5,8 @@ use Prim.Native.Nat.{ℕ}
 use Rattle.differ.proofs.same_part.Goals as goal
 
 pub returns : goal.returns
-returns c = let a = c.args in
+returns c =
+    let a = c.args in
     let p = c.part-p in
     let q = c.part-q in
     c.same.ensures

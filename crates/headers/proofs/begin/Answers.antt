@@ -7,7 +7,8 @@ use mathlib.Core.Path.{◌≡◌, ap, ◌∙◌}
 use Rattle.headers.proofs.begin.Goals as goal
 
 pub returns : goal.returns
-returns c = let a = c.args in
+returns c =
+    let a = c.args in
     let filled = c.fill in
     let n : ℕ = length a.area.now in
     let e : filled.new.dst ≡ zeros n = filled.ensures in

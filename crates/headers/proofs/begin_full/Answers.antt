@@ -7,7 +7,8 @@ use Prim.Native.Nat.{ℕ}
 use Rattle.headers.proofs.begin_full.Goals as goal
 
 pub returns : goal.returns
-returns c = let a = c.args in
+returns c =
+    let a = c.args in
     let n : ℕ = length a.full.now in
     c.begin.ensures
     ∙ ap (λ (l : List ℕ). splice (zeros n) 0 (take n l)) c.full_fields-fields.ensures

@@ -16,12 +16,14 @@ pub loop-i-init : goal.loop-i-init
 loop-i-init c = (search rules, like_none c.args.area.now c.args.fields.now)
 
 pub loop-i-preserved : goal.loop-i-preserved
-loop-i-preserved c = let a = c.args in
+loop-i-preserved c =
+    let a = c.args in
     let l = c.loop-i in
     (search rules, like_more a.area.now a.fields.now l.i l.like (omega arith) (omega arith) l.invariant.1)
 
 pub returns : goal.returns
-returns c = let a = c.args in
+returns c =
+    let a = c.args in
     let l = c.loop-i in
     let n : ℕ = length a.fields.now in
     let e : l.i ≡ n = omega arith in

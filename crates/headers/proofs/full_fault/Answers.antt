@@ -12,16 +12,19 @@ use native.Mathlib.Omega.{arith}
 use Rattle.headers.proofs.full_fault.Goals as goal
 
 pub returns-then-full-eq0 : goal.returns-then-full-eq0
-returns-then-full-eq0 c = let a = c.args in
+returns-then-full-eq0 c =
+    let a = c.args in
     sym (full_absent a.size a.full.now c.if-full-eq0.true)
 
 pub returns-then-is_full_head : goal.returns-then-is_full_head
-returns-then-is_full_head c = let a = c.args in
+returns-then-is_full_head c =
+    let a = c.args in
     sym (full_present a.size a.full.now c.if-full-eq0.false
     ∙ full_right a.size a.full.now (sym c.is_full_head.ensures ∙ c.if-is_full_head.true))
 
 pub returns-in-Found : goal.returns-in-Found
-returns-in-Found c = let a = c.args in
+returns-in-Found c =
+    let a = c.args in
     let f = c.full_image_fault in
     let r = c.in-Found.r in
     let next : ℕ = first_of (size_rows a.size a.full.now) in
@@ -31,7 +34,8 @@ returns-in-Found c = let a = c.args in
     ∙ or_some (refusal_number r) next (refusal_some r))
 
 pub returns-in-Nothing : goal.returns-in-Nothing
-returns-in-Nothing c = let a = c.args in
+returns-in-Nothing c =
+    let a = c.args in
     let f = c.full_image_fault in
     let next : ℕ = first_of (size_rows a.size a.full.now) in
     c.size_fault.ensures

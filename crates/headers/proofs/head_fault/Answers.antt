@@ -6,7 +6,8 @@ use Rattle.headers.proofs.head_fault.Goals as goal
 
 pub returns-then-not-same_part : goal.returns-then-not-same_part
 unfolding head_number or_else
-returns-then-not-same_part c = let a = c.args in
+returns-then-not-same_part c =
+    let a = c.args in
     rw (
       head_rows_is a.fields.now a.area.now a.size (omega arith) (omega arith),
       (sym c.same_part.ensures ∙ c.if-not-same_part.true),
@@ -14,7 +15,8 @@ returns-then-not-same_part c = let a = c.args in
 
 pub returns-then-not-same_part-2 : goal.returns-then-not-same_part-2
 unfolding head_number or_else
-returns-then-not-same_part-2 c = let a = c.args in
+returns-then-not-same_part-2 c =
+    let a = c.args in
     rw (
       head_rows_is a.fields.now a.area.now a.size (omega arith) (omega arith),
       (sym c.same_part.ensures ∙ c.if-not-same_part.false),
@@ -23,7 +25,8 @@ returns-then-not-same_part-2 c = let a = c.args in
 
 pub returns-then-not-same_part-3 : goal.returns-then-not-same_part-3
 unfolding head_number or_else
-returns-then-not-same_part-3 c = let a = c.args in
+returns-then-not-same_part-3 c =
+    let a = c.args in
     rw (
       head_rows_is a.fields.now a.area.now a.size (omega arith) (omega arith),
       (sym c.same_part.ensures ∙ c.if-not-same_part.false),
@@ -33,7 +36,8 @@ returns-then-not-same_part-3 c = let a = c.args in
 
 pub returns-then-not-zero_part : goal.returns-then-not-zero_part
 unfolding head_number or_else
-returns-then-not-zero_part c = let a = c.args in
+returns-then-not-zero_part c =
+    let a = c.args in
     rw (
       head_rows_is a.fields.now a.area.now a.size (omega arith) (omega arith),
       (sym c.same_part.ensures ∙ c.if-not-same_part.false),
@@ -44,7 +48,8 @@ returns-then-not-zero_part c = let a = c.args in
 
 pub returns : goal.returns
 unfolding head_number or_else
-returns c = let a = c.args in
+returns c =
+    let a = c.args in
     rw (
       head_rows_is a.fields.now a.area.now a.size (omega arith) (omega arith),
       (sym c.same_part.ensures ∙ c.if-not-same_part.false),

@@ -8,14 +8,16 @@ use mathlib.Core.Path.{sym, ap, ◌∙◌}
 use Rattle.headers.proofs.headers_fault.Goals as goal
 
 pub returns-in-Found : goal.returns-in-Found
-returns-in-Found c = let a = c.args in
+returns-in-Found c =
+    let a = c.args in
     let f = c.patch_fault in
     let r = c.in-Found.r in
     sym (headers_patch a.size (refusal_number r) a.patch.now a.full.now (sym f.ensures ∙ ap fault_number c.in-Found.is)
     (refusal_some r))
 
 pub returns-in-Nothing : goal.returns-in-Nothing
-returns-in-Nothing c = let a = c.args in
+returns-in-Nothing c =
+    let a = c.args in
     let f = c.patch_fault in
     c.full_fault.ensures
     ∙ sym (headers_are a.size a.patch.now a.full.now

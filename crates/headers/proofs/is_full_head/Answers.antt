@@ -8,5 +8,6 @@ use Rattle.headers.proofs.is_full_head.Goals as goal
 
 pub returns : goal.returns
 unfolding full_header
-returns c = let a : List ℕ = c.args.full.now in
+returns c =
+    let a : List ℕ = c.args.full.now in
     c.is_head.ensures ∙ ap (λ (l : List ℕ). same (part 0 full_head a) (header l full_head)) c.full_fields-fields.ensures

@@ -8,7 +8,8 @@ use Rattle.headers.proofs.Turns.{head_parts}
 use Rattle.headers.proofs.is_head.Goals as goal
 
 pub returns-then-not-begins : goal.returns-then-not-begins
-returns-then-not-begins c = let a = c.args in
+returns-then-not-begins c =
+    let a = c.args in
     let n : ℕ = length a.fields.now in
     let m : ℕ = a.size - n in
     let f = c.begins in
@@ -16,7 +17,8 @@ returns-then-not-begins c = let a = c.args in
     ∙ ap (λ (t : Bool). t && same (part n m a.area.now) (zeros m)) ((sym f.ensures ∙ c.if-not-begins.true)))
 
 pub returns : goal.returns
-returns c = let a = c.args in
+returns c =
+    let a = c.args in
     let n : ℕ = length a.fields.now in
     let m : ℕ = a.size - n in
     let f = c.begins in

@@ -8,5 +8,6 @@ use Rattle.headers.proofs.is_patch_head.Goals as goal
 
 pub returns : goal.returns
 unfolding patch_header
-returns c = let a : List ℕ = c.args.patch.now in
+returns c =
+    let a : List ℕ = c.args.patch.now in
     c.is_head.ensures ∙ ap (λ (l : List ℕ). same (part 0 patch_head a) (header l patch_head)) c.patch_fields-fields.ensures

@@ -7,7 +7,8 @@ use Rattle.headers.specs.StoredLaws.{number_4}
 use Rattle.headers.proofs.number_4.Goals as goal
 
 pub returns : goal.returns
-returns c = let a = c.args in
+returns c =
+    let a = c.args in
     let xs : List ℕ = a.area.now in
     let e = number_4 a.at xs in
     let z : a.at + 0 ≡ a.at = omega arith in

@@ -11,11 +11,13 @@ use native.Mathlib.Omega.{arith}
 use Rattle.headers.proofs.patch_fault.Goals as goal
 
 pub returns-then-is_patch_head : goal.returns-then-is_patch_head
-returns-then-is_patch_head c = let a = c.args in
+returns-then-is_patch_head c =
+    let a = c.args in
     sym (patch_right a.size a.patch.now (sym c.is_patch_head.ensures ∙ c.if-is_patch_head.true))
 
 pub returns-in-Found : goal.returns-in-Found
-returns-in-Found c = let a = c.args in
+returns-in-Found c =
+    let a = c.args in
     let f = c.patch_image_fault in
     let r = c.in-Found.r in
     let next : ℕ = first_of (size_rows a.size a.patch.now) in
@@ -24,7 +26,8 @@ returns-in-Found c = let a = c.args in
     ∙ or_some (refusal_number r) next (refusal_some r))
 
 pub returns-in-Nothing : goal.returns-in-Nothing
-returns-in-Nothing c = let a = c.args in
+returns-in-Nothing c =
+    let a = c.args in
     let f = c.patch_image_fault in
     let next : ℕ = first_of (size_rows a.size a.patch.now) in
     c.size_fault.ensures

@@ -14,22 +14,26 @@ pub returns-then-bytes-ne-SLOT : goal.returns-then-bytes-ne-SLOT
 returns-then-bytes-ne-SLOT c = record { numbers = sym (info_length page_size c.args.bytes.now c.if-bytes-ne-SLOT.true) }
 
 pub returns-in-Unsound : goal.returns-in-Unsound
-returns-in-Unsound c = let bytes = c.args.bytes.now in
+returns-in-Unsound c =
+    let bytes = c.args.bytes.now in
     let is = sym c.slot_state.ensures ∙ ap state_numbers c.in-Unsound.is in
     record { numbers = sym (info_slot page_size bytes c.if-bytes-ne-SLOT.false is) }
 
 pub returns-in-Empty : goal.returns-in-Empty
-returns-in-Empty c = let bytes = c.args.bytes.now in
+returns-in-Empty c =
+    let bytes = c.args.bytes.now in
     let is = sym c.slot_state.ensures ∙ ap state_numbers c.in-Empty.is in
     record { numbers = sym (info_bare page_size bytes c.if-bytes-ne-SLOT.false 0 is refl) }
 
 pub returns-in-Full : goal.returns-in-Full
-returns-in-Full c = let bytes = c.args.bytes.now in
+returns-in-Full c =
+    let bytes = c.args.bytes.now in
     let is = sym c.slot_state.ensures ∙ ap state_numbers c.in-Full.is in
     record { numbers = sym (info_bare page_size bytes c.if-bytes-ne-SLOT.false 2 is refl) }
 
 pub returns-in-Unsound-check : goal.returns-in-Unsound-check
-returns-in-Unsound-check c = let payload = c.part in
+returns-in-Unsound-check c =
+    let payload = c.part in
     let bytes = c.args.bytes.now in
     let n = c.in-Patch.n in
     let is = sym c.slot_state.ensures ∙ ap state_numbers c.in-Patch.is in
@@ -41,7 +45,8 @@ returns-in-Unsound-check c = let payload = c.part in
     }
 
 pub returns-in-Sound : goal.returns-in-Sound
-returns-in-Sound c = let payload = c.part in
+returns-in-Sound c =
+    let payload = c.part in
     let bytes = c.args.bytes.now in
     let n = c.in-Patch.n in
     let is = sym c.slot_state.ensures ∙ ap state_numbers c.in-Patch.is in

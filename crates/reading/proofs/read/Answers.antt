@@ -30,7 +30,8 @@ opened c =
     c.in-Frame.size c.in-Frame.n c.in-Frame.m c.in-Frame.is
 
 pub returns-then-n-block : goal.returns-then-n-block
-returns-then-n-block c = let a = c.args in
+returns-then-n-block c =
+    let a = c.args in
     let o = opened (goal.at.returns-then-n-block c).In-Frame in
     let e : read_outcome page_size a.patch.now a.full.now a.block a.base.now a.page.now
     ≡ read_refused 5 0 a.page.now = read_block page_size a.patch.now a.full.now a.block a.base.now a.page.now
@@ -38,7 +39,8 @@ returns-then-n-block c = let a = c.args in
     record { numbers = rw e; bytes = rw e }
 
 pub read_block-requires : goal.read_block-requires
-read_block-requires c = let a = c.args in
+read_block-requires c =
+    let a = c.args in
     let o = opened (goal.at.read_block-requires c).In-Frame in
     let some : 0 < c.in-Frame.size = omega (arith, o.own) in record {
       page_lengths = (sym o.own, o.page_size_is, (some, omega (arith, o.own)));
@@ -47,7 +49,8 @@ read_block-requires c = let a = c.args in
 
 pub returns-then-base-eq0 : goal.returns-then-base-eq0
 unfolding zeros
-returns-then-base-eq0 c = let a = c.args in
+returns-then-base-eq0 c =
+    let a = c.args in
     let o = opened (goal.at.returns-then-base-eq0 c).In-Frame in
     let e : read_outcome page_size a.patch.now a.full.now a.block a.base.now a.page.now ≡ slot_outcome page_size a.patch.now a.full.now
     a.block (zeros page_size) a.page.now =
@@ -64,7 +67,8 @@ returns-then-base-eq0 c = let a = c.args in
     record { numbers = rw e w.numbers; bytes = rw e w.bytes }
 
 pub read_block-requires-in-Frame : goal.read_block-requires-in-Frame
-read_block-requires-in-Frame c = let a = c.args in
+read_block-requires-in-Frame c =
+    let a = c.args in
     let o = opened (goal.at.read_block-requires-in-Frame c).In-Frame in
     let some : 0 < c.in-Frame.size = omega (arith, o.own) in record {
       page_lengths = (o.base_size c.if-base-eq0.false, o.page_size_is, (some, omega (arith, o.own)));
@@ -72,7 +76,8 @@ read_block-requires-in-Frame c = let a = c.args in
     }
 
 pub returns-in-Refused : goal.returns-in-Refused
-returns-in-Refused c = let a = c.args in
+returns-in-Refused c =
+    let a = c.args in
     let r = c.in-Refused.r in
     let p = c.pages_fit-fit in
     let f = c.open in
@@ -84,7 +89,8 @@ returns-in-Refused c = let a = c.args in
     record { numbers = rw e; bytes = rw e }
 
 pub returns-else-base-eq0 : goal.returns-else-base-eq0
-returns-else-base-eq0 c = let a = c.args in
+returns-else-base-eq0 c =
+    let a = c.args in
     let o = opened (goal.at.returns-else-base-eq0 c).In-Frame in
     let e : read_outcome page_size a.patch.now a.full.now a.block a.base.now a.page.now ≡ slot_outcome page_size a.patch.now a.full.now
     a.block a.base.now a.page.now = read_slot page_size a.patch.now a.full.now a.block a.base.now a.page.now o.none

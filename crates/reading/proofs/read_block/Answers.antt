@@ -19,12 +19,13 @@ use Rattle.reading.proofs.read_block.Goals as goal
 
 pub returns-in-Unsound : goal.returns-in-Unsound
 unfolding slot_of
-returns-in-Unsound c = let a = c.args in
+returns-in-Unsound c =
+    let a = c.args in
     let s : List ℕ = slot_of a.patch.now a.block in
-    let same-slot : c.part-slot.result.now ≡ s = c.part-slot.ensures.bytes
+    let same_slot : c.part-slot.result.now ≡ s = c.part-slot.ensures.bytes
     ∙ ap (λ (k : ℕ). part k slot_size a.patch.now) c.slot_at.ensures in
     let numbers : state_numbers c.slot_state.result ≡ slot_numbers s = c.slot_state.ensures
-    ∙ ap (λ (l : List ℕ). slot_numbers l) same-slot in
+    ∙ ap (λ (l : List ℕ). slot_numbers l) same_slot in
     let e : slot_outcome a.size a.patch.now a.full.now a.block a.base.now a.page.now
     ≡ read_refused 6 0 a.page.now =
     slot_unsound a.size a.patch.now a.full.now a.block a.base.now a.page.now (sym numbers ∙ ap state_numbers c.in-Unsound.is) in
@@ -32,11 +33,12 @@ returns-in-Unsound c = let a = c.args in
 
 pub returns-in-Empty : goal.returns-in-Empty
 unfolding slot_of
-returns-in-Empty c = let a = c.args in
+returns-in-Empty c =
+    let a = c.args in
     let s : List ℕ = slot_of a.patch.now a.block in
-    let same-slot : c.part-slot.result.now ≡ s = c.part-slot.ensures.bytes ∙ ap (λ (k : ℕ). part k slot_size a.patch.now)
+    let same_slot : c.part-slot.result.now ≡ s = c.part-slot.ensures.bytes ∙ ap (λ (k : ℕ). part k slot_size a.patch.now)
     c.slot_at.ensures in
-    let numbers : state_numbers c.slot_state.result ≡ slot_numbers s = c.slot_state.ensures ∙ ap (λ (l : List ℕ). slot_numbers l) same-slot in
+    let numbers : state_numbers c.slot_state.result ≡ slot_numbers s = c.slot_state.ensures ∙ ap (λ (l : List ℕ). slot_numbers l) same_slot in
     let e : slot_outcome a.size a.patch.now a.full.now a.block a.base.now a.page.now
     ≡ read_done 0 (page_of a.size a.base.now) =
     slot_empty a.size a.patch.now a.full.now a.block a.base.now a.page.now (sym numbers
@@ -52,18 +54,19 @@ returns-in-Empty c = let a = c.args in
 
 pub returns-in-Patch : goal.returns-in-Patch
 unfolding slot_of payload_of
-returns-in-Patch c = let a = c.args in
+returns-in-Patch c =
+    let a = c.args in
     let s : List ℕ = slot_of a.patch.now a.block in
-    let same-slot : c.part-slot.result.now
+    let same_slot : c.part-slot.result.now
     ≡ s = c.part-slot.ensures.bytes
     ∙ ap (λ (k : ℕ). part k slot_size a.patch.now) c.slot_at.ensures in
     let numbers : state_numbers c.slot_state.result
     ≡ slot_numbers s = c.slot_state.ensures
-    ∙ ap (λ (l : List ℕ). slot_numbers l) same-slot in
+    ∙ ap (λ (l : List ℕ). slot_numbers l) same_slot in
     let n : ℕ = c.in-Patch.n in
     let told : slot_numbers s ≡ sound_slot 1 n = sym numbers ∙ ap state_numbers c.in-Patch.is in
     let payload : c.part.result.now ≡ payload_of s = c.part.ensures.bytes
-    ∙ ap (λ (l : List ℕ). part payload_at n l) same-slot ∙ ap (λ (k : ℕ). part payload_at k s) (sym (told_patch s n (sym told)).1) in
+    ∙ ap (λ (l : List ℕ). part payload_at n l) same_slot ∙ ap (λ (k : ℕ). part payload_at k s) (sym (told_patch s n (sym told)).1) in
     let lb : length a.base.now ≡ a.size = c.requires.page_lengths.0 in
     patch_read a.size a.patch.now a.full.now a.block a.base.now a.page.now n c.part.result.now
     c.read_patch.result c.read_patch.new.page told payload
@@ -73,12 +76,13 @@ returns-in-Patch c = let a = c.args in
 
 pub returns-in-Full : goal.returns-in-Full
 unfolding slot_of
-returns-in-Full c = let a = c.args in
+returns-in-Full c =
+    let a = c.args in
     let s : List ℕ = slot_of a.patch.now a.block in
-    let same-slot : c.part-slot.result.now ≡ s = c.part-slot.ensures.bytes
+    let same_slot : c.part-slot.result.now ≡ s = c.part-slot.ensures.bytes
     ∙ ap (λ (k : ℕ). part k slot_size a.patch.now) c.slot_at.ensures in
     let told : slot_numbers s ≡ sound_slot 2 0 =
-    sym (c.slot_state.ensures ∙ ap (λ (l : List ℕ). slot_numbers l) same-slot)
+    sym (c.slot_state.ensures ∙ ap (λ (l : List ℕ). slot_numbers l) same_slot)
     ∙ ap state_numbers c.in-Full.is in
     let r = c.read_place in
     kind_block a.size a.patch.now a.full.now a.block a.base.now a.page.now 2 0 r.result r.new.page told

@@ -13,14 +13,16 @@ use Prim.Native.Nat.{ℕ, ◌≤◌, ◌<◌}
 use Rattle.reading.proofs.read_place.Goals as goal
 
 pub returns-then-m-block : goal.returns-then-m-block
-returns-then-m-block c = let a = c.args in
+returns-then-m-block c =
+    let a = c.args in
     let none : pages_in a.size (length a.full.now) ≤ a.block = omega (arith, c.requires.full_area.0, c.if-m-block.true) in
     let e = le-ltb a.block (pages_in a.size (length a.full.now)) none in
     record { numbers = rw e; bytes = rw e }
 
 pub returns : goal.returns
 unfolding place_of
-returns c = let a = c.args in
+returns c =
+    let a = c.args in
     let w = c.part in
     let v = c.copy in
     let t = c.if-m-block in

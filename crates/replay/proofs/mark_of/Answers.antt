@@ -7,5 +7,6 @@ pub returns-in-Done : goal.returns-in-Done
 returns-in-Done c = rw c.in-Done.is
 
 pub returns-in-Refused : goal.returns-in-Refused
-returns-in-Refused c = let r = c.in-Refused.field-0 in
+returns-in-Refused c =
+    let r = c.in-Refused.field-0 in
     rw (c.in-Refused.is, ne_eqb (refusal_number r) 0 (refusal_some r))

@@ -8,7 +8,8 @@ pub loop-i-init : goal.loop-i-init
 loop-i-init c = (begin, refl, refl, refl)
 
 pub overflow_add-accepted : goal.overflow_add-accepted
-overflow_add-accepted c = let h = countable c.loop-i.invariant.0 (omega arith) c.turn-mark.ensures in
+overflow_add-accepted c =
+    let h = countable c.loop-i.invariant.0 (omega arith) c.turn-mark.ensures in
     record { fits = omega (arith, h, c.well_formed.1.1.0.0) }
 
 pub loop-i-preserved : goal.loop-i-preserved

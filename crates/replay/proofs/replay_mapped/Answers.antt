@@ -8,7 +8,8 @@ pub loop-i-init : goal.loop-i-init
 loop-i-init c = (begin, refl, refl, refl, refl)
 
 pub overflow_add-accepted : goal.overflow_add-accepted
-overflow_add-accepted c = let h = countable c.loop-i.invariant.0 (omega arith) c.turn_mapped-mark.ensures in
+overflow_add-accepted c =
+    let h = countable c.loop-i.invariant.0 (omega arith) c.turn_mapped-mark.ensures in
     record { fits = omega (arith, h, c.well_formed.1.1.1.0.0) }
 
 pub overflow_add-i : goal.overflow_add-i

@@ -6,7 +6,8 @@ use Rattle.replay.proofs.write_turn_mapped.Goals as goal
 
 pub slice_bounds-payload-end : goal.slice_bounds-payload-end
 unfolding zeros
-slice_bounds-payload-end c = let d = c.compare in
+slice_bounds-payload-end c =
+    let d = c.compare in
     omega (arith, used_fits d.ensures c.in-Done.is c.payload_length-used.ensures, d.auto.payload)
 
 pub returns-in-Refused : goal.returns-in-Refused
@@ -15,7 +16,8 @@ returns-in-Refused c = write_refused c.compare.ensures c.args.block _ c.in-Refus
 
 pub returns-in-Done : goal.returns-in-Done
 unfolding zeros
-returns-in-Done c = let d = c.compare.ensures in
+returns-in-Done c =
+    let d = c.compare.ensures in
     let e = c.in-Done.is in
     made_decided d e
     (carried_out_mapped c.carry_out_mapped-written.ensures

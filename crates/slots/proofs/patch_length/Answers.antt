@@ -24,18 +24,24 @@ pub overflow_add-n : goal.overflow_add-n
 overflow_add-n c = omega (arith, c.type_inv.slot 2, c.type_inv.slot 3)
 
 pub returns-then-n-gt-ROOM : goal.returns-then-n-gt-ROOM
-returns-then-n-gt-ROOM c = let s : List ℕ = c.args.slot.now in
+returns-then-n-gt-ROOM c =
+    let s : List ℕ = c.args.slot.now in
     let n : payload_length s ≡ get_or s 2 0 + 256 * get_or s 3 0 = length_at_is s c.requires.0 in
     rw (patch_over s (omega arith))
 
 pub returns-then-slot-ne-PATCH_FLAGS : goal.returns-then-slot-ne-PATCH_FLAGS
-returns-then-slot-ne-PATCH_FLAGS c = let s : List ℕ = c.args.slot.now in
+returns-then-slot-ne-PATCH_FLAGS c =
+    let s : List ℕ = c.args.slot.now in
     let known = c.type_inv.slot in
     let n : payload_length s ≡ get_or s 2 0 + 256 * get_or s 3 0 = length_at_is s c.requires.0 in
-    rw (patch_value s c.requires.0 c.requires.1 (omega (arith, known 2)) (omega (arith, known 3)) (omega arith), ne_eqb (get_or s 1 0) 1 c.if-slot-ne-PATCH_FLAGS.true)
+    rw (
+      patch_value s c.requires.0 c.requires.1 (omega (arith, known 2)) (omega (arith, known 3)) (omega arith),
+      ne_eqb (get_or s 1 0) 1 c.if-slot-ne-PATCH_FLAGS.true,
+    )
 
 pub returns-then-not-zero_part : goal.returns-then-not-zero_part
-returns-then-not-zero_part c = let s : List ℕ = c.args.slot.now in
+returns-then-not-zero_part c =
+    let s : List ℕ = c.args.slot.now in
     let known = c.type_inv.slot in
     let n : payload_length s ≡ get_or s 2 0 + 256 * get_or s 3 0 = length_at_is s c.requires.0 in
     let z = c.zero_part in
@@ -47,7 +53,8 @@ returns-then-not-zero_part c = let s : List ℕ = c.args.slot.now in
     )
 
 pub returns-then-not-zero_part-2 : goal.returns-then-not-zero_part-2
-returns-then-not-zero_part-2 c = let s : List ℕ = c.args.slot.now in
+returns-then-not-zero_part-2 c =
+    let s : List ℕ = c.args.slot.now in
     let known = c.type_inv.slot in
     let n : payload_length s ≡ get_or s 2 0 + 256 * get_or s 3 0 = length_at_is s c.requires.0 in
     let z = c.zero_part in
@@ -63,7 +70,8 @@ returns-then-not-zero_part-2 c = let s : List ℕ = c.args.slot.now in
     )
 
 pub returns : goal.returns
-returns c = let s : List ℕ = c.args.slot.now in
+returns c =
+    let s : List ℕ = c.args.slot.now in
     let known = c.type_inv.slot in
     let n : payload_length s ≡ get_or s 2 0 + 256 * get_or s 3 0 = length_at_is s c.requires.0 in
     let z = c.zero_part in

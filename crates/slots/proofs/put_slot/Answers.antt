@@ -15,13 +15,15 @@ pub returns-then-slot-ne-SLOT : goal.returns-then-slot-ne-SLOT
 returns-then-slot-ne-SLOT c = rw (ne_eqb (length c.args.slot.now) slot_size c.if-slot-ne-SLOT.true)
 
 pub returns-then-payload-gt-ROOM : goal.returns-then-payload-gt-ROOM
-returns-then-payload-gt-ROOM c = let s : List ℕ = c.args.slot.now in
+returns-then-payload-gt-ROOM c =
+    let s : List ℕ = c.args.slot.now in
     let p : List ℕ = c.args.payload.now in
     rw (lt-leb (length p) room c.if-payload-gt-ROOM.true, and-false (eqb (length s) slot_size))
 
 pub returns-in-Empty : goal.returns-in-Empty
 unfolding slot_image empty_slot
-returns-in-Empty c = let s : List ℕ = c.args.slot.now in
+returns-in-Empty c =
+    let s : List ℕ = c.args.slot.now in
     let p : List ℕ = c.args.payload.now in
     let told = c.in-Empty.is in
     let e : length s ≡ slot_size = c.if-slot-ne-SLOT.false in
@@ -30,7 +32,8 @@ returns-in-Empty c = let s : List ℕ = c.args.slot.now in
 
 pub returns-in-Patch : goal.returns-in-Patch
 unfolding slot_image
-returns-in-Patch c = let s : List ℕ = c.args.slot.now in
+returns-in-Patch c =
+    let s : List ℕ = c.args.slot.now in
     let p : List ℕ = c.args.payload.now in
     let told = c.in-Patch.is in
     let e : length s ≡ slot_size = c.if-slot-ne-SLOT.false in
@@ -39,7 +42,8 @@ returns-in-Patch c = let s : List ℕ = c.args.slot.now in
 
 pub returns-in-Full : goal.returns-in-Full
 unfolding slot_image
-returns-in-Full c = let s : List ℕ = c.args.slot.now in
+returns-in-Full c =
+    let s : List ℕ = c.args.slot.now in
     let p : List ℕ = c.args.payload.now in
     let told = c.in-Full.is in
     let e : length s ≡ slot_size = c.if-slot-ne-SLOT.false in

@@ -11,33 +11,38 @@ pub returns-then-slot-ne-SLOT : goal.returns-then-slot-ne-SLOT
 returns-then-slot-ne-SLOT c = sym (slot_short c.args.slot.now c.if-slot-ne-SLOT.true)
 
 pub returns-then-n-eq0 : goal.returns-then-n-eq0
-returns-then-n-eq0 c = let s : List ℕ = c.args.slot.now in
+returns-then-n-eq0 c =
+    let s : List ℕ = c.args.slot.now in
     let l : length s ≡ slot_size = c.if-slot-ne-SLOT.false in
     let p = c.patch_length-n in
     sym (slot_patch s l c.if-kind-eq-PATCH_KIND.true ∙ patch_none s (sym p.ensures ∙ c.if-n-eq0.true))
 
 pub returns-then-kind-eq-PATCH_KIND : goal.returns-then-kind-eq-PATCH_KIND
-returns-then-kind-eq-PATCH_KIND c = let s : List ℕ = c.args.slot.now in
+returns-then-kind-eq-PATCH_KIND c =
+    let s : List ℕ = c.args.slot.now in
     let l : length s ≡ slot_size = c.if-slot-ne-SLOT.false in
     let p = c.patch_length-n in
     sym (slot_patch s l c.if-kind-eq-PATCH_KIND.true ∙ patch_some s p.result c.if-n-eq0.false (sym p.ensures))
 
 pub returns-then-not-zero_part : goal.returns-then-not-zero_part
-returns-then-not-zero_part c = let s : List ℕ = c.args.slot.now in
+returns-then-not-zero_part c =
+    let s : List ℕ = c.args.slot.now in
     let l : length s ≡ slot_size = c.if-slot-ne-SLOT.false in
     let z = c.zero_part in
     rw (slot_other s l c.if-kind-eq-PATCH_KIND.false, (sym z.ensures ∙ c.if-not-zero_part.true))
 
 pub returns-then-kind-eq-EMPTY_KIND : goal.returns-then-kind-eq-EMPTY_KIND
 unfolding plain_numbers
-returns-then-kind-eq-EMPTY_KIND c = let s : List ℕ = c.args.slot.now in
+returns-then-kind-eq-EMPTY_KIND c =
+    let s : List ℕ = c.args.slot.now in
     let l : length s ≡ slot_size = c.if-slot-ne-SLOT.false in
     let z = c.zero_part in
     rw (slot_other s l c.if-kind-eq-PATCH_KIND.false, (sym z.ensures ∙ c.if-not-zero_part.false), eq-eqb (get_or s 0 0) 0 c.if-kind-eq-EMPTY_KIND.true)
 
 pub returns-then-kind-eq-FULL_KIND : goal.returns-then-kind-eq-FULL_KIND
 unfolding plain_numbers
-returns-then-kind-eq-FULL_KIND c = let s : List ℕ = c.args.slot.now in
+returns-then-kind-eq-FULL_KIND c =
+    let s : List ℕ = c.args.slot.now in
     let l : length s ≡ slot_size = c.if-slot-ne-SLOT.false in
     let z = c.zero_part in
     rw (
@@ -50,7 +55,8 @@ returns-then-kind-eq-FULL_KIND c = let s : List ℕ = c.args.slot.now in
 
 pub returns : goal.returns
 unfolding plain_numbers
-returns c = let s : List ℕ = c.args.slot.now in
+returns c =
+    let s : List ℕ = c.args.slot.now in
     let l : length s ≡ slot_size = c.if-slot-ne-SLOT.false in
     let z = c.zero_part in
     rw (

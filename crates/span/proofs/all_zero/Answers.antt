@@ -12,7 +12,8 @@ pub loop-at-init : goal.loop-at-init
 loop-at-init c = (search rules, rest_whole c.args.s.now)
 
 pub returns-then-bits_in-ne0 : goal.returns-then-bits_in-ne0
-returns-then-bits_in-ne0 c = let s : List ℕ = c.args.s.now in
+returns-then-bits_in-ne0 c =
+    let s : List ℕ = c.args.s.now in
     let l = c.loop-at in
     let bits = c.bits_in in
     sym
@@ -21,7 +22,8 @@ returns-then-bits_in-ne0 c = let s : List ℕ = c.args.s.now in
     ∙ ap (λ (t : Bool). t && rest_zero s (l.at + 256)) (ne_eqb bits.result 0 c.if-bits_in-ne0.true))
 
 pub loop-at-preserved : goal.loop-at-preserved
-loop-at-preserved c = let s : List ℕ = c.args.s.now in
+loop-at-preserved c =
+    let s : List ℕ = c.args.s.now in
     let l = c.loop-at in
     let bits = c.bits_in in (
       search rules,

@@ -12,11 +12,13 @@ use borrow.Author.Rules.{rules}
 use Rattle.span.proofs.copy.Goals as goal
 
 pub loop-at-init : goal.loop-at-init
-loop-at-init c = let d : List ℕ = c.args.dst.now in
+loop-at-init c =
+    let d : List ℕ = c.args.dst.now in
     (search rules, refl, sym (splice_none d 0 (omega arith)))
 
 pub loop-at-preserved : goal.loop-at-preserved
-loop-at-preserved c = let a = c.args in
+loop-at-preserved c =
+    let a = c.args in
     let l = c.loop-at in
     let bulk = c.copy_bulk in
     let n : ℕ = l.at + 8192 - l.at in
@@ -32,7 +34,8 @@ loop-at-preserved c = let a = c.args in
     )
 
 pub returns : goal.returns
-returns c = let a = c.args in
+returns c =
+    let a = c.args in
     let l = c.loop-at in
     let end : ℕ = c.shorter-end.result in
     let n : ℕ = end - l.at in

@@ -12,12 +12,14 @@ use Rattle.span.proofs.fill.Goals as goal
 
 -- src/lib.rt:48:5
 pub loop-at-init : goal.loop-at-init
-loop-at-init c = let d : List ℕ = c.args.dst.now in
+loop-at-init c =
+    let d : List ℕ = c.args.dst.now in
     (search rules, search rules, refl, sym (ap (λ (l : List ℕ). splice d 0 l) zeros_nil ∙ splice_none d 0 (omega arith)))
 
 -- src/lib.rt:48:5
 pub loop-at-preserved : goal.loop-at-preserved
-loop-at-preserved c = let a = c.args in
+loop-at-preserved c =
+    let a = c.args in
     let l = c.loop-at in
     let part = c.clear in
     let n : ℕ = l.at + 4096 - l.at in
@@ -32,7 +34,8 @@ loop-at-preserved c = let a = c.args in
 
 -- src/lib.rt:43:1
 pub returns : goal.returns
-returns c = let a = c.args in
+returns c =
+    let a = c.args in
     let l = c.loop-at in
     let part = c.clear-2 in
     let d : List ℕ = a.dst.now in

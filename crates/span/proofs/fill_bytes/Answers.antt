@@ -13,11 +13,13 @@ pub loop-i-init : goal.loop-i-init
 loop-i-init c = (search rules, refl, sym (ap (λ (l : List ℕ). splice c.args.dst.now 0 l) zeros_nil ∙ splice_none c.args.dst.now 0 (search rules)))
 
 pub loop-i-preserved : goal.loop-i-preserved
-loop-i-preserved c = let l = c.loop-i in
+loop-i-preserved c =
+    let l = c.loop-i in
     (search rules, search rules, filled c.args.dst.now l.dst l.i (search rules) l.invariant.2)
 
 pub returns : goal.returns
-returns c = let d : List ℕ = c.args.dst.now in
+returns c =
+    let d : List ℕ = c.args.dst.now in
     let l = c.loop-i in
     let e : l.i ≡ length d = omega arith in
     l.invariant.2 ∙ ap (λ (k : ℕ). splice d 0 (zeros k)) e ∙ splice_whole d (zeros (length d)) (zeros_length (length d))

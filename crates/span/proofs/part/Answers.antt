@@ -8,14 +8,16 @@ use Rattle.span.specs.Laws.{part_past, part_clamped}
 use Rattle.span.proofs.part.Goals as goal
 
 pub returns-then-s-at : goal.returns-then-s-at
-returns-then-s-at c = let a = c.args in record {
-  bytes = sym (part_past a.at a.n a.s.now (omega arith));
-  place = (refl, rw (le-leb (length a.s.now) a.at (omega arith)) (omega arith));
-}
+returns-then-s-at c =
+    let a = c.args in record {
+      bytes = sym (part_past a.at a.n a.s.now (omega arith));
+      place = (refl, rw (le-leb (length a.s.now) a.at (omega arith)) (omega arith));
+    }
 
 pub returns : goal.returns
 unfolding part
-returns c = let a = c.args in
+returns c =
+    let a = c.args in
     let e : a.at + c.shorter.result - a.at ≡ min a.n (length a.s.now - a.at) = omega arith in record {
       bytes = ap (λ (k : ℕ). take k (drop a.at a.s.now)) e ∙ part_clamped a.at a.n a.s.now;
       place = (refl, rw (lt-leb (length a.s.now) a.at (omega arith)) (omega arith));

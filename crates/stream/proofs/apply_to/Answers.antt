@@ -13,14 +13,16 @@ use borrow.Author.Rules.{rules}
 use Rattle.stream.proofs.apply_to.Goals as goal
 
 pub returns-in-Unsound : goal.returns-in-Unsound
-returns-in-Unsound c = let a = c.args in
+returns-in-Unsound c =
+    let a = c.args in
     let k : ℕ = reach (length a.page.now) in
     applies_unsound k a.base.now a.payload.now a.page.now c.in-Unsound.offset
     (subst (λ (r : Checked). Judges k a.payload.now r) c.in-Unsound.is
     (judged k a.payload.now c.check.result c.check.ensures))
 
 pub returns-in-Sound : goal.returns-in-Sound
-returns-in-Sound c = let a = c.args in
+returns-in-Sound c =
+    let a = c.args in
     let k : ℕ = reach (length a.page.now) in
     let e : ℕ = c.in-Sound.entries in
     let l : ℤ = c.in-Sound.last in

@@ -16,14 +16,16 @@ use Rattle.stream.specs.Laws.{patch_fits_at}
 use Rattle.stream.proofs.compare_to.Goals as goal
 
 pub slice_bounds-copy-end : goal.slice_bounds-copy-end
-slice_bounds-copy-end c = let d = c.stream_of-d in
+slice_bounds-copy-end c =
+    let d = c.stream_of-d in
     let e : 1 ≡ kind_for d.result.length = sym (ap kind_number c.in-Patch.is)
     ∙ c.kind_for.ensures in
     omega (arith, patch_fits_at d.result.length e, d.auto.room)
 
 pub returns-in-Empty : goal.returns-in-Empty
 unfolding zeros
-returns-in-Empty c = let a = c.args in
+returns-in-Empty c =
+    let a = c.args in
     let d = c.stream_of-d in
     let e : 0 ≡ kind_for d.result.length = sym (ap kind_number c.in-Empty.is)
     ∙ c.kind_for.ensures in
@@ -34,7 +36,8 @@ returns-in-Empty c = let a = c.args in
 
 pub returns-in-Full : goal.returns-in-Full
 unfolding zeros
-returns-in-Full c = let a = c.args in
+returns-in-Full c =
+    let a = c.args in
     let d = c.stream_of-d in
     let e : 2 ≡ kind_for d.result.length = sym (ap kind_number c.in-Full.is)
     ∙ c.kind_for.ensures in
@@ -45,7 +48,8 @@ returns-in-Full c = let a = c.args in
 
 pub returns-in-Patch : goal.returns-in-Patch
 unfolding zeros part
-returns-in-Patch c = let a = c.args in
+returns-in-Patch c =
+    let a = c.args in
     let d = c.stream_of-d in
     let e : 1 ≡ kind_for d.result.length = sym (ap kind_number c.in-Patch.is)
     ∙ c.kind_for.ensures in

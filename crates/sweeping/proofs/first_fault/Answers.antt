@@ -9,12 +9,14 @@ use Rattle.sweeping.specs.Parts.{slot_fault}
 use Rattle.sweeping.proofs.first_fault.Goals as goal
 
 pub loop-block-init : goal.loop-block-init
-loop-block-init c = let a = c.args in
+loop-block-init c =
+    let a = c.args in
     let q : a.n ≡ a.n - 0 = omega arith in
     (omega arith, ap (λ (k : ℕ). first_fault (slot_fault a.m a.patch.now) 0 k) q)
 
 pub returns-in-Found : goal.returns-in-Found
-returns-in-Found c = let a = c.args in
+returns-in-Found c =
+    let a = c.args in
     let l = c.loop-block in
     let r = c.in-Found.refusal in
     let e = sym c.slot_fault.ensures ∙ ap fault_number c.in-Found.is in
@@ -22,7 +24,8 @@ returns-in-Found c = let a = c.args in
     sym (ap (λ (x : BlockFault). x.number) (l.invariant.1 ∙ here (omega (arith, c.loop-block-test.true)) e (refusal_some r)))
 
 pub loop-block-preserved : goal.loop-block-preserved
-loop-block-preserved c = let a = c.args in
+loop-block-preserved c =
+    let a = c.args in
     let l = c.loop-block in
     let e = sym c.slot_fault.ensures ∙ ap fault_number c.in-Nothing.is in (
       omega (arith, c.loop-block-test.true),
@@ -30,7 +33,8 @@ loop-block-preserved c = let a = c.args in
     )
 
 pub returns : goal.returns
-returns c = let a = c.args in
+returns c =
+    let a = c.args in
     let l = c.loop-block in
     sym
     (ap (λ (x : BlockFault). x.number)

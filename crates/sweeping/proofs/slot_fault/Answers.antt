@@ -17,23 +17,28 @@ state c x q =
     c.slot_state.ensures q
 
 pub returns-then-m-block : goal.returns-then-m-block
-returns-then-m-block c = let a = c.args in
+returns-then-m-block c =
+    let a = c.args in
     let full = state (goal.at.returns-then-m-block c).After-slot_state _ c.in-Full.is in
     fault_none a.m a.patch.now a.block full (omega (arith, c.if-m-block.true))
 
 pub returns-in-Unsound : goal.returns-in-Unsound
-returns-in-Unsound c = let a = c.args in
+returns-in-Unsound c =
+    let a = c.args in
     fault_unsound a.m a.patch.now a.block (state (goal.at.returns-in-Unsound c).After-slot_state _ c.in-Unsound.is)
 
 pub returns-else-m-block : goal.returns-else-m-block
-returns-else-m-block c = let a = c.args in
+returns-else-m-block c =
+    let a = c.args in
     let full = state (goal.at.returns-else-m-block c).After-slot_state _ c.in-Full.is in
     fault_full a.m a.patch.now a.block full (omega (arith, c.if-m-block.false))
 
 pub returns-in-Patch : goal.returns-in-Patch
-returns-in-Patch c = let a = c.args in
+returns-in-Patch c =
+    let a = c.args in
     fault_other a.m a.patch.now a.block _ _ (state (goal.at.returns-in-Patch c).After-slot_state _ c.in-Patch.is) refl
 
 pub returns-in-Empty : goal.returns-in-Empty
-returns-in-Empty c = let a = c.args in
+returns-in-Empty c =
+    let a = c.args in
     fault_other a.m a.patch.now a.block _ _ (state (goal.at.returns-in-Empty c).After-slot_state _ c.in-Empty.is) refl

@@ -6,7 +6,8 @@ pub returns-then-is_full : goal.returns-then-is_full
 returns-then-is_full c = rw (sym c.is_full.ensures ∙ c.if-is_full.true)
 
 pub returns : goal.returns
-returns c = let a = c.args in
+returns c =
+    let a = c.args in
     rw (sym c.is_full.ensures ∙ c.if-is_full.false)
     (place_filled a.size a.full.now a.block c.page_at-at.result c.fill.new.dst c.page_at-at.ensures c.requires.place_within
     c.fill.ensures)

@@ -9,11 +9,13 @@ use borrow.Author.Rules.{rules}
 use Rattle.sweeping.proofs.sweep_places.Goals as goal
 
 pub loop-block-init : goal.loop-block-init
-loop-block-init c = let a = c.args in
+loop-block-init c =
+    let a = c.args in
     (omega arith, refl, sym (zeroed_none (marked a.patch.now) a.size a.full.now))
 
 pub sweep_place-requires : goal.sweep_place-requires
-sweep_place-requires c = let l = c.loop-block in
+sweep_place-requires c =
+    let l = c.loop-block in
     let below : l.block < c.args.m = omega (arith, c.loop-block-test.true) in
     record {
       slot_within = omega (arith, c.requires.0);
@@ -21,7 +23,8 @@ sweep_place-requires c = let l = c.loop-block in
     }
 
 pub loop-block-preserved : goal.loop-block-preserved
-loop-block-preserved c = let l = c.loop-block in
+loop-block-preserved c =
+    let l = c.loop-block in
     let a = c.args in
     let now = c.sweep_place in (
       omega (arith, c.loop-block-test.true),
@@ -30,7 +33,8 @@ loop-block-preserved c = let l = c.loop-block in
     )
 
 pub returns : goal.returns
-returns c = let l = c.loop-block in
+returns c =
+    let l = c.loop-block in
     let a = c.args in
     let end : l.block ≡ a.m = omega (arith, c.loop-block-test.false) in
     l.invariant.2 ∙ ap (λ (k : ℕ). zeroed_but (marked a.patch.now) a.size k a.full.now) end

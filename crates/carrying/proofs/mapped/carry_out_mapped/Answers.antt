@@ -18,13 +18,16 @@ long c =
     (c.map_bytes-needed.ensures ∙ ap map_bytes c.blocks-2.ensures)
 
 pub returns-in-Refused : goal.returns-in-Refused
-returns-in-Refused c = let a = c.args in
+returns-in-Refused c =
+    let a = c.args in
     mapped_refused page_size _ a.patch.now a.full.now a.map.now a.block
     (record { kind = a.kind; payload = a.payload.now; page = a.page.now })
     a.stores _ _ _ (long (goal.at.returns-in-Refused c).After-carry_with) c.carry_with.ensures _ c.in-Refused.is
 
 pub returns-in-Done : goal.returns-in-Done
-returns-in-Done c = let a = c.args in
+returns-in-Done c =
+    let g = goal.at.returns-in-Done c in
+    let a = c.args in
     mapped_done page_size _ a.patch.now a.full.now a.map.now a.block
-    (record { kind = a.kind; payload = a.payload.now; page = a.page.now }) a.stores _ _ _ (long (goal.at.returns-in-Done c).After-carry_with) c.carry_with.ensures _ _ _
+    (record { kind = a.kind; payload = a.payload.now; page = a.page.now }) a.stores _ _ _ (long g.After-carry_with) c.carry_with.ensures _ _ _
     c.in-Done.is c.keep_pair.ensures

@@ -8,15 +8,17 @@ use native.Mathlib.Omega.{arith}
 use Prim.Native.Nat.{ℕ, ◌+◌, ◌≤◌, ◌<◌}
 use Rattle.carrying.proofs.stores.store_place.Goals as goal
 
-other-kind : {k j : ℕ} → k ≡ j → (j ≡ 2 → ⊥) → k ≡ 2 → ⊥
-other-kind e h q = h (sym e ∙ q)
+other_kind : {k j : ℕ} → k ≡ j → (j ≡ 2 → ⊥) → k ≡ 2 → ⊥
+other_kind e h q = h (sym e ∙ q)
 
 pub returns-then-m-block : goal.returns-then-m-block
-returns-then-m-block c = let a = c.args in
+returns-then-m-block c =
+    let a = c.args in
     nothing_stored a.size a.full.now a.block (kind_number a.kind) a.page.now (omega (arith, c.requires.full_area.0, c.if-m-block.true))
 
 pub overflow_add-end : goal.overflow_add-end
-overflow_add-end c = let a = c.args in
+overflow_add-end c =
+    let a = c.args in
     let below : a.block < pages_in a.size (length a.full.now) = omega
     (arith, c.requires.full_area.0, c.if-m-block.false) in
     let fits : page_at a.size a.block + a.size ≤ length a.full.now = c.requires.full_area.1 a.block below in
@@ -24,7 +26,8 @@ overflow_add-end c = let a = c.args in
     omega arith
 
 pub slice_bounds-fill-end : goal.slice_bounds-fill-end
-slice_bounds-fill-end c = let a = c.args in
+slice_bounds-fill-end c =
+    let a = c.args in
     let below : a.block < pages_in a.size (length a.full.now) = omega
     (arith, c.requires.full_area.0, c.if-m-block.false) in
     let fits : page_at a.size a.block + a.size ≤ length a.full.now = c.requires.full_area.1 a.block below in
@@ -32,7 +35,8 @@ slice_bounds-fill-end c = let a = c.args in
     omega arith
 
 pub slice_bounds-fill-end-in-Patch : goal.slice_bounds-fill-end-in-Patch
-slice_bounds-fill-end-in-Patch c = let a = c.args in
+slice_bounds-fill-end-in-Patch c =
+    let a = c.args in
     let below : a.block < pages_in a.size (length a.full.now) = omega
     (arith, c.requires.full_area.0, c.if-m-block.false) in
     let fits : page_at a.size a.block + a.size ≤ length a.full.now = c.requires.full_area.1 a.block below in
@@ -40,7 +44,8 @@ slice_bounds-fill-end-in-Patch c = let a = c.args in
     omega arith
 
 pub slice_bounds-copy-end : goal.slice_bounds-copy-end
-slice_bounds-copy-end c = let a = c.args in
+slice_bounds-copy-end c =
+    let a = c.args in
     let below : a.block < pages_in a.size (length a.full.now) = omega
     (arith, c.requires.full_area.0, c.if-m-block.false) in
     let fits : page_at a.size a.block + a.size ≤ length a.full.now = c.requires.full_area.1 a.block below in
@@ -48,7 +53,8 @@ slice_bounds-copy-end c = let a = c.args in
     omega arith
 
 pub returns-in-Empty : goal.returns-in-Empty
-returns-in-Empty c = let a = c.args in
+returns-in-Empty c =
+    let a = c.args in
     let below : a.block < pages_in a.size (length a.full.now) = omega (
       arith,
       c.requires.full_area.0,
@@ -58,10 +64,11 @@ returns-in-Empty c = let a = c.args in
     let e : c.page_at-at.result ≡ page_at a.size a.block = c.page_at-at.ensures in
     zeros_stored a.size a.full.now a.block c.page_at-at.result a.page.now
     c.fill.new.dst e below fits (kind_number a.kind)
-    (other-kind (ap kind_number c.in-Empty.is) (omega arith)) c.fill.ensures
+    (other_kind (ap kind_number c.in-Empty.is) (omega arith)) c.fill.ensures
 
 pub returns-in-Patch : goal.returns-in-Patch
-returns-in-Patch c = let a = c.args in
+returns-in-Patch c =
+    let a = c.args in
     let below : a.block < pages_in a.size (length a.full.now) = omega (
       arith,
       c.requires.full_area.0,
@@ -71,10 +78,11 @@ returns-in-Patch c = let a = c.args in
     let e : c.page_at-at.result ≡ page_at a.size a.block = c.page_at-at.ensures in
     zeros_stored a.size a.full.now a.block c.page_at-at.result a.page.now
     c.fill-in-Patch.new.dst e below fits (kind_number a.kind)
-    (other-kind (ap kind_number c.in-Patch.is) (omega arith)) c.fill-in-Patch.ensures
+    (other_kind (ap kind_number c.in-Patch.is) (omega arith)) c.fill-in-Patch.ensures
 
 pub returns-in-Full : goal.returns-in-Full
-returns-in-Full c = let a = c.args in
+returns-in-Full c =
+    let a = c.args in
     let below : a.block < pages_in a.size (length a.full.now) = omega (
       arith,
       c.requires.full_area.0,

@@ -22,7 +22,8 @@ pub overflow_sub-result-2 : goal.overflow_sub-result-2
 overflow_sub-result-2 c = under_fits (c.args.size - 1) (omega arith)
 
 pub returns : goal.returns
-returns c = let size = c.args.size in
+returns c =
+    let size = c.args.size in
     to_z-of_z w32 (negsuc 0 -ℤ to_z w32 (size - 1)) (under_fits (size - 1) (omega arith))
     ∙ under (size - 1) (omega arith)
     ∙ sym (below_is size (omega arith) (omega arith))

@@ -5,7 +5,8 @@ use borrow.Author.Rules.{rules}
 use Rattle.cases.proofs.fields.number.Goals as goal
 
 pub loop-at-preserved : goal.loop-at-preserved
-loop-at-preserved c = let text = c.args.text.now in
+loop-at-preserved c =
+    let text = c.args.text.now in
     let here = c.loop-at in
     (search rules, here.invariant.1 ∙ decimal_turn text here.value here.at c.grown-value.result (omega arith) c.grown-value.ensures)
 

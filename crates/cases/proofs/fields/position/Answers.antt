@@ -5,7 +5,8 @@ use Rattle.cases.proofs.Signs.{said_below, said_above}
 use Rattle.cases.proofs.fields.position.Goals as goal
 
 pub returns-then-first-eq45 : goal.returns-then-first-eq45
-returns-then-first-eq45 c = let r = c.below in
+returns-then-first-eq45 c =
+    let r = c.below in
     let size = c.number-size in
     let first = c.first in
     to_z-of_z w32 r.result (record { sfits = r.type_inv })
@@ -13,7 +14,8 @@ returns-then-first-eq45 c = let r = c.below in
     size.ensures c.if-first-eq45.true r.ensures
 
 pub returns : goal.returns
-returns c = let r = c.held in
+returns c =
+    let r = c.held in
     let size = c.number-size in
     let first = c.first in
     to_z-of_z w32 r.result (record { sfits = r.type_inv })

@@ -20,7 +20,8 @@ pub scan-requires : goal.scan-requires
 scan-requires c = (frame (goal.at.scan-requires c).In-Frame).0
 
 pub returns-in-Refused : goal.returns-in-Refused
-returns-in-Refused c = let a = c.args in
+returns-in-Refused c =
+    let a = c.args in
     record { numbers = alone_refused page_size a.patch.now c.open.result c.open.ensures _ c.in-Refused.is }
 
 pub returns-in-Frame : goal.returns-in-Frame

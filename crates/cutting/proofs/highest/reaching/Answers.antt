@@ -18,19 +18,23 @@ state c x q =
     c.slot_state.ensures q
 
 pub returns-in-Unsound : goal.returns-in-Unsound
-returns-in-Unsound c = let a = c.args in
+returns-in-Unsound c =
+    let a = c.args in
     slot_unsound a.patch.now a.block a.before (state (goal.at.returns-in-Unsound c).After-slot_state _ c.in-Unsound.is)
 
 pub returns-in-Empty : goal.returns-in-Empty
-returns-in-Empty c = let a = c.args in
+returns-in-Empty c =
+    let a = c.args in
     slot_empty a.patch.now a.block a.before (state (goal.at.returns-in-Empty c).After-slot_state _ c.in-Empty.is)
 
 pub returns-in-Patch : goal.returns-in-Patch
-returns-in-Patch c = let a = c.args in
+returns-in-Patch c =
+    let a = c.args in
     ap (λ (k : ℕ). record { number = 0; blocks = k }) (add-one a.block)
     ∙ slot_used a.patch.now a.block a.before _ _ (state (goal.at.returns-in-Patch c).After-slot_state _ c.in-Patch.is)
 
 pub returns-in-Full : goal.returns-in-Full
-returns-in-Full c = let a = c.args in
+returns-in-Full c =
+    let a = c.args in
     ap (λ (k : ℕ). record { number = 0; blocks = k }) (add-one a.block)
     ∙ slot_used a.patch.now a.block a.before _ _ (state (goal.at.returns-in-Full c).After-slot_state _ c.in-Full.is)

@@ -27,7 +27,8 @@ told c =
     (c.map_bytes-needed.ensures ∙ ap map_bytes c.blocks-n.ensures))
 
 pub returns-in-Refused : goal.returns-in-Refused
-returns-in-Refused c = let a = c.args in
+returns-in-Refused c =
+    let a = c.args in
     let w = c.cut_with.ensures in
     let e = told (goal.at.returns-in-Refused c).After-cut_with in
     let numbers = sym (ap shortened_number c.in-Refused.is) ∙ w.numbers ∙ ap (λ (o : CutOutcome). o.number) e in
@@ -41,7 +42,8 @@ returns-in-Refused c = let a = c.args in
     }
 
 pub returns-in-Done : goal.returns-in-Done
-returns-in-Done c = let a = c.args in
+returns-in-Done c =
+    let a = c.args in
     let n = c.blocks-n in
     let w = c.cut_with.ensures in
     let e = told (goal.at.returns-in-Done c).After-cut_with in

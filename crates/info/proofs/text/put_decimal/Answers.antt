@@ -2,7 +2,8 @@ use Rattle.info.proofs.Words.{number_put}
 use Rattle.info.proofs.text.put_decimal.Goals as goal
 
 pub returns : goal.returns
-returns c = let a = c.args in
+returns c =
+    let a = c.args in
     let told = c.decimal-k in
     let put = c.put_word in
     let q =

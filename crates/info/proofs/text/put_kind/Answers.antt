@@ -7,7 +7,8 @@ use Rattle.info.proofs.text.put_kind.Goals as goal
 
 pub returns-in-Empty : goal.returns-in-Empty
 unfolding kind_line
-returns-in-Empty c = let a = c.args in
+returns-in-Empty c =
+    let a = c.args in
     let put = c.put_word in
     let line : Put a.out.now 0 (ascii "kind empty\n") put.result put.new.out = put.ensures in
     record {
@@ -17,7 +18,8 @@ returns-in-Empty c = let a = c.args in
 
 pub returns-in-Patch : goal.returns-in-Patch
 unfolding kind_line
-returns-in-Patch c = let a = c.args in
+returns-in-Patch c =
+    let a = c.args in
     let put = c.put_word-in-Patch in
     let line : Put a.out.now 0 (ascii "kind patch\n") put.result put.new.out = put.ensures in
     record {
@@ -27,7 +29,8 @@ returns-in-Patch c = let a = c.args in
 
 pub returns-in-Full : goal.returns-in-Full
 unfolding kind_line
-returns-in-Full c = let a = c.args in
+returns-in-Full c =
+    let a = c.args in
     let put = c.put_word-in-Full in
     let line : Put a.out.now 0 (ascii "kind full\n") put.result put.new.out = put.ensures in
     record {

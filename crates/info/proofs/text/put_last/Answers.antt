@@ -8,20 +8,23 @@ use native.Mathlib.Omega.{arith}
 use Rattle.info.proofs.text.put_last.Goals as goal
 
 pub returns-then-last-lt0 : goal.returns-then-last-lt0
-returns-then-last-lt0 c = let put = c.put_word in
+returns-then-last-lt0 c =
+    let put = c.put_word in
     let l : ℤ = c.args.last in record {
       bytes = last_none (to_z w32 (of_z w32 l)) l (to_z-of_z w32 l c.ranges.last) c.if-last-lt0.true put.ensures;
       short = omega (arith, put.ensures.next);
     }
 
 pub overflow_cast-last : goal.overflow_cast-last
-overflow_cast-last c = let l : ℤ = c.args.last in
+overflow_cast-last c =
+    let l : ℤ = c.args.last in
     let r : ℤ = to_z w32 (of_z w32 l) in
     let left = c.if-last-lt0.false in
     (not_below r left, read_fits r l (to_z-of_z w32 l c.ranges.last) c.ranges.last left)
 
 pub returns : goal.returns
-returns c = let put = c.put_line in
+returns c =
+    let put = c.put_line in
     let l : ℤ = c.args.last in record {
       bytes = last_some (to_z w32 (of_z w32 l)) l (to_z-of_z w32 l c.ranges.last) c.if-last-lt0.false put.ensures.bytes;
       short = omega (arith, put.ensures.short);

@@ -7,7 +7,8 @@ use Rattle.info.proofs.text.put_line.Goals as goal
 
 pub returns : goal.returns
 unfolding number_line
-returns c = let a = c.args in
+returns c =
+    let a = c.args in
     let p = c.put_word-a.ensures in
     let q = c.put_decimal-b.ensures in
     let r = c.put_word.ensures in

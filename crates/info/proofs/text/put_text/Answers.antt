@@ -8,7 +8,8 @@ use borrow.Author.Rules.{rules}
 use Rattle.info.proofs.text.put_text.Goals as goal
 
 pub returns-in-Refused : goal.returns-in-Refused
-returns-in-Refused c = let told = c.in-Refused.is in
+returns-in-Refused c =
+    let told = c.in-Refused.is in
     let put = c.put_line in
     record {
       bytes = refused_put told c.refusal_number.ensures put.ensures.bytes;
@@ -16,7 +17,8 @@ returns-in-Refused c = let told = c.in-Refused.is in
     }
 
 pub returns-in-Slot : goal.returns-in-Slot
-returns-in-Slot c = let l : ℤ = c.in-Slot.last in
+returns-in-Slot c =
+    let l : ℤ = c.in-Slot.last in
     let fits : SFits w32 l = search rules in record {
       bytes = slot_put c.put_kind-a.new.out c.put_line-b.new.out c.put_line-c.new.out
           c.put_kind-a.result c.put_line-b.result c.put_line-c.result

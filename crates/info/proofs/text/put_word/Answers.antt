@@ -5,11 +5,13 @@ use borrow.Author.Rules.{rules}
 use Rattle.info.proofs.text.put_word.Goals as goal
 
 pub loop-i-preserved : goal.loop-i-preserved
-loop-i-preserved c = let a = c.args in
+loop-i-preserved c =
+    let a = c.args in
     let l = c.loop-i in
     (search rules, search rules, c.put.ensures ∙ word_turn a.out.now l.out a.word.now a.at l.i (omega arith) l.invariant.2)
 
 pub returns : goal.returns
-returns c = let a = c.args in
+returns c =
+    let a = c.args in
     let l = c.loop-i in
     word_whole a.out.now l.out a.word.now a.at l.i (omega arith) l.invariant.2

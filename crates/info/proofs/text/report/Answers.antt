@@ -6,7 +6,8 @@ use native.Mathlib.Omega.{arith}
 use Rattle.info.proofs.text.report.Goals as goal
 
 pub returns : goal.returns
-returns c = let a = c.args in
+returns c =
+    let a = c.args in
     let put = c.put_text in
     let told = c.inspect.ensures.numbers in
     record {

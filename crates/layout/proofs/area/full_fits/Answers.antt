@@ -14,12 +14,14 @@ returns-then-full_length-eq0 c = rw (eq-eqb c.args.full_length 0 c.if-full_lengt
 
 pub returns-then-full_length-lt-FULL_HEAD : goal.returns-then-full_length-lt-FULL_HEAD
 unfolding full_fits
-returns-then-full_length-lt-FULL_HEAD c = let a = c.args in
+returns-then-full_length-lt-FULL_HEAD c =
+    let a = c.args in
     rw (ne_eqb a.full_length 0 c.if-full_length-eq0.false, ne_eqb a.full_length (page_at a.size (pages_in a.size a.full_length)) (λ q. omega arith))
 
 pub returns-then-n-m : goal.returns-then-n-m
 unfolding full_fits
-returns-then-n-m c = let a = c.args in
+returns-then-n-m c =
+    let a = c.args in
     let l : ℕ = a.full_length in
     let m : ℕ = pages_in a.size l in
     let f : leb m a.n ≡ false = lt-leb m a.n (omega (arith, c.pages-m.ensures)) in
@@ -27,7 +29,8 @@ returns-then-n-m c = let a = c.args in
 
 pub returns : goal.returns
 unfolding full_fits
-returns c = let a = c.args in
+returns c =
+    let a = c.args in
     let l : ℕ = a.full_length in
     let m : ℕ = pages_in a.size l in
     let f : leb m a.n ≡ true = le-leb m a.n (omega (arith, c.pages-m.ensures)) in

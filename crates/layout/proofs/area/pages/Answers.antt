@@ -13,7 +13,8 @@ returns-then-size-eq0 c = sym (ap (λ (k : ℕ). (c.args.full_length - full_head
 
 pub returns-then-full_length-lt-FULL_HEAD : goal.returns-then-full_length-lt-FULL_HEAD
 unfolding pages_in
-returns-then-full_length-lt-FULL_HEAD c = let a = c.args in
+returns-then-full_length-lt-FULL_HEAD c =
+    let a = c.args in
     let q : a.full_length - full_head ≡ 0 = omega arith in
     sym (ap (λ (k : ℕ). k / a.size) q ∙ zero-div a.size)
 

@@ -11,12 +11,14 @@ use Rattle.layout.proofs.area.patch_fits.Goals as goal
 
 pub returns-then-patch_length-lt-PATCH_HEAD : goal.returns-then-patch_length-lt-PATCH_HEAD
 unfolding patch_fits blocks_in
-returns-then-patch_length-lt-PATCH_HEAD c = let l : ℕ = c.args.patch_length in
+returns-then-patch_length-lt-PATCH_HEAD c =
+    let l : ℕ = c.args.patch_length in
     rw (ne_eqb l (slot_at (blocks_in l)) (λ q. omega arith))
 
 pub returns-then-most_blocks-n : goal.returns-then-most_blocks-n
 unfolding patch_fits
-returns-then-most_blocks-n c = let a = c.args in
+returns-then-most_blocks-n c =
+    let a = c.args in
     let l : ℕ = a.patch_length in
     let f : leb (blocks_in l) (blocks_at_most a.size) ≡ false =
     lt-leb (blocks_in l) (blocks_at_most a.size) (omega (arith, c.most_blocks.ensures, c.blocks-n.ensures)) in
@@ -27,7 +29,8 @@ overflow_cast-n c = omega (arith, most_blocks c.args.size, c.most_blocks.ensures
 
 pub returns : goal.returns
 unfolding patch_fits
-returns c = let a = c.args in
+returns c =
+    let a = c.args in
     let l : ℕ = a.patch_length in
     let f : leb (blocks_in l) (blocks_at_most a.size) ≡ true =
     le-leb (blocks_in l) (blocks_at_most a.size) (omega (arith, c.most_blocks.ensures, c.blocks-n.ensures)) in

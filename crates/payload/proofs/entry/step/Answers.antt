@@ -9,23 +9,28 @@ use Rattle.payload.proofs.Reading.{Opened, at_end, cut, opened_short, opened_lon
 use Rattle.payload.proofs.entry.step.Goals as goal
 
 pub returns-then-payload-place : goal.returns-then-payload-place
-returns-then-payload-place c = let a = c.args in
+returns-then-payload-place c =
+    let a = c.args in
     at_end a.payload.now a.place (reach a.size) a.position c.if-payload-place.true
 
 pub returns-then-payload-place-lt-SHORT_WIDTH : goal.returns-then-payload-place-lt-SHORT_WIDTH
-returns-then-payload-place-lt-SHORT_WIDTH c = let a = c.args in
+returns-then-payload-place-lt-SHORT_WIDTH c =
+    let a = c.args in
     cut a.payload.now a.place (reach a.size) a.position (omega arith) c.if-payload-place-lt-SHORT_WIDTH.true
 
 pub overflow_cast-first : goal.overflow_cast-first
-overflow_cast-first c = let a = c.args in
+overflow_cast-first c =
+    let a = c.args in
     omega (arith, c.type_inv.payload a.place)
 
 pub landed-requires : goal.landed-requires
-landed-requires c = let a = c.args in
+landed-requires c =
+    let a = c.args in
     omega (arith, c.type_inv.payload a.place)
 
 pub returns-then-first : goal.returns-then-first
-returns-then-first c = let a = c.args in
+returns-then-first c =
+    let a = c.args in
     let b = c.type_inv.payload a.place in
     let j = get_or a.payload.now a.place 0 in
     let o : Opened a.payload.now a.place j 2 =
@@ -36,7 +41,8 @@ returns-then-first c = let a = c.args in
     c.landed.ensures
 
 pub returns-then-jump-ge-REACH : goal.returns-then-jump-ge-REACH
-returns-then-jump-ge-REACH c = let a = c.args in
+returns-then-jump-ge-REACH c =
+    let a = c.args in
     let o : Opened a.payload.now a.place c.long_jump-jump.result 4 =
     opened_long a.payload.now a.place c.long_jump-jump.result (omega arith) c.if-first.false c.long_jump-jump.ensures in
     o.broken (reach a.size) a.position c.if-jump-ge-REACH.true
@@ -45,7 +51,8 @@ pub bounds-payload-place-2 : goal.bounds-payload-place-2
 bounds-payload-place-2 c = omega (arith, c.long_jump-jump.ensures.within c.if-jump-ge-REACH.false)
 
 pub returns : goal.returns
-returns c = let a = c.args in
+returns c =
+    let a = c.args in
     let j = c.long_jump-jump.result in
     let o : Opened a.payload.now a.place j 4 =
     opened_long a.payload.now a.place j (omega arith) c.if-first.false c.long_jump-jump.ensures in

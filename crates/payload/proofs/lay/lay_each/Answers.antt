@@ -10,7 +10,8 @@ use Rattle.payload.proofs.lay.lay_each.Goals as goal
 use Rattle.payload.proofs.lay.lay_each.Goals.{In-loop-i}
 
 pub loop-i-init : goal.loop-i-init
-loop-i-init c = let a = c.args in
+loop-i-init c =
+    let a = c.args in
     let s : List ℕ = a.payload.now in
     let none : a.after ≡ a.after + 0 + jumps_of s (a.from - 1) 0 = omega (arith, jumps_none s (a.from - 1)) in
     let begin : a.from ≡ a.from + 2 * 0 = omega arith in (
@@ -46,10 +47,14 @@ pub bounds-payload-second : goal.bounds-payload-second
 bounds-payload-second c = omega (arith, (known (goal.at.bounds-payload-second c).In-loop-i).1.within, c.loop-i-test.true, c.requires.0)
 
 pub overflow_cast-at : goal.overflow_cast-at
-overflow_cast-at c = record { fits = omega (arith, (known (goal.at.overflow_cast-at c).In-loop-i).0, (known (goal.at.overflow_cast-at c).In-loop-i).2) }
+overflow_cast-at c =
+    let g = goal.at.overflow_cast-at c in
+    record { fits = omega (arith, (known g.In-loop-i).0, (known g.In-loop-i).2) }
 
 pub overflow_add-at : goal.overflow_add-at
-overflow_add-at c = record { fits = omega (arith, (known (goal.at.overflow_add-at c).In-loop-i).0, (known (goal.at.overflow_add-at c).In-loop-i).2) }
+overflow_add-at c =
+    let g = goal.at.overflow_add-at c in
+    record { fits = omega (arith, (known g.In-loop-i).0, (known g.In-loop-i).2) }
 
 pub bounds-payload-second-in-loop-i : goal.bounds-payload-second-in-loop-i
 bounds-payload-second-in-loop-i c = omega (
@@ -68,7 +73,9 @@ bounds-page-at c = omega (
 )
 
 pub overflow_add-next : goal.overflow_add-next
-overflow_add-next c = record { fits = omega (arith, (known (goal.at.overflow_add-next c).In-loop-i).0, (known (goal.at.overflow_add-next c).In-loop-i).2) }
+overflow_add-next c =
+    let g = goal.at.overflow_add-next c in
+    record { fits = omega (arith, (known g.In-loop-i).0, (known g.In-loop-i).2) }
 
 pub overflow_add-i : goal.overflow_add-i
 overflow_add-i c = record { fits = omega (arith, c.loop-i-test.true) }
@@ -77,7 +84,8 @@ pub loop-i-smaller : goal.loop-i-smaller
 loop-i-smaller c = omega (arith, c.loop-i-test.true)
 
 pub loop-i-preserved : goal.loop-i-preserved
-loop-i-preserved c = let a = c.args in
+loop-i-preserved c =
+    let a = c.args in
     let l = c.loop-i in
     let pre = c.requires in
     let k = known (goal.at.loop-i-preserved c).In-loop-i in
@@ -91,7 +99,8 @@ pub shape_of-page : goal.shape_of-page
 shape_of-page c = c.loop-i.invariant.2.same
 
 pub returns : goal.returns
-returns c = let a = c.args in
+returns c =
+    let a = c.args in
     let l = c.loop-i in
     let t : Taken a.end a.payload.now (a.from - 1) a.after = taken a.end a.payload.now (a.from - 1) a.after c.requires.2 in
     let e : l.i ≡ 8 = omega (arith, l.invariant.0, c.loop-i-test.false) in

@@ -7,7 +7,8 @@ use Rattle.payload.proofs.Turns.{lays_none, lays_more, over_broken, over_few}
 use Rattle.payload.proofs.lay.lay_longs.Goals as goal
 
 pub loop-place-init : goal.loop-place-init
-loop-place-init c = let a = c.args in
+loop-place-init c =
+    let a = c.args in
     lays_none a.end a.payload.now a.page.now a.from a.after c.requires.1
 
 pub overflow_add-at : goal.overflow_add-at
@@ -29,7 +30,8 @@ pub loop-place-smaller : goal.loop-place-smaller
 loop-place-smaller c = omega (arith, c.long_jump.ensures.within (omega arith))
 
 pub loop-place-preserved : goal.loop-place-preserved
-loop-place-preserved c = let a = c.args in
+loop-place-preserved c =
+    let a = c.args in
     let l = c.loop-place in
     let s : List ℕ = a.payload.now in
     let long = c.long_jump in
@@ -41,7 +43,8 @@ loop-place-preserved c = let a = c.args in
     (omega arith) (omega arith) (omega arith)
 
 pub returns-after-loop-place : goal.returns-after-loop-place
-returns-after-loop-place c = let a = c.args in
+returns-after-loop-place c =
+    let a = c.args in
     let l = c.loop-place in
     (l.invariant, λ _. over_few a.end a.payload.now (record { place = l.place; next = l.next }) (omega arith))
 
@@ -49,7 +52,8 @@ pub returns-then-payload-place : goal.returns-then-payload-place
 returns-then-payload-place c = (c.loop-place.invariant, λ d. absurd (c.if-payload-place.true d))
 
 pub returns-then-end-at : goal.returns-then-end-at
-returns-then-end-at c = let a = c.args in
+returns-then-end-at c =
+    let a = c.args in
     let l = c.loop-place in
     let s : List ℕ = a.payload.now in
     let long = c.long_jump in

@@ -33,7 +33,8 @@ pub loop-place-smaller : goal.loop-place-smaller
 loop-place-smaller c = omega arith
 
 pub loop-place-preserved : goal.loop-place-preserved
-loop-place-preserved c = let a = c.args in
+loop-place-preserved c =
+    let a = c.args in
     let l = c.loop-place in
     let s : List ℕ = a.payload.now in
     let j : ℕ = get_or s (l.place - 1) 0 in
@@ -43,7 +44,8 @@ loop-place-preserved c = let a = c.args in
     (omega arith) (omega arith) (omega arith)
 
 pub returns-after-loop-place : goal.returns-after-loop-place
-returns-after-loop-place c = let a = c.args in
+returns-after-loop-place c =
+    let a = c.args in
     let l = c.loop-place in
     (l.invariant, λ _. over_few a.end a.payload.now (record { place = l.place; next = l.next }) (omega arith))
 
@@ -51,7 +53,8 @@ pub returns-then-first : goal.returns-then-first
 returns-then-first c = (c.loop-place.invariant, λ d. absurd (d c.if-first.true))
 
 pub returns-then-end-at : goal.returns-then-end-at
-returns-then-end-at c = let a = c.args in
+returns-then-end-at c =
+    let a = c.args in
     let l = c.loop-place in
     let s : List ℕ = a.payload.now in
     let j : ℕ = get_or s (l.place - 1) 0 in (

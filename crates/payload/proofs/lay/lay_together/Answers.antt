@@ -8,7 +8,8 @@ use Rattle.payload.proofs.lay.lay_together.Goals as goal
 use Rattle.payload.proofs.lay.lay_together.Goals.{Else-to-eq0}
 
 pub loop-from-init : goal.loop-from-init
-loop-from-init c = let a = c.args in
+loop-from-init c =
+    let a = c.args in
     let pre = c.requires in
     (pre.1, lays_none a.end a.payload.now a.page.now a.from a.after pre.2)
 
@@ -31,38 +32,42 @@ told : (c : Else-to-eq0)
     after_together a.end a.payload.now (l.place - 1) l.next ≡ 0 → ⊥
 told c z = c.if-to-eq0.false (c.after_together-to.ensures ∙ z)
 
-next-taken : (c : Else-to-eq0)
+next_taken : (c : Else-to-eq0)
     → let a = c.args in
     let l = c.loop-from in
     Taken a.end a.payload.now (l.place - 1) l.next
-next-taken c =
+next_taken c =
     let a = c.args in
     let l = c.loop-from in
     taken a.end a.payload.now (l.place - 1) l.next (told c)
 
 pub lay_each-requires : goal.lay_each-requires
-lay_each-requires c = let pre = c.requires in
+lay_each-requires c =
+    let pre = c.requires in
     let l = c.loop-from in
     (omega (arith, l.invariant.1.on, pre.0), omega (arith, pre.3, l.invariant.1.same), told (goal.at.lay_each-requires c).Else-to-eq0)
 
 pub overflow_add-place : goal.overflow_add-place
-overflow_add-place c = let a = c.args in
+overflow_add-place c =
+    let a = c.args in
     let l = c.loop-from in
-    let t = next-taken (goal.at.overflow_add-place c).Else-to-eq0 in
+    let t = next_taken (goal.at.overflow_add-place c).Else-to-eq0 in
     let some = c.requires.0 in
     record { fits = omega (arith, t.within, some, l.invariant.1.on) }
 
 pub loop-from-smaller : goal.loop-from-smaller
-loop-from-smaller c = let a = c.args in
+loop-from-smaller c =
+    let a = c.args in
     let l = c.loop-from in
-    let t = next-taken (goal.at.loop-from-smaller c).Else-to-eq0 in
+    let t = next_taken (goal.at.loop-from-smaller c).Else-to-eq0 in
     let some = c.requires.0 in
     omega (arith, t.within, some, l.invariant.1.on)
 
 pub loop-from-preserved : goal.loop-from-preserved
-loop-from-preserved c = let a = c.args in
+loop-from-preserved c =
+    let a = c.args in
     let l = c.loop-from in
-    let t = next-taken (goal.at.loop-from-preserved c).Else-to-eq0 in
+    let t = next_taken (goal.at.loop-from-preserved c).Else-to-eq0 in
     let some = c.requires.0 in
     let each = c.lay_each in
     let to = c.after_together-to.ensures in (

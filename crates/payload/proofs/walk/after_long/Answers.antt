@@ -20,7 +20,8 @@ pub returns-then-end-at : goal.returns-then-end-at
 returns-then-end-at c = λ z. absurd (z refl)
 
 pub returns : goal.returns
-returns c = let a = c.args in
+returns c =
+    let a = c.args in
     let s : List ℕ = a.payload.now in
     let j : ℕ = c.long_jump.result in
     let o = opened_long s a.place j (omega arith) c.if-payload-place.false c.long_jump.ensures in

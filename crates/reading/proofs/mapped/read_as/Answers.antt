@@ -12,7 +12,8 @@ use Prim.Native.Nat.{ℕ}
 use Rattle.reading.proofs.mapped.read_as.Goals as goal
 
 pub returns-in-Empty : goal.returns-in-Empty
-returns-in-Empty c = let a = c.args in
+returns-in-Empty c =
+    let a = c.args in
     let r = c.copy in
     let lb : length a.base.now ≡ a.size = c.requires.page_lengths.0 in
     let e : kind_outcome (kind_number a.kind) a.size a.patch.now a.full.now a.block a.base.now a.page.now
@@ -29,7 +30,8 @@ returns-in-Empty c = let a = c.args in
     }
 
 pub returns-in-Patch : goal.returns-in-Patch
-returns-in-Patch c = let a = c.args in
+returns-in-Patch c =
+    let a = c.args in
     let r = c.read_slot in
     let w = subst (λ (P : ℕ). KindRead 1 P a.patch.now a.full.now a.block a.base.now a.page.now r.result r.new.page)
     c.requires.page_lengths.1 (r.ensures a.full.now) in
@@ -37,7 +39,8 @@ returns-in-Patch c = let a = c.args in
     (sym (ap kind_number c.in-Patch.is)) w
 
 pub returns-in-Full : goal.returns-in-Full
-returns-in-Full c = let a = c.args in
+returns-in-Full c =
+    let a = c.args in
     let r = c.read_place in
     subst (λ (k : ℕ). KindRead k a.size a.patch.now a.full.now a.block a.base.now a.page.now r.result r.new.page)
     (sym (ap kind_number c.in-Full.is))

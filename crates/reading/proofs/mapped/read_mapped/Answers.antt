@@ -34,27 +34,25 @@ opened c =
 -- and where the block's pair is found
 found : (c : In-Done)
     → let a = c.args in
-    Found page_size a.patch.now a.full.now a.map.now a.block a.base.now a.page.now c.in-Frame.size c.in-Frame.n c.in-Frame.m
+    Lain page_size a.patch.now a.full.now a.map.now a.base.now a.page.now c.in-Frame.size c.in-Frame.n c.in-Frame.m
+    → Found page_size a.patch.now a.full.now a.map.now a.block a.base.now a.page.now c.in-Frame.size c.in-Frame.n c.in-Frame.m
     c.in-Done.pair
-found c =
+found c o =
     let a = c.args in
     let l = c.look_up in
     pair_found page_size a.patch.now a.full.now a.map.now a.block a.base.now a.page.now c.in-Frame.size c.in-Frame.n c.in-Frame.m
-    (let a = c.args in
-    let n = c.blocks-2 in
-    let k = c.map_bytes-needed in
-    let p = c.pages_fit-fit in
-    let f = c.open in
-    lain_frame page_size a.patch.now a.full.now a.map.now a.base.now a.page.now n.result k.result p.result f.result
-    n.ensures k.ensures p.ensures f.ensures c.in-Frame.size c.in-Frame.n c.in-Frame.m
-    c.in-Frame.is) l.result l.ensures c.in-Done.pair c.in-Done.is
+    o l.result l.ensures c.in-Done.pair c.in-Done.is
 
 pub overflow_cast-block : goal.overflow_cast-block
-overflow_cast-block c = omega (arith, (found (goal.at.overflow_cast-block c).In-Done).below)
+overflow_cast-block c =
+    let g = goal.at.overflow_cast-block c in
+    omega (arith, (found g.In-Done (opened g.In-Frame)).below)
 
 pub read_as-requires : goal.read_as-requires
-read_as-requires c = let a = c.args in
-    let o = (found (goal.at.read_as-requires c).In-Done).lent in
+read_as-requires c =
+    let g = goal.at.read_as-requires c in
+    let a = c.args in
+    let o = (found g.In-Done (opened g.In-Frame)).lent in
     let some : 0 < c.in-Frame.size = omega (arith, o.own) in record {
       page_lengths = (sym o.own, o.page_size_is, (some, omega (arith, o.own)));
       full_area = (o.places, places _ (blocks_in (length a.patch.now)) a.full.now some o.full_fit);
@@ -62,27 +60,34 @@ read_as-requires c = let a = c.args in
 
 pub returns-then-base-eq0 : goal.returns-then-base-eq0
 unfolding zeros
-returns-then-base-eq0 c = let a = c.args in
+returns-then-base-eq0 c =
+    let g = goal.at.returns-then-base-eq0 c in
+    let a = c.args in
     let k = c.kind_of-kind in
     let r = c.read_as in
     found_read page_size a.patch.now a.full.now a.map.now a.block a.base.now (zeros page_size) a.page.now
     c.in-Frame.size c.in-Frame.n c.in-Frame.m c.in-Done.pair (kind_number k.result) r.result
-    r.new.page (found (goal.at.returns-then-base-eq0 c).In-Done) k.ensures
+    r.new.page (found g.In-Done (opened g.In-Frame)) k.ensures
     (base_none page_size a.base.now c.if-base-eq0.true ∙ sym (zeros_base page_size)) r.ensures
 
 pub overflow_cast-block-in-Done : goal.overflow_cast-block-in-Done
-overflow_cast-block-in-Done c = omega (arith, (found (goal.at.overflow_cast-block-in-Done c).In-Done).below)
+overflow_cast-block-in-Done c =
+    let g = goal.at.overflow_cast-block-in-Done c in
+    omega (arith, (found g.In-Done (opened g.In-Frame)).below)
 
 pub read_as-requires-in-Done : goal.read_as-requires-in-Done
-read_as-requires-in-Done c = let a = c.args in
-    let o = (found (goal.at.read_as-requires-in-Done c).In-Done).lent in
+read_as-requires-in-Done c =
+    let g = goal.at.read_as-requires-in-Done c in
+    let a = c.args in
+    let o = (found g.In-Done (opened g.In-Frame)).lent in
     let some : 0 < c.in-Frame.size = omega (arith, o.own) in record {
       page_lengths = (o.base_size c.if-base-eq0.false, o.page_size_is, (some, omega (arith, o.own)));
       full_area = (o.places, places _ (blocks_in (length a.patch.now)) a.full.now some o.full_fit);
     }
 
 pub returns-in-Refused : goal.returns-in-Refused
-returns-in-Refused c = let a = c.args in
+returns-in-Refused c =
+    let a = c.args in
     let r = c.in-Refused.refusal in
     let n = c.blocks-2 in
     let k = c.map_bytes-needed in
@@ -96,7 +101,8 @@ returns-in-Refused c = let a = c.args in
     record { numbers = rw e; bytes = rw e }
 
 pub returns-in-Refused-look_up : goal.returns-in-Refused-look_up
-returns-in-Refused-look_up c = let a = c.args in
+returns-in-Refused-look_up c =
+    let a = c.args in
     let o = opened (goal.at.returns-in-Refused-look_up c).In-Frame in
     let l = c.look_up in
     let r = c.in-Refused-look_up.refusal in
@@ -109,9 +115,11 @@ returns-in-Refused-look_up c = let a = c.args in
     record { numbers = rw e; bytes = rw e }
 
 pub returns-else-base-eq0 : goal.returns-else-base-eq0
-returns-else-base-eq0 c = let a = c.args in
+returns-else-base-eq0 c =
+    let g = goal.at.returns-else-base-eq0 c in
+    let a = c.args in
     let k = c.kind_of-kind in
     let r = c.read_as-in-Done in
     found_read page_size a.patch.now a.full.now a.map.now a.block a.base.now a.base.now a.page.now
     c.in-Frame.size c.in-Frame.n c.in-Frame.m c.in-Done.pair (kind_number k.result) r.result
-    r.new.page (found (goal.at.returns-else-base-eq0 c).In-Done) k.ensures refl r.ensures
+    r.new.page (found g.In-Done (opened g.In-Frame)) k.ensures refl r.ensures

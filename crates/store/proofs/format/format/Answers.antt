@@ -8,14 +8,16 @@ use Rattle.std.proofs.Common.{sym}
 use Rattle.store.proofs.format.format.Goals as goal
 
 pub returns-then-not-lengths_fit : goal.returns-then-not-lengths_fit
-returns-then-not-lengths_fit c = let a = c.args in
+returns-then-not-lengths_fit c =
+    let a = c.args in
     let f = c.lengths_fit in
     let e : format_outcome page_size a.patch.now a.full.now ≡ record { number = 2; patch = a.patch.now; full = a.full.now } =
     format_refused page_size a.patch.now a.full.now ((sym f.ensures ∙ c.if-not-lengths_fit.true)) in
     record { numbers = rw e; patch_bytes = rw e; full_bytes = rw e }
 
 pub returns : goal.returns
-returns c = let a = c.args in
+returns c =
+    let a = c.args in
     let f = c.lengths_fit in
     let fit = (sym f.ensures ∙ c.if-not-lengths_fit.false) in
     let e : format_outcome page_size a.patch.now a.full.now

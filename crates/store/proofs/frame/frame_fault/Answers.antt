@@ -5,12 +5,14 @@ use Rattle.store.proofs.frame.frame_fault.Goals as goal
 
 pub returns-then-not-pages_fit : goal.returns-then-not-pages_fit
 unfolding frame_by or_else
-returns-then-not-pages_fit c = let a = c.args in
+returns-then-not-pages_fit c =
+    let a = c.args in
     rw (frame_is a.size a.patch.now a.full.now a.pages_fit a.buffer_fits, c.if-not-pages_fit.true)
 
 pub returns-then-not-lengths_fit : goal.returns-then-not-lengths_fit
 unfolding frame_by or_else
-returns-then-not-lengths_fit c = let a = c.args in
+returns-then-not-lengths_fit c =
+    let a = c.args in
     let f = c.lengths_fit in
     rw (
       frame_is a.size a.patch.now a.full.now a.pages_fit a.buffer_fits,
@@ -20,7 +22,8 @@ returns-then-not-lengths_fit c = let a = c.args in
 
 pub returns-then-not-buffer_fits : goal.returns-then-not-buffer_fits
 unfolding frame_by or_else
-returns-then-not-buffer_fits c = let a = c.args in
+returns-then-not-buffer_fits c =
+    let a = c.args in
     let f = c.lengths_fit in
     rw (
       frame_is a.size a.patch.now a.full.now a.pages_fit a.buffer_fits,
@@ -31,7 +34,8 @@ returns-then-not-buffer_fits c = let a = c.args in
 
 pub returns : goal.returns
 unfolding frame_by or_else
-returns c = let a = c.args in
+returns c =
+    let a = c.args in
     let f = c.lengths_fit in
     rw (
       frame_is a.size a.patch.now a.full.now a.pages_fit a.buffer_fits,

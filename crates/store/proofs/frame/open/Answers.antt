@@ -29,12 +29,14 @@ pub overflow_cast-result-in-Nothing : goal.overflow_cast-result-in-Nothing
 overflow_cast-result-in-Nothing c = omega (arith, c.pages.ensures, (framed (goal.at.overflow_cast-result-in-Nothing c).In-Nothing).few_places)
 
 pub returns-in-Found : goal.returns-in-Found
-returns-in-Found c = let a = c.args in
+returns-in-Found c =
+    let a = c.args in
     let r = c.in-Found.r in
     sym (open_refused a.size a.pages_fit a.buffer_fits a.patch.now a.full.now (refusal_number r)
     (sym c.frame_fault.ensures ∙ ap fault_number c.in-Found.is) (refusal_some r))
 
 pub returns-in-Nothing : goal.returns-in-Nothing
-returns-in-Nothing c = let a = c.args in
+returns-in-Nothing c =
+    let a = c.args in
     numbered c.blocks-in-Nothing.ensures c.pages.ensures
     ∙ sym (open_done a.size a.pages_fit a.buffer_fits a.patch.now a.full.now (framed (goal.at.returns-in-Nothing c).In-Nothing).none)

@@ -32,42 +32,45 @@ opened c =
     (sym (ap opened_numbers c.in-Frame.is) ∙ c.open.ensures)
 
 pub returns-then-n-block : goal.returns-then-n-block
-returns-then-n-block c = let o = opened (goal.at.returns-then-n-block c).In-Frame in
+returns-then-n-block c =
+    let o = opened (goal.at.returns-then-n-block c).In-Frame in
     let a = c.args in
     show_block page_size a.patch.now a.block o.0 o.1 (omega (arith, o.2, c.if-n-block.true))
 
 -- what is known once the slot's payload length is told
-judged : (c : After-payload_length-n)
+judged : (c : After-payload_length-n) → c.in-Frame.n ≡ blocks_in (length c.args.patch.now)
     → let a = c.args in
     let s : List ℕ = slot_of a.patch.now a.block in
     (a.block < blocks_in (length a.patch.now)) × (c.payload_length-n.result ≡ cond (is_patch s) (payload_length s) 0)
 unfolding slot_of
-judged c =
+judged c blocks =
     let a = c.args in
-    let o = (let p : List ℕ = c.args.patch.now in
-    opened_alone page_size p c.in-Frame.size c.in-Frame.n c.in-Frame.m
-    (sym (ap opened_numbers c.in-Frame.is) ∙ c.open.ensures)) in
-    let same-slot : c.part.result.now ≡ slot_of a.patch.now a.block = c.part.ensures.bytes
+    let same_slot : c.part.result.now ≡ slot_of a.patch.now a.block = c.part.ensures.bytes
     ∙ ap (λ (k : ℕ). part k slot_size a.patch.now) c.slot_at-at.ensures in (
-      omega (arith, o.2, c.if-n-block.false),
-      c.payload_length-n.ensures ∙ ap (λ (l : List ℕ). cond (is_patch l) (payload_length l) 0) same-slot,
+      omega (arith, blocks, c.if-n-block.false),
+      c.payload_length-n.ensures ∙ ap (λ (l : List ℕ). cond (is_patch l) (payload_length l) 0) same_slot,
     )
 
 pub returns-then-n-eq0 : goal.returns-then-n-eq0
-returns-then-n-eq0 c = let a = c.args in
-    let o = opened (goal.at.returns-then-n-eq0 c).In-Frame in
-    let j = judged (goal.at.returns-then-n-eq0 c).After-payload_length-n in
+returns-then-n-eq0 c =
+    let g = goal.at.returns-then-n-eq0 c in
+    let a = c.args in
+    let o = opened g.In-Frame in
+    let j = judged g.After-payload_length-n o.2 in
     show_slot page_size a.patch.now a.block o.0 o.1 j.0 (length_none (slot_of a.patch.now a.block) (sym j.1 ∙ c.if-n-eq0.true))
 
 pub returns-in-Refused : goal.returns-in-Refused
-returns-in-Refused c = let a = c.args in
+returns-in-Refused c =
+    let a = c.args in
     opened_wrong page_size a.patch.now a.block c.in-Refused.field-0
     (sym (ap opened_numbers c.in-Refused.is) ∙ c.open.ensures)
 
 pub returns-else-n-eq0 : goal.returns-else-n-eq0
-returns-else-n-eq0 c = let a = c.args in
-    let o = opened (goal.at.returns-else-n-eq0 c).In-Frame in
-    let j = judged (goal.at.returns-else-n-eq0 c).After-payload_length-n in
+returns-else-n-eq0 c =
+    let g = goal.at.returns-else-n-eq0 c in
+    let a = c.args in
+    let o = opened g.In-Frame in
+    let j = judged g.After-payload_length-n o.2 in
     let s : List ℕ = slot_of a.patch.now a.block in
     let n : ℕ = c.payload_length-n.result in
     let t : (is_patch s ≡ true) × (payload_length s ≡ n) = length_some s n c.if-n-eq0.false (sym j.1) in

@@ -5,7 +5,8 @@ use mathlib.Core.Path.{sym, ap, ◌∙◌}
 use Rattle.thonxiliko.proofs.areas.thx_carry_out.Goals as goal
 
 pub overflow_cast-result : goal.overflow_cast-result
-overflow_cast-result c = let a = c.args in
+overflow_cast-result c =
+    let a = c.args in
     let ensures = c.carry_out.ensures in
     record {
       fits = carry_fits a.patch.now a.full.now a.block

@@ -5,7 +5,8 @@ use mathlib.Core.Path.{sym, ap, ◌∙◌}
 use Rattle.thonxiliko.proofs.areas.thx_judge.Goals as goal
 
 pub overflow_cast-result : goal.overflow_cast-result
-overflow_cast-result c = let ensures = c.judge.ensures in
+overflow_cast-result c =
+    let ensures = c.judge.ensures in
     record { fits = judge_fits c.args.slot.now ensures c.in-Done.is }
 
 pub returns-in-Done : goal.returns-in-Done

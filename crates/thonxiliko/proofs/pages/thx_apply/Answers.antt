@@ -10,7 +10,8 @@ use borrow.Author.Rules.{rules}
 use Rattle.thonxiliko.proofs.pages.thx_apply.Goals as goal
 
 pub overflow_cast-result : goal.overflow_cast-result
-overflow_cast-result c = let a = c.args in
+overflow_cast-result c =
+    let a = c.args in
     let ensures = c.apply.ensures in
     record { fits = apply_fits a.base.now a.payload.now a.page.now ensures c.in-Done.is }
 
@@ -18,7 +19,8 @@ pub overflow_cast-result-in-Refused : goal.overflow_cast-result-in-Refused
 overflow_cast-result-in-Refused c = record { fits = apply_offset_fits c.apply.ensures c.in-Refused.is }
 
 pub returns-in-Done : goal.returns-in-Done
-returns-in-Done c = let l : ℤ = c.in-Done.last in
+returns-in-Done c =
+    let l : ℤ = c.in-Done.last in
     let fits : SFits w32 l = search rules in
     apply_held c.apply.ensures
     ((λ i. apply_done c.in-Done.entries (to_z-of_z w32 l fits i)) ∙ ap applied_numbers (sym c.in-Done.is))

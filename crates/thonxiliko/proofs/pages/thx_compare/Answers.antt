@@ -11,19 +11,22 @@ use borrow.Author.Rules.{rules}
 use Rattle.thonxiliko.proofs.pages.thx_compare.Goals as goal
 
 pub overflow_cast-result : goal.overflow_cast-result
-overflow_cast-result c = let a = c.args in
+overflow_cast-result c =
+    let a = c.args in
     let ensures = c.compare.ensures in
     let both = compare_fits a.base.now a.page.now a.payload.now ensures c.in-Done.is in
     record { fits = omega (arith, both.0, both.1) }
 
 pub overflow_cast-result-in-Done : goal.overflow_cast-result-in-Done
-overflow_cast-result-in-Done c = let a = c.args in
+overflow_cast-result-in-Done c =
+    let a = c.args in
     let ensures = c.compare.ensures in
     let both = compare_fits a.base.now a.page.now a.payload.now ensures c.in-Done.is in
     record { fits = omega (arith, both.0, both.1) }
 
 pub returns-in-Done : goal.returns-in-Done
-returns-in-Done c = let l : ℤ = c.in-Done.last in
+returns-in-Done c =
+    let l : ℤ = c.in-Done.last in
     let fits : SFits w32 l = search rules in
     compare_held c.compare.ensures
     ((λ i. record { number = 0; kind = c.kind_number.ensures i; length = c.in-Done.length; entries = c.in-Done.entries; last = to_z-of_z w32 l fits i })

@@ -14,7 +14,8 @@ pub found-requires : goal.found-requires
 found-requires c = omega (arith, c.requires.0, c.loop-s.invariant.counted.on)
 
 pub returns-then-base-at : goal.returns-then-base-at
-returns-then-base-at c = let a = c.args in
+returns-then-base-at c =
+    let a = c.args in
     let l = c.loop-s in
     let at = c.next_diff-at in
     let e = at.ensures in
@@ -24,23 +25,27 @@ pub found-requires-then-page-at : goal.found-requires-then-page-at
 found-requires-then-page-at c = omega (arith, c.requires.0, c.loop-s.invariant.counted.on)
 
 pub returns-then-page-at : goal.returns-then-page-at
-returns-then-page-at c = let a = c.args in
+returns-then-page-at c =
+    let a = c.args in
     let l = c.loop-s in
     let at = c.next_diff-at in
     let e = at.ensures in
-    reached_end a.base.now a.page.now l.past l.s l.invariant c.found-then-page-at.result c.found-then-page-at.ensures (inr (omega (arith, e, c.if-page-at.true)))
+    reached_end a.base.now a.page.now l.past l.s l.invariant c.found-then-page-at.result c.found-then-page-at.ensures
+    (inr (omega (arith, e, c.if-page-at.true)))
 
 pub overflow_add-past : goal.overflow_add-past
 overflow_add-past c = omega (arith, c.if-page-at.false, c.requires.0)
 
 pub overflow_sub-at : goal.overflow_sub-at
-overflow_sub-at c = let a = c.args in
+overflow_sub-at c =
+    let a = c.args in
     let l = c.loop-s in
     let at = c.next_diff-at in
     omega (arith, l.invariant.on, at_on a.base.now a.page.now l.past at.result at.ensures)
 
 pub overflow_add-s : goal.overflow_add-s
-overflow_add-s c = let a = c.args in
+overflow_add-s c =
+    let a = c.args in
     let l = c.loop-s in
     let at = c.next_diff-at in
     let width = c.entry_width in
@@ -50,7 +55,8 @@ overflow_add-s c = let a = c.args in
     omega (arith, t.counted.short, t.counted.on, c.requires.0)
 
 pub overflow_add-s-in-loop-s : goal.overflow_add-s-in-loop-s
-overflow_add-s-in-loop-s c = let a = c.args in
+overflow_add-s-in-loop-s c =
+    let a = c.args in
     let l = c.loop-s in
     let at = c.next_diff-at in
     let width = c.entry_width in
@@ -60,13 +66,15 @@ overflow_add-s-in-loop-s c = let a = c.args in
     omega (arith, t.counted.few, t.counted.on, c.requires.0)
 
 pub loop-s-smaller : goal.loop-s-smaller
-loop-s-smaller c = let a = c.args in
+loop-s-smaller c =
+    let a = c.args in
     let l = c.loop-s in
     let at = c.next_diff-at in
     omega (arith, at_on a.base.now a.page.now l.past at.result at.ensures, c.if-page-at.false)
 
 pub loop-s-preserved : goal.loop-s-preserved
-loop-s-preserved c = let a = c.args in
+loop-s-preserved c =
+    let a = c.args in
     let l = c.loop-s in
     let at = c.next_diff-at in
     let width = c.entry_width in

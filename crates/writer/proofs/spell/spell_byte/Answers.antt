@@ -7,14 +7,16 @@ use Rattle.writer.proofs.Spelling.{spells_none, reached_alike, reached_one, spel
 use Rattle.writer.proofs.spell.spell_byte.Goals as goal
 
 pub returns-then-base-at : goal.returns-then-base-at
-returns-then-base-at c = let a = c.args in
+returns-then-base-at c =
+    let a = c.args in
     let most = c.requires in (
       reached_alike a.base.now a.page.now a.at a.before most.3 most.0 most.1 c.if-base-at.true,
       spells_none a.base.now a.page.now a.room.now a.before,
     )
 
 pub returns : goal.returns
-returns c = let a = c.args in
+returns c =
+    let a = c.args in
     let most = c.requires in
     let here : a.at ≡ next_diff a.base.now a.page.now a.at =
     sym (next_here a.base.now a.page.now a.at (λ h k. c.if-base-at.false)) in

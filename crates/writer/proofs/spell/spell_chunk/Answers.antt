@@ -12,10 +12,11 @@ pub marks_of-left-requires : goal.marks_of-left-requires
 marks_of-left-requires c = (c.requires.0, c.requires.1)
 
 pub loop-left-init : goal.loop-left-init
-loop-left-init c = let a = c.args in (
-  passed_none a.base.now a.page.now a.at c.marks_of-left.result a.before c.marks_of-left.ensures c.requires.3,
-  spells_none a.base.now a.page.now a.room.now a.before,
-)
+loop-left-init c =
+    let a = c.args in (
+      passed_none a.base.now a.page.now a.at c.marks_of-left.result a.before c.marks_of-left.ensures c.requires.3,
+      spells_none a.base.now a.page.now a.room.now a.before,
+    )
 
 -- the next word that differs, as each turn finds it
 found : (c : In-loop-left)
@@ -39,10 +40,13 @@ pub overflow_mul-words : goal.overflow_mul-words
 overflow_mul-words c = record { fits = omega (arith, (found (goal.at.overflow_mul-words c).In-loop-left).0.within) }
 
 pub overflow_add-at : goal.overflow_add-at
-overflow_add-at c = record { fits = omega (arith, (found (goal.at.overflow_add-at c).In-loop-left).0.within, (found (goal.at.overflow_add-at c).In-loop-left).1) }
+overflow_add-at c =
+    let g = goal.at.overflow_add-at c in
+    record { fits = omega (arith, (found g.In-loop-left).0.within, (found g.In-loop-left).1) }
 
 pub spell_word-s-requires : goal.spell_word-s-requires
-spell_word-s-requires c = let most = c.requires in
+spell_word-s-requires c =
+    let most = c.requires in
     let next = (found (goal.at.spell_word-s-requires c).In-loop-left).0 in
     (omega (arith, most.0, next.within), omega (arith, most.1, next.within), most.2, next.reached)
 
@@ -53,7 +57,8 @@ pub loop-left-smaller : goal.loop-left-smaller
 loop-left-smaller c = fewer c.loop-left.left c.loop-left-test.true
 
 pub loop-left-preserved : goal.loop-left-preserved
-loop-left-preserved c = let a = c.args in
+loop-left-preserved c =
+    let a = c.args in
     let l = c.loop-left in
     let word = c.spell_word-s in (
       (found (goal.at.loop-left-preserved c).In-loop-left).0.on word.result word.ensures.0,
@@ -65,7 +70,8 @@ pub shape_of-room : goal.shape_of-room
 shape_of-room c = c.loop-left.invariant.1.0
 
 pub returns : goal.returns
-returns c = let a = c.args in
+returns c =
+    let a = c.args in
     let l = c.loop-left in
     let most = c.requires in
     let wb : Bytes a.base.now = λ i. (c.type_inv.base i).fits in

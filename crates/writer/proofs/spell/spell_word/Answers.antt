@@ -17,7 +17,8 @@ pub word-requires-2 : goal.word-requires-2
 word-requires-2 c = omega (arith, c.requires.1)
 
 pub loop-left-init : goal.loop-left-init
-loop-left-init c = let a = c.args in
+loop-left-init c =
+    let a = c.args in
     let q : word_bytes ≡ a.at + word_bytes - a.at = omega arith in (
       omega arith,
       omega arith,
@@ -44,13 +45,19 @@ found c =
     )
 
 pub overflow_cast-alike : goal.overflow_cast-alike
-overflow_cast-alike c = omega (arith, (found (goal.at.overflow_cast-alike c).In-loop-left).0.within, (found (goal.at.overflow_cast-alike c).In-loop-left).1)
+overflow_cast-alike c =
+    let g = goal.at.overflow_cast-alike c in
+    omega (arith, (found g.In-loop-left).0.within, (found g.In-loop-left).1)
 
 pub overflow_add-from : goal.overflow_add-from
-overflow_add-from c = omega (arith, (found (goal.at.overflow_add-from c).In-loop-left).0.within, (found (goal.at.overflow_add-from c).In-loop-left).1)
+overflow_add-from c =
+    let g = goal.at.overflow_add-from c in
+    omega (arith, (found g.In-loop-left).0.within, (found g.In-loop-left).1)
 
 pub overflow_sub-from : goal.overflow_sub-from
-overflow_sub-from c = omega (arith, c.loop-left.invariant.3.on, (found (goal.at.overflow_sub-from c).In-loop-left).0.within, (found (goal.at.overflow_sub-from c).In-loop-left).1)
+overflow_sub-from c =
+    let g = goal.at.overflow_sub-from c in
+    omega (arith, c.loop-left.invariant.3.on, (found g.In-loop-left).0.within, (found g.In-loop-left).1)
 
 pub bounds-page-from : goal.bounds-page-from
 bounds-page-from c = omega (
@@ -60,20 +67,25 @@ bounds-page-from c = omega (
 )
 
 pub put_entry-used-requires : goal.put_entry-used-requires
-put_entry-used-requires c = let counted = c.loop-left.invariant.3.counted in
+put_entry-used-requires c =
+    let counted = c.loop-left.invariant.3.counted in
     omega (arith, counted.short, counted.on, c.requires.2)
 
 pub overflow_add-entries : goal.overflow_add-entries
-overflow_add-entries c = omega (
-  arith,
-  c.loop-left.invariant.3.on,
-  c.loop-left.invariant.3.counted.few,
-  (found (goal.at.overflow_add-entries c).In-loop-left).0.within,
-  (found (goal.at.overflow_add-entries c).In-loop-left).1,
-)
+overflow_add-entries c =
+    let g = goal.at.overflow_add-entries c in
+    omega (
+      arith,
+      c.loop-left.invariant.3.on,
+      c.loop-left.invariant.3.counted.few,
+      (found g.In-loop-left).0.within,
+      (found g.In-loop-left).1,
+    )
 
 pub overflow_add-from-in-loop-left : goal.overflow_add-from-in-loop-left
-overflow_add-from-in-loop-left c = omega (arith, (found (goal.at.overflow_add-from-in-loop-left c).In-loop-left).0.within, (found (goal.at.overflow_add-from-in-loop-left c).In-loop-left).1)
+overflow_add-from-in-loop-left c =
+    let g = goal.at.overflow_add-from-in-loop-left c in
+    omega (arith, (found g.In-loop-left).0.within, (found g.In-loop-left).1)
 
 pub overflow_mul-left : goal.overflow_mul-left
 overflow_mul-left c = omega (arith, (found (goal.at.overflow_mul-left c).In-loop-left).0.within, c.loop-left.invariant.0)
@@ -82,10 +94,13 @@ pub overflow_shr-left : goal.overflow_shr-left
 overflow_shr-left c = omega (arith, (found (goal.at.overflow_shr-left c).In-loop-left).0.within, c.loop-left.invariant.0)
 
 pub loop-left-smaller : goal.loop-left-smaller
-loop-left-smaller c = omega (arith, (found (goal.at.loop-left-smaller c).In-loop-left).0.within, (found (goal.at.loop-left-smaller c).In-loop-left).1)
+loop-left-smaller c =
+    let g = goal.at.loop-left-smaller c in
+    omega (arith, (found g.In-loop-left).0.within, (found g.In-loop-left).1)
 
 pub loop-left-preserved : goal.loop-left-preserved
-loop-left-preserved c = let a = c.args in
+loop-left-preserved c =
+    let a = c.args in
     let l = c.loop-left in
     let most = c.requires in
     let next = (found (goal.at.loop-left-preserved c).In-loop-left).0 in
@@ -106,7 +121,8 @@ pub shape_of-room : goal.shape_of-room
 shape_of-room c = c.loop-left.invariant.4.0
 
 pub returns : goal.returns
-returns c = let a = c.args in
+returns c =
+    let a = c.args in
     let l = c.loop-left in
     let s : Spelled = record { used = l.used; entries = l.entries; next = l.next } in
     let wb : Bytes a.base.now = λ i. (c.type_inv.base i).fits in

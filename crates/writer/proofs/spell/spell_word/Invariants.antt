@@ -8,7 +8,8 @@ abbrev pub invariant-loop-left : goal.invariant-loop-left
 invariant-loop-left l =
     (l.at ≤ l.from) × (l.from ≤ l.at + word_bytes) × (l.left ≡ unlike l.base l.page l.from (l.at + word_bytes - l.from))
     × Reached l.base l.page l.from (record { used = l.used; entries = l.entries; next = l.next })
-    × Spells l.base l.page l.initial.room (record { used = l.initial.used; entries = l.initial.entries; next = l.initial.next }) l.room (record { used = l.used; entries = l.entries; next = l.next })
+    × Spells l.base l.page l.initial.room (record { used = l.initial.used; entries = l.initial.entries; next = l.initial.next })
+    l.room (record { used = l.used; entries = l.entries; next = l.next })
 
 abbrev pub decreases-loop-left : goal.decreases-loop-left
 decreases-loop-left l = l.at + word_bytes - l.from
