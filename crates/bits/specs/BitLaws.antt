@@ -12,7 +12,7 @@ use Rattle.std.proofs.Math.Arith.{bin_ind}
 use Rattle.std.specs.Int.Bits.{bit_or, or_add_and, or_zero_l}
 use Rattle.std.proofs.lemmas.Nat.{and_le_r}
 use Rattle.std.specs.Int.Count.{ones_in, ones, ones_step}
-use Rattle.bits.specs.Bits.{low_bits, high_bits, threes, added, highs, lows, some_three, Counts}
+use Rattle.bits.specs.Bits.{low_bits, high_bits, threes, added, highs, lows, some_three, together, Counts}
 use Rattle.bits.specs.declared.Counted.{Counted}
 
 -- A byte
@@ -94,12 +94,35 @@ three_more map k (suc j) =
 
 -- so two counts are joined
 pub counts_more : (map : List ℕ) (k j : ℕ) (r s : Counted) → Counts map 0 k r → Counts map k j s
-    → Counts map 0 (k + j) (record { high = r.high + s.high; low = r.low + s.low; three = r.three || s.three })
+    → Counts map 0 (k + j) (together r s)
 counts_more map k j r s p q =
     record {
       high = omega (arith, p.high, q.high, added_more (λ x. ones (high_bits x)) map k j);
       low = omega (arith, p.low, q.low, added_more (λ x. ones (low_bits x)) map k j);
       three = rw (p.three, q.three) (sym (three_more map k j));
+    }
+
+-- the count of bytes goes by the bytes alone
+added_same : (f : ℕ → ℕ) (xs ys : List ℕ) (i j k : ℕ) → ((m : ℕ) → m < k → get_or xs (i + m) 0 ≡ get_or ys (j + m) 0)
+    → added f xs i k ≡ added f ys j k
+unfolding added
+added_same f xs ys i j zero e = refl
+added_same f xs ys i j (suc k) e =
+    omega (arith, added_same f xs ys i j k (λ m h. e m (omega arith)), ap f (e k (omega arith)))
+
+three_same : (xs ys : List ℕ) (i j k : ℕ) → ((m : ℕ) → m < k → get_or xs (i + m) 0 ≡ get_or ys (j + m) 0)
+    → some_three xs i k ≡ some_three ys j k
+unfolding some_three
+three_same xs ys i j zero e = refl
+three_same xs ys i j (suc k) e = rw (three_same xs ys i j k (λ m h. e m (omega arith)), e k (omega arith)) refl
+
+pub counts_same : (xs ys : List ℕ) (i j k : ℕ) (r : Counted) → ((m : ℕ) → m < k → get_or xs (i + m) 0 ≡ get_or ys (j + m) 0)
+    → Counts xs i k r → Counts ys j k r
+counts_same xs ys i j k r e c =
+    record {
+      high = c.high ∙ added_same (λ x. ones (high_bits x)) xs ys i j k e;
+      low = c.low ∙ added_same (λ x. ones (low_bits x)) xs ys i j k e;
+      three = c.three ∙ three_same xs ys i j k e;
     }
 
 -- two counts of the same bytes are one

@@ -37,3 +37,7 @@ pub record Counts (map : List ℕ) (i k : ℕ) (r : Counted) : Type 0 where
   pub high : r.high ≡ highs map i k
   pub low : r.low ≡ lows map i k
   pub three : r.three ≡ some_three map i k
+
+-- the counts of two parts together
+abbrev pub together : Counted → Counted → Counted
+together r s = record { high = r.high + s.high; low = r.low + s.low; three = r.three || s.three }

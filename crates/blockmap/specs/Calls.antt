@@ -1,15 +1,16 @@
 -- Look up and Tally: one total function a call, and one predicate a call, which its contract cites whole.
-use Rattle.std.specs.Prelude.{ℕ, ◌≡◌, List, [], ◌∷◌, eqb, leb, ltb, length}
+use Rattle.std.specs.Prelude.{ℕ, ◌≤◌, ◌<◌, ◌≡◌, ◌⊎◌, List, [], ◌∷◌, eqb, leb, ltb, length, Result, Ok, Err}
 use Rattle.layout.specs.Sizes.{blocks_at_most}
-use Rattle.layout.specs.Numbers.{refusal_number}
+use Rattle.layout.specs.Numbers.{kind_number, refusal_number}
+use Rattle.layout.specs.declared.Kind.{Kind}
+use Rattle.layout.specs.declared.Refusal.{Refusal}
+use Rattle.layout.specs.declared.Refusal.TheVariants.{Length, Buffer}
 use Rattle.layout.specs.Refusals.{Row, ◌⇐◌, first_of, decided}
 use Rattle.layout.specs.Groups.{Grouped, ordered, ◌▸◌}
 use Rattle.layout.specs.Groups as group
 use Rattle.blockmap.specs.Pairs.{map_bytes, pair_at, pairs, patch_pair, full_pair, reserved_pair, bad_pairs}
-use Rattle.blockmap.specs.declared.Looked.{Looked}
-use Rattle.blockmap.specs.declared.Looked.TheVariants.{Done as LookedDone, Refused as LookedRefused}
+use Rattle.blockmap.specs.Pack.{pair_of}
 use Rattle.blockmap.specs.declared.Tallied.{Tallied}
-use Rattle.blockmap.specs.declared.Tallied.TheVariants.{Done as TalliedDone, Refused as TalliedRefused}
 
 -- 9: the map of n blocks does not fit
 abbrev pub short_map : List ℕ → ℕ → List Row
@@ -27,6 +28,12 @@ map_groups P map n block pair =
 unfoldable pub map_rows : ℕ → List ℕ → ℕ → List Row → List Row → List Row
 map_rows P map n block pair = ordered (map_groups P map n block pair)
 
+-- what both test first: n, and then the map's length
+abbrev pub Held : ℕ → List ℕ → ℕ → Result ℕ Refusal → Type 0
+Held P map n (Ok bytes) = (n ≤ blocks_at_most P) × (map_bytes n ≤ length map) × (bytes ≡ map_bytes n)
+Held P map n (Err r) =
+    ((blocks_at_most P < n) × (r ≡ Length)) ⊎ ((n ≤ blocks_at_most P) × (length map < map_bytes n) × (r ≡ Buffer))
+
 -- Look up
 
 pub record LookedNumbers : Type 0 where
@@ -40,11 +47,12 @@ unfoldable pub look_up_numbers : ℕ → List ℕ → ℕ → ℕ → LookedNumb
 look_up_numbers P map n b =
     decided (first_of (look_up_rows P map n b)) (record { number = 0; pair = pair_at map b }) (λ k. record { number = k; pair = 0 })
 
-abbrev pub looked_numbers : Looked → LookedNumbers
-looked_numbers (LookedDone p) = record { number = 0; pair = p }
-looked_numbers (LookedRefused r) = record { number = refusal_number r; pair = 0 }
+-- the answer is the pair, by the kind that it stands for
+abbrev pub looked_numbers : Result Kind Refusal → LookedNumbers
+looked_numbers (Ok kind) = record { number = 0; pair = pair_of (kind_number kind) }
+looked_numbers (Err r) = record { number = refusal_number r; pair = 0 }
 
-pub record LookUp (P : ℕ) (map : List ℕ) (n b : ℕ) (answer : Looked) : Type 0 where
+pub record LookUp (P : ℕ) (map : List ℕ) (n b : ℕ) (answer : Result Kind Refusal) : Type 0 where
   pub numbers : looked_numbers answer ≡ look_up_numbers P map n b
 
 -- Tally
@@ -62,9 +70,9 @@ tally_numbers P map n =
     decided (first_of (tally_rows P map n)) (record { number = 0; patch = pairs patch_pair map n; full = pairs full_pair map n })
     (λ k. record { number = k; patch = 0; full = 0 })
 
-abbrev pub tallied_numbers : Tallied → TalliedNumbers
-tallied_numbers (TalliedDone p f) = record { number = 0; patch = p; full = f }
-tallied_numbers (TalliedRefused r) = record { number = refusal_number r; patch = 0; full = 0 }
+abbrev pub tallied_numbers : Result Tallied Refusal → TalliedNumbers
+tallied_numbers (Ok t) = record { number = 0; patch = t.patch; full = t.full }
+tallied_numbers (Err r) = record { number = refusal_number r; patch = 0; full = 0 }
 
-pub record Tally (P : ℕ) (map : List ℕ) (n : ℕ) (answer : Tallied) : Type 0 where
+pub record Tally (P : ℕ) (map : List ℕ) (n : ℕ) (answer : Result Tallied Refusal) : Type 0 where
   pub numbers : tallied_numbers answer ≡ tally_numbers P map n

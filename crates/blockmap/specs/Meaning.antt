@@ -1,6 +1,6 @@
 -- What the definitions of Tally mean, said again without their recursion: counts are lengths of lists of blocks, and a bad map has a bad
 -- pair.
-use Rattle.std.specs.Prelude.{ℕ, zero, suc, ◌+◌, ◌-◌, ◌*◌, ◌≤◌, ◌<◌, ◌↔◌, ◌⊎◌, Bool, not, ◌||◌, eqb, length}
+use Rattle.std.specs.Prelude.{ℕ, zero, suc, ◌+◌, ◌-◌, ◌*◌, ◌≤◌, ◌<◌, ◌↔◌, ◌⊎◌, Bool, not, ◌||◌, eqb, length, Result, Ok, Err}
 use Rattle.std.proofs.Common.{arith, sym, ◌∙◌, inl, inr, length-append, eq-eqb, eqb-true}
 use Rattle.std.proofs.Math.Decide.{dec_lt}
 use Rattle.std.proofs.Math.Path.{◌≡◌, refl, ap}
@@ -14,8 +14,8 @@ use Rattle.blockmap.specs.PairLaws.{none_used}
 use Rattle.blockmap.specs.Calls.{Tally}
 use Rattle.blockmap.specs.CallLaws.{tally_pair, tally_done, tally_one}
 use Rattle.blockmap.specs.declared.Tallied.{Tallied}
-use Rattle.blockmap.specs.declared.Tallied.TheVariants.{Done as TalliedDone, Refused as TalliedRefused}
 use Rattle.layout.specs.Sizes.{blocks_at_most}
+use Rattle.layout.specs.declared.Refusal.{Refusal}
 use Rattle.layout.specs.declared.Refusal.TheVariants.{Pair}
 
 -- the blocks below n, in rising order
@@ -252,23 +252,23 @@ bad_iff map n = (to (some_reserved map n) refl, λ w. from w.0 w.1)
     from b (inr h) = rw (at_used map n (4 * map_bytes n - n) b h.0 (omega arith) h.2) (or-true (some_reserved map n))
 
 -- Tally in document 01's words: how many blocks are PATCH and how many full, each counted by a list of just those; or a bad pair, refused
-pub record Tallies (map : List ℕ) (n : ℕ) (answer : Tallied) : Type 0 where
+pub record Tallies (map : List ℕ) (n : ℕ) (answer : Result Tallied Refusal) : Type 0 where
   pub counts : ((b : ℕ) → BadPair map n b → ⊥) → (ps fs : List ℕ) → JustThose (HasPair patch_pair map n) ps
-      → JustThose (HasPair full_pair map n) fs → answer ≡ TalliedDone (length ps) (length fs)
-  pub refuses : (b : ℕ) → BadPair map n b → answer ≡ TalliedRefused Pair
+      → JustThose (HasPair full_pair map n) fs → answer ≡ Ok (record { patch = length ps; full = length fs })
+  pub refuses : (b : ℕ) → BadPair map n b → answer ≡ Err Pair
 
-pub tally_says : (P : ℕ) (map : List ℕ) (n : ℕ) → n ≤ blocks_at_most P → map_bytes n ≤ length map → (answer : Tallied)
+pub tally_says : (P : ℕ) (map : List ℕ) (n : ℕ) → n ≤ blocks_at_most P → map_bytes n ≤ length map → (answer : Result Tallied Refusal)
     → Tally P map n answer → Tallies map n answer
 tally_says P map n few long answer h =
     record {
       counts =
           λ none ps fs jp jf.
-          tally_one P map n answer (TalliedDone (length ps) (length fs)) h
+          tally_one P map n answer (Ok (record { patch = length ps; full = length fs })) h
           (tally_done P map n few long (length ps) (length fs) (good none (bad_pairs map n) refl)
           (sym (pairs_counted patch_pair map n ps jp))
           (sym (pairs_counted full_pair map n fs jf)));
       refuses =
-          λ b bad. tally_one P map n answer (TalliedRefused Pair) h (tally_pair P map n few long ((bad_iff map n).1 (b, bad)));
+          λ b bad. tally_one P map n answer (Err Pair) h (tally_pair P map n few long ((bad_iff map n).1 (b, bad)));
     }
   where
     good : ((b : ℕ) → BadPair map n b → ⊥) → (t : Bool) → bad_pairs map n ≡ t → bad_pairs map n ≡ false

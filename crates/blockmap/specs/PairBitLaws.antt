@@ -1,10 +1,13 @@
--- From bits to pairs: one law for a byte, computed at each of its 256 values, and one that joins the bytes of a map.
-use Prim.Native.Nat.{ℕ, zero, suc, ◌+◌, ◌-◌, ◌*◌, ◌<◌}
+-- From bits to pairs: laws for a byte, computed at each of its 256 values, and one that joins the bytes of a map.
+use Prim.Native.Nat.{ℕ, zero, suc, ◌+◌, ◌-◌, ◌*◌, ◌/◌, ◌%◌, ◌^◌, ◌<◌}
 use native.Mathlib.Omega.{arith}
-use Rattle.std.specs.Prelude.{◌≡◌, Bool, true, false, not, ◌||◌, List, eqb, get_or}
+use Rattle.std.specs.Prelude.{◌≡◌, Bool, true, false, not, ◌||◌, cond, List, eqb, get_or}
 use Rattle.std.proofs.Math.Path.{refl}
 use Rattle.std.proofs.Common.{sym, ap, ◌∙◌, true≢false, eq-eqb, ne_eqb, eqb-true}
-use Rattle.std.proofs.lemmas.Bool.{false≢true, eqb-false}
+use Rattle.std.proofs.lemmas.Bool.{false≢true, eqb-false, agree_below, agree_below_at}
+use Rattle.std.proofs.Math.Nat.{mod-mod}
+use Rattle.std.specs.Int.Bits.{bit_and, bit_or}
+use Rattle.blockmap.specs.Pack.{byte_of, with_pair}
 use Rattle.std.specs.Int.Count.{ones_in, ones}
 use Rattle.bits.specs.Bits.{low_bits, high_bits, threes, added, highs, lows, some_three}
 use Rattle.bits.specs.BitLaws.{at_each_byte, ones_none}
@@ -36,6 +39,38 @@ three_byte x h = go (eqb (threes x) 0) refl
     go true e = e ∙ sym (eq-eqb (in_byte reserved_pair x) 0 (sym (byte_bits x h).three ∙ ap ones (eqb-true (threes x) 0 e)))
     go false e =
         e ∙ sym (ne_eqb (in_byte reserved_pair x) 0 (λ z. eqb-false (threes x) 0 e (ones_none (threes x) ((byte_bits x h).three ∙ z))))
+
+-- One pair of a byte set by shifts: the two bits at its place cleared, and the pair's put there
+abbrev pub shifted : ℕ → ℕ → ℕ → ℕ
+shifted x k v = bit_or (bit_and x (255 - 3 * 2 ^ (2 * k) % 256)) (v % 4 * 2 ^ (2 * k) % 256)
+
+shifted_as : ℕ → ℕ → ℕ → Bool
+shifted_as k v x = eqb (shifted x k v) (with_pair x k v)
+
+yes : ℕ → Bool
+yes x = true
+
+low_bits_count : (t : Bool) (v a : ℕ) → cond t (v % 4) a % 4 ≡ cond t v a % 4
+low_bits_count true v a = mod-mod v 4
+low_bits_count false v a = refl
+
+-- computed at each byte, place and pair
+pub with_shifted : (x k v : ℕ) → x < 256 → k < 4 → shifted x k v ≡ with_pair x k v
+unfolding shifted_as yes with_pair byte_of
+with_shifted x k v small place =
+    let of_pair : shifted x k (v % 4) ≡ with_pair x k (v % 4) =
+    eqb-true (shifted x k (v % 4)) (with_pair x k (v % 4))
+    (agree_below_at (shifted_as k (v % 4)) yes 256 x
+    (agree_below_at (λ u. agree_below (shifted_as k u) yes 256) yes 4 (v % 4)
+    (agree_below_at (λ j. agree_below (λ u. agree_below (shifted_as j u) yes 256) yes 4) yes 4 k refl place) (omega arith)) small) in
+    let both : with_pair x k (v % 4) ≡ with_pair x k v =
+    rw (
+      low_bits_count (eqb k 0) v (x % 4),
+      low_bits_count (eqb k 1) v (x / 4 % 4),
+      low_bits_count (eqb k 2) v (x / 16 % 4),
+      low_bits_count (eqb k 3) v (x / 64 % 4),
+    ) in
+    (rw (mod-mod v 4) at of_pair) ∙ both
 
 -- Bytes joined
 

@@ -1,6 +1,7 @@
 -- The laws of setting one pair: what it leaves, that nothing else leaves the same, and what it makes of a packed map. The last is the one
 -- law by which a map that is kept through writes meets the map that Build makes.
-use Rattle.std.specs.Prelude.{ℕ, zero, suc, ◌+◌, ◌*◌, ◌/◌, ◌%◌, ◌^◌, ◌≤◌, ◌<◌, ◌≡◌, refl, Bool, true, false, cond, List, ◌++◌, eqb, length, get_or, set, drop}
+use Rattle.std.specs.Prelude.{ℕ, zero, suc, ◌+◌, ◌*◌, ◌/◌, ◌%◌, ◌^◌, ◌≤◌, ◌<◌, ◌≡◌, refl, Bool, true, false, cond, List}
+use Rattle.std.specs.Prelude.{◌++◌, eqb, length, get_or, set, drop}
 use native.Mathlib.Omega.{arith}
 use Rattle.std.proofs.Common.{div-one, mod-eq_of_lt, sym, ap, ◌∙◌, eq-eqb, ne_eqb, eqb-true}
 use Rattle.std.proofs.Math.Nat.{div-add-mod, mod-mod}
@@ -26,6 +27,14 @@ kind_back zero h = refl
 kind_back (suc zero) h = refl
 kind_back (suc (suc zero)) h = refl
 kind_back (suc (suc (suc k))) h = absurd (omega arith)
+
+pub pair_back : (p : ℕ) → p < 4 → (p ≡ 3 → ⊥) → pair_of (kind_of p) ≡ p
+unfolding kind_of pair_of
+pair_back zero h k = refl
+pair_back (suc zero) h k = refl
+pair_back (suc (suc zero)) h k = refl
+pair_back (suc (suc (suc zero))) h k = absurd (k refl)
+pair_back (suc (suc (suc (suc p)))) h k = absurd (omega arith)
 
 -- A byte
 

@@ -1,8 +1,9 @@
 -- Build the block map: every slot, payload and place is checked, block by block.
-use Rattle.std.specs.Prelude.{ℕ, ◌≡◌, not, ◌&&◌, List, [], ◌∷◌, eqb, ltb, length}
+use Rattle.std.specs.Prelude.{ℕ, ◌≡◌, not, ◌&&◌, List, [], ◌∷◌, eqb, ltb, length, Result, Ok, Err, ⊤}
 use Rattle.span.specs.Bytes.{zeros, same, splice}
 use Rattle.layout.specs.Sizes.{full_kind}
 use Rattle.layout.specs.Numbers.{refusal_number}
+use Rattle.layout.specs.declared.Refusal.{Refusal}
 use Rattle.layout.specs.Refusals.{Row, ◌⇐◌, first_of, decided}
 use Rattle.layout.specs.Groups.{Grouped, ordered, ◌▸◌}
 use Rattle.layout.specs.Groups as group
@@ -14,8 +15,7 @@ use Rattle.payload.specs.Entries.{offset_with}
 use Rattle.blockmap.specs.Calls.{short_map}
 use Rattle.blockmap.specs.Pack.{pair_of, packed}
 use Rattle.store.specs.Block.{slot_of, place_of, slot_rows, full_rows, payload_rows}
-use Rattle.building.specs.declared.Built.{Built}
-use Rattle.building.specs.declared.Built.TheVariants.{Done, Refused}
+use Rattle.building.specs.declared.RefusedIn.{RefusedIn}
 
 -- "place in the full area not zero, slot not FULL_REF"
 unfoldable pub place_rows : ℕ → List ℕ → List ℕ → ℕ → List Row
@@ -82,19 +82,27 @@ build_outcome P patch full map =
     (λ k. build_refused k fault.block (offset_with k P (payload_of (slot_of patch fault.block))) map))
     (λ k. build_refused k 0 0 map)
 
+-- refused, with a block and an offset
+abbrev pub refused_in : {A : Type 0} → Refusal → ℕ → ℕ → Result A RefusedIn
+refused_in refusal block offset = Err (record { refusal = refusal; block = block; offset = offset })
+
+-- this refusal, and neither block nor offset
+abbrev pub IsRefusedIn : Refusal → RefusedIn → Type 0
+IsRefusedIn refusal r = r ≡ record { refusal = refusal; block = 0; offset = 0 }
+
 -- the paper's numbers for each case of the answer
 pub record BuildNumbers : Type 0 where
   pub number : ℕ
   pub block : ℕ
   pub offset : ℕ
 
-abbrev pub built_numbers : Built → BuildNumbers
-built_numbers Done = record { number = 0; block = 0; offset = 0 }
-built_numbers (Refused r b offset) = record { number = refusal_number r; block = b; offset = offset }
+abbrev pub built_numbers : Result ⊤ RefusedIn → BuildNumbers
+built_numbers (Ok _) = record { number = 0; block = 0; offset = 0 }
+built_numbers (Err r) = record { number = refusal_number r.refusal; block = r.block; offset = r.offset }
 
 abbrev pub build_numbers : BuildOutcome → BuildNumbers
 build_numbers o = record { number = o.number; block = o.block; offset = o.offset }
 
-pub record Build (P : ℕ) (patch full map : List ℕ) (answer : Built) (map' : List ℕ) : Type 0 where
+pub record Build (P : ℕ) (patch full map : List ℕ) (answer : Result ⊤ RefusedIn) (map' : List ℕ) : Type 0 where
   pub numbers : built_numbers answer ≡ build_numbers (build_outcome P patch full map)
   pub bytes : map' ≡ (build_outcome P patch full map).map

@@ -1,5 +1,5 @@
 -- What Build promises, with none of its rows, walks and tests: by the images of slots and the entries that spell payloads.
-use Rattle.std.specs.Prelude.{ℕ, ◌≤◌, ◌<◌, ◌≡◌, ◌↔◌, List, length, get_or}
+use Rattle.std.specs.Prelude.{ℕ, ◌≤◌, ◌<◌, ◌≡◌, ◌↔◌, List, length, get_or, Result, Ok, ⊤}
 use Rattle.std.proofs.Common.{sym, ap, ◌∙◌, subst}
 use Rattle.std.proofs.Math.Logic.Iff
 use Rattle.layout.specs.Numbers.{refusal_number}
@@ -11,32 +11,31 @@ use Rattle.payload.specs.Entries.{offset_with}
 use Rattle.payload.specs.Spelling.{Bytes}
 use Rattle.blockmap.specs.Pairs.{map_bytes}
 use Rattle.store.specs.Block.{slot_of}
-use Rattle.building.specs.Build.{block_fault, block_offset, build_fault, Build}
+use Rattle.building.specs.Build.{block_fault, block_offset, build_fault, refused_in, Build}
 use Rattle.building.specs.BuildWords.{blocks, SoundFrame, BlockGives, SoundBlock, LowestFault, PairsOf, Tallies}
 use Rattle.building.specs.BuildMeaningLaws.{gives_fault, gives_offset, fault_gives, frame_iff, built_same, done_iff, refused_iff}
 use Rattle.building.specs.BuildMeaningLaws.{frame_zeros}
 use Rattle.building.specs.BuildMeaningLaws.{kept, pairs_are, tallies_are, later_bytes, same_length}
-use Rattle.building.specs.declared.Built.{Built}
-use Rattle.building.specs.declared.Built.TheVariants.{Done, Refused}
+use Rattle.building.specs.declared.RefusedIn.{RefusedIn}
 
 -- The answer
-pub record BuildGives (P : ℕ) (patch full map : List ℕ) (answer : Built) : Type 0 where
+pub record BuildGives (P : ℕ) (patch full map : List ℕ) (answer : Result ⊤ RefusedIn) : Type 0 where
   -- done just where the frame and every block are sound
-  pub accepts : (answer ≡ Done) ↔ (SoundFrame P patch full map × ((b : ℕ) → b < blocks patch → SoundBlock P patch full b))
+  pub accepts : (answer ≡ Ok tt) ↔ (SoundFrame P patch full map × ((b : ℕ) → b < blocks patch → SoundBlock P patch full b))
   -- else, in a sound frame, the lowest faulty block and its first fault, and where its payload breaks if that is the fault
   pub refuses : SoundFrame P patch full map → (r : Refusal) (b at : ℕ)
-      → (answer ≡ Refused r b at) ↔ LowestFault P patch full b (refusal_number r) at
+      → (answer ≡ refused_in r b at) ↔ LowestFault P patch full b (refusal_number r) at
   -- else, by the frame: neither block nor offset
-  pub frameless : (SoundFrame P patch full map → ⊥) → (r : Refusal) (b at : ℕ) → answer ≡ Refused r b at → (b ≡ 0) × (at ≡ 0)
+  pub frameless : (SoundFrame P patch full map → ⊥) → (r : Refusal) (b at : ℕ) → answer ≡ refused_in r b at → (b ≡ 0) × (at ≡ 0)
 
 -- The map's buffer
-pub record BuildWrites (P : ℕ) (patch map : List ℕ) (answer : Built) (map' : List ℕ) : Type 0 where
+pub record BuildWrites (P : ℕ) (patch map : List ℕ) (answer : Result ⊤ RefusedIn) (map' : List ℕ) : Type 0 where
   -- refused: every byte as it was
-  pub untouched : (r : Refusal) (b at : ℕ) → answer ≡ Refused r b at → map' ≡ map
+  pub untouched : (r : Refusal) (b at : ℕ) → answer ≡ refused_in r b at → map' ≡ map
   -- done: each pair is its slot's kind
-  pub pairs : answer ≡ Done → PairsOf patch map'
+  pub pairs : answer ≡ Ok tt → PairsOf patch map'
   -- and Tally counts the slots of each kind
-  pub tally : answer ≡ Done → Tallies P patch map'
+  pub tally : answer ≡ Ok tt → Tallies P patch map'
   -- "later bytes stay"
   pub later : (i : ℕ) → map_bytes (blocks patch) ≤ i → get_or map' i 0 ≡ get_or map i 0
   pub size : length map' ≡ length map
@@ -84,7 +83,7 @@ module _ (P : ℕ) (patch full : List ℕ) (bytes : Bytes patch) where
             ),
       )
 
-  pub build_gives : (map : List ℕ) (answer : Built) (map' : List ℕ) → Build P patch full map answer map'
+  pub build_gives : (map : List ℕ) (answer : Result ⊤ RefusedIn) (map' : List ℕ) → Build P patch full map answer map'
       → BuildGives P patch full map answer
   build_gives map answer map' call =
       record {
@@ -97,7 +96,7 @@ module _ (P : ℕ) (patch full : List ℕ) (bytes : Bytes patch) where
         frameless = λ n. frame_zeros P patch full map answer map' call (λ e. n ((frame_iff P patch full map).0 e));
       }
 
-pub build_writes : (P : ℕ) (patch full map : List ℕ) (answer : Built) (map' : List ℕ) → Build P patch full map answer map'
+pub build_writes : (P : ℕ) (patch full map : List ℕ) (answer : Result ⊤ RefusedIn) (map' : List ℕ) → Build P patch full map answer map'
     → BuildWrites P patch map answer map'
 build_writes P patch full map answer map' call =
     record {
@@ -109,6 +108,6 @@ build_writes P patch full map answer map' call =
     }
 
 -- O1: two outcomes that meet Build are equal
-pub build_one : (P : ℕ) (patch full map : List ℕ) (x y : Built) (map₁ map₂ : List ℕ)
+pub build_one : (P : ℕ) (patch full map : List ℕ) (x y : Result ⊤ RefusedIn) (map₁ map₂ : List ℕ)
     → Build P patch full map x map₁ → Build P patch full map y map₂ → (x ≡ y) × (map₁ ≡ map₂)
 build_one P patch full map x y map₁ map₂ a b = (built_same x y (a.numbers ∙ sym b.numbers), a.bytes ∙ sym b.bytes)

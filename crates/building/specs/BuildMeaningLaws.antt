@@ -2,7 +2,7 @@
 use Prim.Native.Nat.{ℕ, zero, suc, ◌≤◌, ◌<◌}
 use Rattle.std.proofs.Common.{arith, sym, ◌∙◌, true≢false, le-ltb, leb-true}
 use Rattle.std.proofs.Math.Decide.{dec_lt}
-use Rattle.std.specs.Prelude.{◌≡◌, refl, ◌↔◌, Bool, false, List, leb, length, get_or}
+use Rattle.std.specs.Prelude.{◌≡◌, refl, ◌↔◌, Bool, false, List, leb, length, get_or, Result, Ok, Err, ⊤}
 use Rattle.std.proofs.Math.Path.{ap}
 use Rattle.std.proofs.Math.Logic.Iff
 use Rattle.std.proofs.Math.Bool.{true}
@@ -32,7 +32,7 @@ use Rattle.store.specs.Block.{slot_of, place_of}
 use Rattle.store.specs.BlockLaws.{payload_bytes}
 use Rattle.store.specs.Frame.{frame_rows}
 use Rattle.building.specs.Build.{block_fault, block_offset, build_fault, build_rows, built_map}
-use Rattle.building.specs.Build.{BuildOutcome, build_outcome, BuildNumbers, built_numbers, build_numbers, Build}
+use Rattle.building.specs.Build.{BuildOutcome, build_outcome, refused_in, BuildNumbers, built_numbers, build_numbers, Build}
 use Rattle.building.specs.Steps.{strays_in}
 use Rattle.building.specs.BuildLaws.{no_place, clean_place, stray_place, no_strays}
 use Rattle.building.specs.BuildLaws.{block_unsound, block_full_none, block_full, block_payload, block_patch, block_empty}
@@ -41,8 +41,7 @@ use Rattle.building.specs.BuildLaws.{frame_none, build_frame, build_refused_is, 
 use Rattle.building.specs.MapLaws.{laid_later, laid_length, built_length, built_pair, built_unused, built_good}
 use Rattle.building.specs.BuildWords.{blocks, places, SoundFrame, IsEmpty, PatchOf, IsPatch, IsFull, Placeless, blank, spelt}
 use Rattle.building.specs.BuildWords.{BlockGives, slot_6, page_8, payload_7, place_10, placeless_0, full_0, PairsOf, Tallies}
-use Rattle.building.specs.declared.Built.{Built}
-use Rattle.building.specs.declared.Built.TheVariants.{Done, Refused}
+use Rattle.building.specs.declared.RefusedIn.{RefusedIn}
 
 -- A slot: its numbers and its pair
 
@@ -231,21 +230,21 @@ module _ (P : ℕ) (patch full map : List ℕ) where
 
 -- The answer
 
-pub built_same : (x y : Built) → built_numbers x ≡ built_numbers y → x ≡ y
-built_same Done Done e = refl
-built_same Done (Refused r b o) e = absurd (refusal_some r (sym (ap (λ (n : BuildNumbers). n.number) e)))
-built_same (Refused r b o) Done e = absurd (refusal_some r (ap (λ (n : BuildNumbers). n.number) e))
-built_same (Refused r b o) (Refused q c u) e =
-    λ i. Refused (refusal_one r q (ap (λ (n : BuildNumbers). n.number) e) i) (e i).block (e i).offset
+pub built_same : (x y : Result ⊤ RefusedIn) → built_numbers x ≡ built_numbers y → x ≡ y
+built_same (Ok x) (Ok y) e = refl
+built_same (Ok x) (Err r) e = absurd (refusal_some r.refusal (sym (ap (λ (n : BuildNumbers). n.number) e)))
+built_same (Err r) (Ok x) e = absurd (refusal_some r.refusal (ap (λ (n : BuildNumbers). n.number) e))
+built_same (Err r) (Err q) e =
+    λ i. refused_in (refusal_one r.refusal q.refusal (ap (λ (n : BuildNumbers). n.number) e) i) (e i).block (e i).offset
 
-module _ (P : ℕ) (patch full map : List ℕ) (answer : Built) (map' : List ℕ) (call : Build P patch full map answer map') where
-  told : {x : Built} → answer ≡ x → built_numbers x ≡ build_numbers (build_outcome P patch full map)
+module _ (P : ℕ) (patch full map : List ℕ) (answer : Result ⊤ RefusedIn) (map' : List ℕ) (call : Build P patch full map answer map') where
+  told : {x : Result ⊤ RefusedIn} → answer ≡ x → built_numbers x ≡ build_numbers (build_outcome P patch full map)
   told e = sym (ap built_numbers e) ∙ call.numbers
 
-  pub done_iff : (answer ≡ Done) ↔ ((first_of (build_rows P patch full map) ≡ 0) × ((build_fault P patch full).number ≡ 0))
+  pub done_iff : (answer ≡ Ok tt) ↔ ((first_of (build_rows P patch full map) ≡ 0) × ((build_fault P patch full).number ≡ 0))
   done_iff = (
     λ e. build_zero P patch full map (sym (ap (λ (n : BuildNumbers). n.number) (told e))),
-    λ h. built_same answer Done (call.numbers ∙ ap build_numbers (build_done_is P patch full map h.0 h.1)),
+    λ h. built_same answer (Ok tt) (call.numbers ∙ ap build_numbers (build_done_is P patch full map h.0 h.1)),
   )
 
   -- what a refusal inside the frame tells, of the first fault and its payload
@@ -254,22 +253,23 @@ module _ (P : ℕ) (patch full map : List ℕ) (answer : Built) (map' : List ℕ
       (build_fault P patch full ≡ record { number = k; block = b }) × (offset_with k P (payload_of (slot_of patch b)) ≡ at)
 
   pub refused_iff : first_of (build_rows P patch full map) ≡ 0 → (r : Refusal) (b at : ℕ)
-      → (answer ≡ Refused r b at) ↔ Told (refusal_number r) b at
+      → (answer ≡ refused_in r b at) ↔ Told (refusal_number r) b at
   refused_iff f r b at = (
     λ e. go (told e) (build_fault P patch full).number refl,
     λ e.
-        built_same answer (Refused r b at)
+        built_same answer (refused_in r b at)
         (call.numbers
         ∙ ap build_numbers (build_faulty P patch full map f _ _ (λ i. (e.0 i).number) (λ i. (e.0 i).block) (refusal_some r))
         ∙ ap (λ (o : ℕ). record { number = refusal_number r; block = b; offset = o }) e.1),
   )
     where
-      go : built_numbers (Refused r b at) ≡ build_numbers (build_outcome P patch full map) → (k : ℕ) → (build_fault P patch full).number ≡ k
+      go : built_numbers (refused_in r b at) ≡ build_numbers (build_outcome P patch full map) → (k : ℕ) → (build_fault P patch full).number ≡ k
           → Told (refusal_number r) b at
       go o zero z = absurd (refusal_some r (ap (λ (x : BuildNumbers). x.number) (o ∙ ap build_numbers (build_done_is P patch full map f z))))
       go o (suc k) z =
           let c : ℕ = (build_fault P patch full).block in
-          let t : built_numbers (Refused r b at) ≡ record { number = suc k; block = c; offset = offset_with (suc k) P (payload_of (slot_of patch c)) } =
+          let t : built_numbers (refused_in r b at)
+          ≡ record { number = suc k; block = c; offset = offset_with (suc k) P (payload_of (slot_of patch c)) } =
           o ∙ ap build_numbers (build_faulty P patch full map f (suc k) _ z refl (λ q. omega arith)) in (
             λ i. record { number = (z ∙ sym (ap (λ (x : BuildNumbers). x.number) t)) i; block = (sym t i).block },
             λ i. (ap (λ (x : BuildNumbers). offset_with x.number P (payload_of (slot_of patch x.block))) t
@@ -277,18 +277,18 @@ module _ (P : ℕ) (patch full map : List ℕ) (answer : Built) (map' : List ℕ
           )
 
   -- a refusal by the frame tells neither block nor offset
-  pub frame_zeros : (first_of (build_rows P patch full map) ≡ 0 → ⊥) → (r : Refusal) (b at : ℕ) → answer ≡ Refused r b at → (b ≡ 0) × (at ≡ 0)
+  pub frame_zeros : (first_of (build_rows P patch full map) ≡ 0 → ⊥) → (r : Refusal) (b at : ℕ) → answer ≡ refused_in r b at → (b ≡ 0) × (at ≡ 0)
   frame_zeros n r b at e =
       let t = told e ∙ ap build_numbers (build_refused_is P patch full map (first_of (build_rows P patch full map)) refl n) in
       (ap (λ (x : BuildNumbers). x.block) t, ap (λ (x : BuildNumbers). x.offset) t)
 
   -- The map
 
-  pub kept : (r : Refusal) (b at : ℕ) → answer ≡ Refused r b at → map' ≡ map
+  pub kept : (r : Refusal) (b at : ℕ) → answer ≡ refused_in r b at → map' ≡ map
   kept r b at e =
       call.bytes ∙ refused_map_is P patch full map (λ z. refusal_some r (ap (λ (x : BuildNumbers). x.number) (told e) ∙ z))
 
-  module _ (e : answer ≡ Done) where
+  module _ (e : answer ≡ Ok tt) where
     written : map' ≡ splice map 0 (built_map patch)
     written =
         call.bytes ∙ ap (λ (o : BuildOutcome). o.map) (build_done_is P patch full map (done_iff.0 e).0 (done_iff.0 e).1)
@@ -352,13 +352,13 @@ module _ (P : ℕ) (patch full map : List ℕ) (answer : Built) (map' : List ℕ
   pub later_bytes : (i : ℕ) → map_bytes (blocks patch) ≤ i → get_or map' i 0 ≡ get_or map i 0
   later_bytes i h = go answer refl
     where
-      go : (x : Built) → answer ≡ x → get_or map' i 0 ≡ get_or map i 0
-      go Done e = done_later e i h
-      go (Refused r b at) e = ap (λ (m : List ℕ). get_or m i 0) (kept r b at e)
+      go : (x : Result ⊤ RefusedIn) → answer ≡ x → get_or map' i 0 ≡ get_or map i 0
+      go (Ok _) e = done_later e i h
+      go (Err r) e = ap (λ (m : List ℕ). get_or m i 0) (kept r.refusal r.block r.offset e)
 
   pub same_length : length map' ≡ length map
   same_length = go answer refl
     where
-      go : (x : Built) → answer ≡ x → length map' ≡ length map
-      go Done e = done_length e
-      go (Refused r b at) e = ap (λ (m : List ℕ). length m) (kept r b at e)
+      go : (x : Result ⊤ RefusedIn) → answer ≡ x → length map' ≡ length map
+      go (Ok _) e = done_length e
+      go (Err r) e = ap (λ (m : List ℕ). length m) (kept r.refusal r.block r.offset e)

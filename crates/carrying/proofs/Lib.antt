@@ -1,3 +1,4 @@
 pub mod CarryTold
 pub mod Decisions
+pub mod KindTests
 pub mod Making

@@ -1,65 +1,46 @@
 -- How the code makes as many stores as it is told, over plain lists and numbers.
-use Prim.Native.Nat.{ℕ}
+use Prim.Native.Nat.{ℕ, ◌≤◌, ◌<◌}
 use native.Mathlib.Omega.{arith}
-use mathlib.Core.Path.{◌≡◌, refl, ◌∙◌}
-use mathlib.Core.Bool.{Bool, true, false, not, cond}
+use mathlib.Core.Path.{◌≡◌, refl, sym, ap, ◌∙◌}
 use mathlib.Core.List.{List, [], ◌∷◌}
-use lib.Dec.{eqb}
-use lib.ListN.{length, take}
-use lib.Seq.{take_all}
+use lib.ListN.{take}
 use Rattle.layout.specs.Sizes.{full_kind}
-use Rattle.store.specs.Block.{Places}
-use Rattle.carrying.specs.Puts.{Decision, slot, place, put_slot, put_place, put, puts, order}
+use Rattle.carrying.specs.Puts.{Decision, Areas, Put, slot, place, put_slot, put_place, put, puts, order, carried}
+use Rattle.carrying.specs.CarryLaws.{carried_is}
 use Rattle.carrying.specs.Parts.{Made}
+use Rattle.carrying.specs.Told.{first_page, first_slot, both_told}
 
--- places are there by the area's length
-pub places_kept : (P : ℕ) (full full' : List ℕ) → length full' ≡ length full → Places P full → Places P full'
-places_kept P full full' e p = rw e p
-
-module _ (P b : ℕ) (d : Decision) (patch full : List ℕ) where
-  -- one store
-  pub place_made : (t : Bool) (full' : List ℕ) → t ≡ true → full' ≡ put_place P full b d.kind d.page
-      → Made P b d (cond t place slot ∷ []) patch full patch full'
-  unfolding puts put
-  place_made t full' e h = rw e (record { patch_bytes = refl; full_bytes = h })
-
-  pub slot_made : (t : Bool) (patch' : List ℕ) → t ≡ false → patch' ≡ put_slot patch b d.kind d.payload
-      → Made P b d (cond t place slot ∷ []) patch full patch' full
-  unfolding puts put
-  slot_made t patch' e h = rw e (record { patch_bytes = h; full_bytes = refl })
-
+module _ (P b : ℕ) (d : Decision) (patch full : List ℕ) (stores : ℕ) where
   -- none
-  pub none_told : (stores : ℕ) → stores ≡ 0 → Made P b d (take stores (order d.kind)) patch full patch full
+  pub none_made : stores ≡ 0 → Made P b d (take stores (order d.kind)) patch full patch full
   unfolding puts
-  none_told stores e = rw e (record { patch_bytes = refl; full_bytes = refl })
+  none_made e = rw e (record { patch_bytes = refl; full_bytes = refl })
 
-  module _ (t : Bool) (first : t ≡ eqb d.kind full_kind) (p f : List ℕ) (made : Made P b d (cond t place slot ∷ []) patch full p f) where
-    order_is : order d.kind ≡ cond t (place ∷ slot ∷ []) (slot ∷ place ∷ [])
-    unfolding order
-    order_is = rw first
+  -- the first
+  module _ (some : stores ≡ 0 → ⊥) (one : stores ≤ 1) where
+    the_first : (xs : List Put) → take 1 (order d.kind) ≡ xs → take stores (order d.kind) ≡ xs
+    the_first xs e =
+        let n : stores ≡ 1 = omega arith in
+        ap (λ (k : ℕ). take k (order d.kind)) n ∙ e
 
-    -- the first
-    pub one_told : (stores : ℕ) → stores ≡ 1 → Made P b d (take stores (order d.kind)) patch full p f
-    one_told stores e = rw (e, order_is) (go t made)
-      where
-        go : (t : Bool) → Made P b d (cond t place slot ∷ []) patch full p f
-            → Made P b d (take 1 (cond t (place ∷ slot ∷ []) (slot ∷ place ∷ []))) patch full p f
-        go true m = m
-        go false m = m
+    pub place_made : (full' : List ℕ) → d.kind ≡ full_kind → full' ≡ put_place P full b d.kind d.page
+        → Made P b d (take stores (order d.kind)) patch full patch full'
+    unfolding puts put
+    place_made full' e h = rw (the_first (place ∷ []) (first_page d.kind e)) (record { patch_bytes = refl; full_bytes = h })
 
-    -- both
-    pub both_told : (stores : ℕ) → (stores ≡ 0 → ⊥) → (stores ≡ 1 → ⊥) → (p' f' : List ℕ)
-        → Made P b d (cond (not t) place slot ∷ []) p f p' f' → Made P b d (take stores (order d.kind)) patch full p' f'
-    unfolding puts
-    both_told stores some many p' f' more = rw (order_is) (go t made more)
-      where
-        go : (t : Bool) → Made P b d (cond t place slot ∷ []) patch full p f → Made P b d (cond (not t) place slot ∷ []) p f p' f'
-            → Made P b d (take stores (cond t (place ∷ slot ∷ []) (slot ∷ place ∷ []))) patch full p' f'
-        go true m n = rw (take_all stores (place ∷ slot ∷ []) (omega arith)) (record {
-          patch_bytes = n.patch_bytes ∙ λ i. (put P b d slot (record { patch = m.patch_bytes i; full = m.full_bytes i })).patch;
-          full_bytes = n.full_bytes ∙ λ i. (put P b d slot (record { patch = m.patch_bytes i; full = m.full_bytes i })).full;
-        })
-        go false m n = rw (take_all stores (slot ∷ place ∷ []) (omega arith)) (record {
-          patch_bytes = n.patch_bytes ∙ λ i. (put P b d place (record { patch = m.patch_bytes i; full = m.full_bytes i })).patch;
-          full_bytes = n.full_bytes ∙ λ i. (put P b d place (record { patch = m.patch_bytes i; full = m.full_bytes i })).full;
-        })
+    pub slot_made : (patch' : List ℕ) → (d.kind ≡ full_kind → ⊥) → patch' ≡ put_slot patch b d.kind d.payload
+        → Made P b d (take stores (order d.kind)) patch full patch' full
+    unfolding puts put
+    slot_made patch' e h = rw (the_first (slot ∷ []) (first_slot d.kind e)) (record { patch_bytes = h; full_bytes = refl })
+
+  -- both, in either order
+  pub both_made : 1 < stores → (patch' full' : List ℕ) → patch' ≡ put_slot patch b d.kind d.payload
+      → full' ≡ put_place P full b d.kind d.page → Made P b d (take stores (order d.kind)) patch full patch' full'
+  unfolding carried
+  both_made many patch' full' p f =
+      let s : Areas = record { patch = patch; full = full } in
+      let e = ap (λ (xs : List Put). puts P b d xs s) (both_told d.kind stores many) ∙ carried_is P b d s in
+      record {
+        patch_bytes = p ∙ sym (ap (λ (a : Areas). a.patch) e);
+        full_bytes = f ∙ sym (ap (λ (a : Areas). a.full) e);
+      }

@@ -1,7 +1,8 @@
 -- Carry out a decision on a block.
-use Rattle.std.specs.Prelude.{ℕ, ◌≡◌, not, ◌&&◌, cond, List, [], ◌∷◌, eqb, leb, ltb, length}
+use Rattle.std.specs.Prelude.{ℕ, ◌≡◌, not, ◌&&◌, cond, List, [], ◌∷◌, eqb, leb, ltb, length, Result, Ok, Err}
 use Rattle.layout.specs.Sizes.{patch_kind, full_kind}
 use Rattle.layout.specs.Numbers.{kind_number, refusal_number}
+use Rattle.layout.specs.declared.Refusal.{Refusal}
 use Rattle.layout.specs.Refusals.{Row, ◌⇐◌, first_of, decided}
 use Rattle.layout.specs.Groups.{Grouped, ordered, ◌▸◌}
 use Rattle.layout.specs.Groups as group
@@ -10,7 +11,6 @@ use Rattle.layout.specs.Lengths.{pages_in, length_rows}
 use Rattle.payload.specs.Entries.{sound}
 use Rattle.store.specs.Block.{block_rows}
 use Rattle.carrying.specs.declared.Written.{Written}
-use Rattle.carrying.specs.declared.Written.TheVariants.{Done, Refused}
 use Rattle.carrying.specs.Puts.{Decision, carried, all}
 
 -- "It looks at the payload only for PATCH, taking any sound one, and at the page only for FULL_REF."
@@ -76,15 +76,15 @@ pub record CarryNumbers : Type 0 where
   pub kind : ℕ
   pub length : ℕ
 
-abbrev pub written_numbers : Written → CarryNumbers
-written_numbers (Done k n) = record { number = 0; kind = kind_number k; length = n }
-written_numbers (Refused r) = record { number = refusal_number r; kind = 0; length = 0 }
+abbrev pub written_numbers : Result Written Refusal → CarryNumbers
+written_numbers (Ok w) = record { number = 0; kind = kind_number w.kind; length = w.length }
+written_numbers (Err r) = record { number = refusal_number r; kind = 0; length = 0 }
 
 abbrev pub carry_numbers : CarryOutcome → CarryNumbers
 carry_numbers o = record { number = o.number; kind = o.kind; length = o.length }
 
-pub record CarryOut (P : ℕ) (patch full : List ℕ) (b : ℕ) (d : Decision) (stores : ℕ) (answer : Written) (patch' full' : List ℕ)
-    : Type 0 where
+pub record CarryOut (P : ℕ) (patch full : List ℕ) (b : ℕ) (d : Decision) (stores : ℕ) (answer : Result Written Refusal)
+    (patch' full' : List ℕ) : Type 0 where
   pub numbers : written_numbers answer ≡ carry_numbers (carry_told P patch full b d stores)
   pub patch_bytes : patch' ≡ (carry_told P patch full b d stores).patch
   pub full_bytes : full' ≡ (carry_told P patch full b d stores).full

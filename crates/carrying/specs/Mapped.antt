@@ -1,5 +1,6 @@
 -- Carry out a decision and keep a lent map: the same outcome on both areas, and the block's own pair if all stores are made.
-use Rattle.std.specs.Prelude.{ℕ, ◌≡◌, cond, List, length}
+use Rattle.std.specs.Prelude.{ℕ, ◌≡◌, cond, List, length, Result}
+use Rattle.layout.specs.declared.Refusal.{Refusal}
 use Rattle.layout.specs.Refusals.{Row, first_of, decided}
 use Rattle.layout.specs.Lengths.{blocks_in}
 use Rattle.blockmap.specs.Pack.{pair_of, set_pair}
@@ -30,7 +31,7 @@ carry_mapped_told P patch full map b d stores =
 abbrev pub carry_mapped_outcome : ℕ → List ℕ → List ℕ → List ℕ → ℕ → Decision → MappedCarry
 carry_mapped_outcome P patch full map b d = carry_mapped_told P patch full map b d all
 
-pub record CarryOutMapped (P : ℕ) (patch full map : List ℕ) (b : ℕ) (d : Decision) (stores : ℕ) (answer : Written)
+pub record CarryOutMapped (P : ℕ) (patch full map : List ℕ) (b : ℕ) (d : Decision) (stores : ℕ) (answer : Result Written Refusal)
     (patch' full' map' : List ℕ) : Type 0 where
   pub numbers : written_numbers answer ≡ carry_numbers (carry_mapped_told P patch full map b d stores).areas
   pub patch_bytes : patch' ≡ (carry_mapped_told P patch full map b d stores).areas.patch

@@ -7,7 +7,8 @@ ghost use Rattle.carrying.specs.Puts.{told_all};
 ghost use Rattle.carrying.specs.Mapped.{CarryOutMapped};
 
 use crate::Written;
-use layout::Kind;
+use crate::decision::Asked;
+use layout::{Kind, Refusal};
 
 // The block's pair, if all stores were made.
 fn keep_pair(map: &mut [u8], block: usize, kind: Kind, stores: usize)
@@ -29,32 +30,18 @@ pub fn carry_out_mapped(
     payload: &[u8],
     page: &[u8],
     stores: usize,
-) -> Written
+) -> Result<Written, Refusal>
     ensures { CarryOutMapped page_size patch.old full.old map.old block
         (record { kind = kind; payload = payload.now; page = page.now }) stores result patch.new full.new
         map.new }
 {
-    let needed = blockmap::map_bytes(layout::area::blocks(patch.len()));
-    match crate::carry_with(
-        needed <= map.len(),
-        patch,
-        full,
-        block,
+    let map_fits = blockmap::map_bytes(layout::area::blocks(patch.len())) <= map.len();
+    let asked = Asked {
         kind,
         payload,
         page,
-        stores,
-    ) {
-        Written::Refused(refusal) => Written::Refused(refusal),
-        Written::Done {
-            kind: stored,
-            length,
-        } => {
-            keep_pair(map, block, stored, stores);
-            Written::Done {
-                kind: stored,
-                length: length,
-            }
-        }
-    }
+    };
+    let written = crate::carry_with(map_fits, patch, full, block, asked, stores)?;
+    keep_pair(map, block, written.kind, stores);
+    Ok(written)
 }

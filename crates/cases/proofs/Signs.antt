@@ -1,110 +1,118 @@
--- Signed numbers of the code, read back from their bits: a number's place below 0, and how far below 0 a number is.
-use Prim.Native.Nat.{ℕ, zero, suc, ◌+◌, ◌-◌, ◌^◌, ◌≤◌, ◌<◌}
+-- The position that a text says, by way of signed numbers of 64 bits: a number that they do not hold is far beyond a position.
+use Prim.Native.Nat.{ℕ, zero, suc, ◌-◌, ◌^◌, ◌≤◌, ◌<◌}
 use native.Mathlib.Omega.{arith}
+use mathlib.Core.Logic.{◌⊎◌, inl, inr}
 use mathlib.Core.Path.{◌≡◌, refl, sym, ap, ◌∙◌, subst}
-use mathlib.Core.Bool.{Bool, true, false, cond, false≢true, true≢false}
+use mathlib.Core.Bool.{Bool, cond}
 use mathlib.Core.List.{List}
-use lib.Dec.{T}
 use lib.ListN.{get_or}
-use lib.IntN.{ℤ, pos, negsuc, nat_abs, ◌-ℤ◌}
-use lib.Signed.{lt_z, non_neg, nat_abs-le}
+use lib.IntN.{ℤ, pos, negsuc, ◌-ℤ◌}
 use mir.Syntax.{w32, w64}
-use mir.Val.{Fits, SFits, to_z, of_z}
-use mir.ValLaws.{to_z-of_z, to_z_pos}
-use borrow.Author.Tests.{le-ltb, eq-eqb, ne_eqb}
+use mir.Val.{SFits, to_z, of_z}
+use mir.ValLaws.{to_z-of_z}
+use borrow.Author.Tests.{le-ltb, lt-ltb, eq-eqb, ne_eqb}
+use Rattle.std.proofs.Math.Decide.{dec_lt}
+use Rattle.std.specs.declared.result.Result.{Result}
+use Rattle.std.specs.Prelude.{Ok, Err}
+use Rattle.std.specs.Result.{OkIff, result_unwrap_or}
 use Rattle.span.specs.Tests.{tests}
 use Rattle.cases.specs.Decimal.{decimal}
 use Rattle.cases.specs.Position.{held, above, below, position}
 
--- k + 1 below 0 is k below -1
-pub under : (k : ℕ) → k < 2 ^ 31 → negsuc 0 -ℤ to_z w32 k ≡ negsuc k
-under k h = ap (λ (z : ℤ). negsuc 0 -ℤ z) (to_z_pos w32 k h) ∙ go k
-  where
-    go : (k : ℕ) → negsuc 0 -ℤ pos k ≡ negsuc k
-    go zero = refl
-    go (suc j) = ap (λ (x : ℕ). negsuc (suc x)) (omega arith)
+-- The definitions, where a number fits and where it does not
 
-pub under_fits : (k : ℕ) → k < 2 ^ 31 → SFits w32 (negsuc 0 -ℤ to_z w32 k)
-under_fits k h = subst (SFits w32) (sym (under k h)) (record { sfits = h })
-
--- A number that the code reads back from its bits, and what it takes from -1 where that is below 0
-
-abbrev back : ℤ → ℤ
-back p = to_z w32 (of_z w32 p)
-
-abbrev flipped : ℤ → ℤ
-flipped p = negsuc 0 -ℤ back p
-
-record Flips (p : ℤ) : Type 0 where
-  some : 1 ≤ nat_abs p
-  short : nat_abs p ≤ 2 ^ 31
-  is : flipped p ≡ pos (nat_abs p - 1)
-
-flips : (p : ℤ) → SFits w32 p → lt_z (back p) (pos 0) ≡ true → Flips p
-flips (pos q) f h =
-    absurd (false≢true (sym (ap (λ (z : ℤ). lt_z z (pos 0)) (to_z-of_z w32 (pos q) f) ∙ le-ltb q 0 (omega arith)) ∙ h))
-flips (negsuc k) f h =
-    let g : k < 2 ^ 31 = f.sfits in
-    record {
-      some = omega arith;
-      short = omega arith;
-      is =
-          ap (λ (z : ℤ). negsuc 0 -ℤ z) (to_z-of_z w32 (negsuc k) f)
-          ∙ ap (λ (t : Bool). cond t (negsuc (1 - suc (suc k))) (pos (suc k - 1))) (le-ltb (suc k) 1 (omega arith));
-    }
-
-module _ (p : ℤ) (f : SFits w32 p) (h : lt_z (back p) (pos 0) ≡ true) where
-  pub flipped_fits : SFits w32 (flipped p)
-  flipped_fits =
-      let s = flips p f h in
-      subst (SFits w32) (sym s.is) (record { sfits = omega (arith, s.some, s.short) })
-
-  flipped_is : back (flipped p) ≡ pos (nat_abs p - 1)
-  flipped_is = to_z-of_z w32 (flipped p) flipped_fits ∙ (flips p f h).is
-
-  pub flipped_cast : T (non_neg (back (flipped p))) × Fits w64 (nat_abs (back (flipped p)))
-  flipped_cast =
-      let s = flips p f h in
-      subst (λ (z : ℤ). T (non_neg z) × Fits w64 (nat_abs z)) (sym flipped_is) (tt, record { fits = omega (arith, s.some, s.short) })
-
-  pub flipped_far : (nat_abs (back (flipped p)) + 1 ≡ nat_abs p) × (nat_abs p ≤ 2 ^ 31)
-  flipped_far =
-      let s = flips p f h in
-      let e : nat_abs (back (flipped p)) ≡ nat_abs p - 1 = ap nat_abs flipped_is in
-      (omega (arith, s.some), s.short)
-
-not_below : (r : ℤ) → lt_z r (pos 0) ≡ false → T (non_neg r)
-not_below (pos a) h = tt
-not_below (negsuc k) h = absurd (true≢false h)
-
-read_fits : (p : ℤ) → SFits w32 p → Fits w64 (nat_abs p)
-read_fits p f =
-    let g : nat_abs p ≤ 2 ^ 31 = nat_abs-le p f.sfits in
-    record { fits = omega arith }
-
-module _ (p : ℤ) (f : SFits w32 p) where
-  pub left_far : nat_abs (back p) ≡ nat_abs p
-  left_far = ap nat_abs (to_z-of_z w32 p f)
-
-  pub left_cast : lt_z (back p) (pos 0) ≡ false → T (non_neg (back p)) × Fits w64 (nat_abs (back p))
-  left_cast h = (not_below (back p) h, subst (λ (n : ℕ). Fits w64 n) (sym left_far) (read_fits p f))
-
--- the definitions, where a number fits
-pub above_is : (size : ℕ) → size < 2147483648 → above size ≡ pos size
+above_is : (size : ℕ) → size < 2147483648 → above size ≡ pos size
 unfolding above
 above_is size h = search tests
 
-pub below_is : (size : ℕ) → 1 ≤ size → size ≤ 2147483648 → below size ≡ negsuc (size - 1)
+above_over : (size : ℕ) → 2147483648 ≤ size → above size ≡ pos 0
+unfolding above
+above_over size h = search tests
+
+below_is : (k : ℕ) → k < 2147483648 → below (suc k) ≡ negsuc k
 unfolding below
-below_is size h k = rw (ne_eqb size 0 (λ (e : size ≡ 0). omega arith), le-ltb held size k)
+below_is k h =
+    let q : suc k ≤ held = omega arith in
+    rw (ne_eqb (suc k) 0 (λ (e : suc k ≡ 0). omega arith), le-ltb held (suc k) q) (ap negsuc (omega arith))
+
+below_over : (size : ℕ) → 2147483648 < size → below size ≡ pos 0
+unfolding below
+below_over size h = rw (ne_eqb size 0 (λ (e : size ≡ 0). omega arith), lt-ltb held size h) refl
+
+minus : (k : ℕ) → pos 0 -ℤ pos (suc k) ≡ negsuc k
+minus k = ap (λ (t : Bool). cond t (negsuc (suc k - 1)) (pos (0 - suc k))) (lt-ltb 0 (suc k) (omega arith)) ∙ ap negsuc (omega arith)
+
+-- A number as one of 64 bits, or the largest of those
+
+record Size (n : ℕ) (s : ℤ) : Type 0 where
+  far : ℕ
+  is : s ≡ pos far
+  fits : far < 2 ^ 63
+  near : (far ≡ n) ⊎ ((2147483648 < far) × (2147483648 < n))
+
+size_of : {E : Type 0} (n : ℕ) (r : Result ℤ E) → OkIff r (SFits w64 (pos n)) (pos n) → Size n (result_unwrap_or r (pos 9223372036854775807))
+size_of n (Ok x) o = record { far = n; is = o.1; fits = o.0.sfits; near = inl refl }
+size_of n (Err e) o =
+    let h : 2 ^ 63 ≤ n = elim (dec_lt n (2 ^ 63)) [ yes l ↦ absurd (o (record { sfits = l })) | no l ↦ omega arith ] in
+    record { far = 9223372036854775807; is = refl; fits = omega arith; near = inr (omega arith, omega arith) }
+
+abbrev pub back : ℤ → ℤ
+back p = to_z w64 (of_z w64 p)
+
+above_far : (m n : ℕ) → (m ≡ n) ⊎ ((2147483648 < m) × (2147483648 < n)) → above m ≡ above n
+above_far m n (inl e) = ap above e
+above_far m n (inr h) = above_over m (omega (arith, h.0)) ∙ sym (above_over n (omega (arith, h.1)))
+
+below_far : (m n : ℕ) → (m ≡ n) ⊎ ((2147483648 < m) × (2147483648 < n)) → below m ≡ below n
+below_far m n (inl e) = ap below e
+below_far m n (inr h) = below_over m h.0 ∙ sym (below_over n h.1)
+
+-- That as one of 32 bits, or 0
+
+narrow_above : {E : Type 0} (m : ℕ) (r : Result ℤ E) → OkIff r (SFits w32 (pos m)) (pos m) → result_unwrap_or r (pos 0) ≡ above m
+narrow_above m (Ok x) o = o.1 ∙ sym (above_is m o.0.sfits)
+narrow_above m (Err e) o =
+    let h : 2147483648 ≤ m = elim (dec_lt m 2147483648) [ yes l ↦ absurd (o (record { sfits = l })) | no l ↦ omega arith ] in
+    sym (above_over m h)
+
+narrow_below : {E : Type 0} (m : ℕ) (r : Result ℤ E) → OkIff r (SFits w32 (pos 0 -ℤ pos m)) (pos 0 -ℤ pos m) → result_unwrap_or r (pos 0) ≡ below m
+unfolding below
+narrow_below zero (Ok x) o = o.1
+narrow_below zero (Err e) o = refl
+narrow_below (suc k) (Ok x) o = o.1 ∙ minus k ∙ sym (below_is k (subst (SFits w32) (minus k) o.0).sfits)
+narrow_below (suc k) (Err e) o =
+    let h : 2147483648 ≤ k =
+    elim (dec_lt k 2147483648) [ yes l ↦ absurd (o (subst (SFits w32) (sym (minus k)) (record { sfits = l }))) | no l ↦ omega arith ] in
+    sym (below_over (suc k) (omega arith))
+
+minus_fits : (m : ℕ) → m < 2 ^ 63 → SFits w64 (pos 0 -ℤ pos m)
+minus_fits zero h = record { sfits = omega arith }
+minus_fits (suc k) h = subst (SFits w64) (sym (minus k)) (record { sfits = omega arith })
 
 -- what a text says, by its first byte
-module _ (text : List ℕ) (first size : ℕ) (r : ℤ) (f : first ≡ get_or text 0 0) (s : size ≡ decimal 0 text) where
+module _ {E : Type 0} (text : List ℕ) (first n : ℕ) (s z : ℤ) (r q : Result ℤ E) (f : first ≡ get_or text 0 0) (e : n ≡ decimal 0 text)
+    (o : OkIff r (SFits w64 (pos n)) (pos n)) (d : s ≡ result_unwrap_or r (pos 9223372036854775807)) (u : OkIff q (SFits w32 z) z) where
   abbrev by_first : Bool → ℤ
   by_first t = cond t (below (decimal 0 text)) (above (decimal 0 text))
 
-  pub said_below : first ≡ 45 → r ≡ below size → r ≡ position text
-  said_below h e = e ∙ ap below s ∙ sym (ap by_first (eq-eqb (get_or text 0 0) 45 (sym f ∙ h)))
+  size : Size n s
+  size = subst (Size n) (sym d) (size_of n r o)
 
-  pub said_above : (first ≡ 45 → ⊥) → r ≡ above size → r ≡ position text
-  said_above h e = e ∙ ap above s ∙ sym (ap by_first (ne_eqb (get_or text 0 0) 45 (λ (k : get_or text 0 0 ≡ 45). h (f ∙ k))))
+  back_is : back s ≡ pos size.far
+  back_is = ap back size.is ∙ to_z-of_z w64 (pos size.far) (record { sfits = size.fits })
+
+  pub said_above : (first ≡ 45 → ⊥) → z ≡ back s → result_unwrap_or q (pos 0) ≡ position text
+  said_above h k =
+      narrow_above size.far q (subst (λ (y : ℤ). OkIff q (SFits w32 y) y) (k ∙ back_is) u)
+      ∙ above_far size.far n size.near
+      ∙ ap above e
+      ∙ sym (ap by_first (ne_eqb (get_or text 0 0) 45 (λ (k : get_or text 0 0 ≡ 45). h (f ∙ k))))
+
+  pub said_below : first ≡ 45 → z ≡ back (pos 0 -ℤ back s) → result_unwrap_or q (pos 0) ≡ position text
+  said_below h k =
+      let m : back (pos 0 -ℤ back s) ≡ pos 0 -ℤ pos size.far =
+      ap (λ (y : ℤ). back (pos 0 -ℤ y)) back_is ∙ to_z-of_z w64 (pos 0 -ℤ pos size.far) (minus_fits size.far size.fits) in
+      narrow_below size.far q (subst (λ (y : ℤ). OkIff q (SFits w32 y) y) (k ∙ m) u)
+      ∙ below_far size.far n size.near
+      ∙ ap below e
+      ∙ sym (ap by_first (eq-eqb (get_or text 0 0) 45 (sym f ∙ h)))

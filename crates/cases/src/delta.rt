@@ -12,22 +12,12 @@ fn run_end(before: &[u8], after: &[u8], first: usize, end: usize) -> usize
     requires { (first < end) × (end ≤ length before.now) × (end ≤ length after.now) }
     ensures { (first ≤ result) × (result < end) }
 {
-    let mut last = first;
-    while last + 1 < end {
-        let at = last + 1;
-        if after[at] != after[first] {
-            return last;
+    for at in first + 1..end {
+        if after[at] != after[first] || before[at] == after[at] {
+            return at - 1;
         }
-        if before[at] == after[at] {
-            return last;
-        }
-        last = at;
     }
-    last
-}
-
-fn wide(byte: u8) -> u64 {
-    byte as u64
+    end - 1
 }
 
 // One run.
@@ -38,7 +28,7 @@ fn tell(first: usize, last: usize, value: u8) {
         say::digits(last as u64);
     }
     say::text(b":");
-    io::print_hex(say::STDOUT, wide(value), 2);
+    io::print_hex(say::STDOUT, u64::from(value), 2);
 }
 
 // All that changed. It answers how many runs it told, which is 0 only where nothing changed.
@@ -47,7 +37,7 @@ pub fn delta(name: &[u8], before: &[u8], after: &[u8]) -> usize
     ensures kept { Kept before.now after.now result }
 {
     say::word(name);
-    let end = span::shorter(before.len(), after.len());
+    let end = before.len().min(after.len());
     let mut told = 0;
     let mut at = differ::next_diff(before, after, 0);
     while at < end {

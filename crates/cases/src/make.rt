@@ -1,81 +1,62 @@
 // A buffer made from its description: `LENGTH ITEM ..`, all bytes 0 but for the items. An item is `AT:HEX`, bytes laid at a place,
 // `FROM-TO:HH`, one value from one place to another, `P` or `F`, the sound header of a patch or of a full area.
-ghost use Rattle.std.specs.Prelude.{◌+◌, ◌*◌, ◌<◌, ◌≤◌, length};
+ghost use Rattle.std.specs.Prelude.{◌≡◌, ◌<◌, ◌≤◌, length, get_or};
+ghost use Rattle.arrayvec.specs.ArrayVec.{array_vec_len};
 
-use crate::fields::{first, number, piece, up_to};
+use crate::fields::{number, piece};
+use arrayvec::ArrayVec;
 use layout::Layout;
 
 // Room for a byte more than a page has.
-const ROOM: usize = Layout::PAGE + 1;
+pub const ROOM: usize = Layout::PAGE + 1;
 
-// A buffer, and how many of its bytes are described.
-#[derive(Clone, Copy)]
-pub struct Made {
-    pub bytes: [u8; ROOM],
-    pub length: usize,
-}
-
-// The value of a hexadecimal digit.
-fn nibble(digit: u8) -> u8 {
+// The value of a hexadecimal digit. Any other byte has a value too, which the library's reading of digits would refuse.
+fn nibble(digit: u8) -> u8
+    ensures { result < 16 }
+{
     if digit < b'a' {
         return digit % 16;
     }
     (digit % 16 + 9) % 16
 }
 
-// The k-th byte of those that hexadecimal digits spell.
-fn spelled(hex: &[u8], k: usize) -> u8
-    requires { 2 * k + 1 < length hex.now }
-{
-    let at = 2 * k;
-    nibble(hex[at]) % 16 * 16 + nibble(hex[at + 1]) % 16
+// The byte that two hexadecimal digits spell.
+fn spelled(digits: &[u8]) -> u8 {
+    match digits {
+        [high, low] => nibble(*high) * 16 + nibble(*low),
+        _ => 0,
+    }
 }
 
-// A place's value under an item: a byte of the item's, the last of them over again up to `to`, or the old value.
-fn laid(old: u8, at: usize, from: usize, to: usize, hex: &[u8]) -> u8 {
-    let count = hex.len() / 2;
-    if count == 0 {
-        return old;
-    }
-    if at < from {
-        return old;
-    }
-    if at - from < count {
-        return spelled(hex, at - from);
-    }
-    if to < at {
-        return old;
-    }
-    spelled(hex, count - 1)
-}
-
-// Lays an item's bytes from one place on, or one value from one place to another.
+// Lays an item's bytes from one place on, and the last of them over again up to another place.
 fn lay(dst: &mut [u8], from: usize, to: usize, hex: &[u8]) {
-    let mut i = 0;
-    while i < dst.len() {
-        dst[i] = laid(dst[i], i, from, to, hex);
-        i += 1;
+    let len = dst.len();
+    let start = from.min(len);
+    for (place, digits) in dst[start..].iter_mut().zip(hex.chunks_exact(2)) {
+        *place = spelled(digits);
+    }
+    if let Some(digits) = hex.chunks_exact(2).last() {
+        let end = to.saturating_add(1).min(len);
+        let rest = from.saturating_add(hex.len() / 2).min(end);
+        dst[rest..end].fill(spelled(digits));
     }
 }
 
 // One item. The headers stand here byte by byte, as the paper has them.
 fn lay_item(dst: &mut [u8], item: &[u8]) {
-    let letter = first(item);
-    if letter == b'P' {
-        span::copy(
+    match item.first() {
+        Some(b'P') => span::copy(
             dst,
             b"PBKPATCH\x02\x00\x00\x00\x00\x20\x00\x00\x00\x02\x00\x00",
-        );
-        return;
+        ),
+        Some(b'F') => span::copy(dst, b"PBKFULL\x00\x01\x00\x00\x00\x00\x20\x00\x00"),
+        _ => {
+            let places = piece(item, 0, b':');
+            let from = number(piece(places, 0, b'-'));
+            let to = number(piece(places, 1, b'-'));
+            lay(dst, from, to, piece(item, 1, b':'));
+        }
     }
-    if letter == b'F' {
-        span::copy(dst, b"PBKFULL\x00\x01\x00\x00\x00\x00\x20\x00\x00");
-        return;
-    }
-    let places = piece(item, 0, b':');
-    let from = number(piece(places, 0, b'-'));
-    let to = number(piece(places, 1, b'-'));
-    lay(dst, from, to, piece(item, 1, b':'));
 }
 
 // Makes a buffer, and answers how many of its bytes are described.
@@ -83,34 +64,29 @@ pub fn make(dst: &mut [u8], description: &[u8]) -> usize
     ensures { result ≤ length dst.old }
 {
     span::fill(dst);
-    let mut at = 0;
-    while at < description.len() {
-        let item = up_to(description, at, b' ');
+    for item in description.split(|byte| *byte == b' ') {
         lay_item(dst, item);
-        at += item.len() + 1;
     }
-    span::shorter(number(piece(description, 0, b' ')), dst.len())
+    number(piece(description, 0, b' ')).min(dst.len())
 }
 
-// The same, but `=` leaves the buffer and its length as they are, and so does a line that has no such field.
-pub fn make_or_keep(dst: &mut [u8], description: &[u8], kept: usize) -> usize
-    ensures { result ≤ length dst.old }
+// A buffer of its own, as long as it is described.
+pub fn buffer<const N: usize>(description: &[u8]) -> ArrayVec<u8, N>
+    ensures { array_vec_len result ≤ N }
 {
-    let sign = first(description);
-    if sign == b'=' || sign == 0 {
-        return span::shorter(kept, dst.len());
-    }
-    make(dst, description)
+    let mut bytes = [0u8; N];
+    let length = make(&mut bytes, description);
+    let mut made = ArrayVec::from(bytes);
+    made.truncate(length);
+    made
 }
 
-// A buffer of its own.
-pub fn buffer(description: &[u8]) -> Made
-    ensures { result.length ≤ length result.bytes }
+// The same over an old one, which `=` leaves as it is, and so does a line that has no such field.
+pub fn make_or_keep<const N: usize>(kept: &mut ArrayVec<u8, N>, description: &[u8])
+    ensures { get_or description.now 0 61 ≡ 61 → kept.new.items ≡ kept.old.items }
 {
-    let mut bytes = [0u8; ROOM];
-    let n = make(&mut bytes, description);
-    Made {
-        bytes: bytes,
-        length: n,
+    match description.first() {
+        None | Some(b'=') => {}
+        Some(_) => *kept = buffer(description),
     }
 }

@@ -25,7 +25,7 @@ pub fn word(bytes: &[u8]) -> usize
     text(bytes)
 }
 
-// A number's decimal digits.
+// A number's decimal digits. By `io::decimal`: what prints a number does not tell how many digits it has.
 pub(crate) fn digits(n: u64) -> usize
     ensures { IsDigitCount 10 1 n result }
 {
@@ -47,18 +47,18 @@ pub fn number(n: u64) -> usize
 pub fn position(at: i32) -> usize
     ensures { IsDigitCount 10 1 (nat_abs at) result }
 {
+    text(b" ");
     if at < 0 {
-        text(b" -");
-        return digits(((-1 - at) as u64) + 1);
+        text(b"-");
     }
-    number(at as u64)
+    digits(u64::from(at.unsigned_abs()))
 }
 
 // That a call is refused, and why.
 pub fn refused(refusal: Refusal) -> usize
     ensures { IsDigitCount 10 1 (refusal_number refusal) result }
 {
-    number(layout::number::refusal_number(refusal) as u64)
+    number(u32::from(refusal).into())
 }
 
 // That a call is refused, why, and the payload offset that comes with it.
@@ -74,7 +74,7 @@ pub fn done(kind: Kind) -> usize
     ensures { IsDigitCount 10 1 (kind_number kind) result }
 {
     number(0);
-    number(layout::number::kind_number(kind) as u64)
+    number(u32::from(kind).into())
 }
 
 // The start of a case's line: its call and its name. It answers the call's first letter, by which a program tells its calls apart.

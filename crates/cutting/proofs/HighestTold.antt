@@ -1,10 +1,10 @@
 -- How a walk over the slots finds the highest block, over plain lists and numbers.
-use Prim.Native.Nat.{ℕ, suc, ◌+◌, ◌-◌, ◌≤◌, ◌<◌}
+use Prim.Native.Nat.{ℕ, suc, ◌+◌, ◌-◌, ◌<◌}
 use native.Mathlib.Omega.{arith}
 use mathlib.Core.Path.{◌≡◌, refl, sym, ap, ◌∙◌}
 use mathlib.Core.Bool.{true, cond}
 use mathlib.Core.List.{List, []}
-use Rattle.layout.specs.Sizes.{segment}
+use Rattle.std.specs.Prelude.{Ok, Err}
 use Rattle.layout.specs.Numbers.{refusal_number}
 use Rattle.layout.specs.NumberLaws.{refusal_some}
 use Rattle.layout.specs.Refusals.{first_of}
@@ -15,8 +15,7 @@ use Rattle.layout.specs.declared.Refusal.{Refusal}
 use Rattle.store.specs.Block.{slot_of, slot_rows}
 use Rattle.store.specs.Open.{open_numbers, opened_numbers}
 use Rattle.store.specs.OpenLaws.{opened_frame, opened_refused}
-use Rattle.store.specs.declared.Opened.{Opened}
-use Rattle.store.specs.declared.Opened.TheVariants.{Refused, Frame}
+use Rattle.store.specs.declared.frame.Frame.{Frame}
 use Rattle.cutting.specs.Highest.{extent, non_empty, HighestNumbers, highest_numbers}
 use Rattle.cutting.specs.HighestLaws.{extent_more, highest_refused, highest_scanned}
 use Rattle.cutting.specs.Parts.{slot_extent, scan_numbers}
@@ -36,7 +35,6 @@ module _ (patch : List ℕ) (b before : ℕ) where
 
 -- a walk over n slots that stands at a block: those below it are sound, and reach so far
 pub record Walked (patch : List ℕ) (n blocks block : ℕ) : Type 0 where
-  pub within : block ≤ n
   pub reach : blocks ≡ extent (non_empty patch) block
   pub rest : first_fault (slot_fault patch) 0 n ≡ first_fault (slot_fault patch) block (n - block)
 
@@ -45,7 +43,7 @@ module _ (patch : List ℕ) (n : ℕ) where
   unfolding extent
   walk_starts =
       let q : n ≡ n - 0 = omega arith in
-      record { within = omega arith; reach = refl; rest = ap (λ (k : ℕ). first_fault (slot_fault patch) 0 k) q }
+      record { reach = refl; rest = ap (λ (k : ℕ). first_fault (slot_fault patch) 0 k) q }
 
   all_rows : (f : BlockFault) → first_fault (slot_fault patch) 0 n ≡ f → first_of (rows_from (λ b. slot_rows (slot_of patch b)) 0 n) ≡ f.number
   all_rows f e = sym (first_by_rows (λ b. slot_rows (slot_of patch b)) 0 n) ∙ ap (λ (g : BlockFault). g.number) e
@@ -56,7 +54,6 @@ module _ (patch : List ℕ) (n : ℕ) where
     walk_goes reached l e =
         let z : slot_fault patch block ≡ 0 = sym (ap (λ (x : HighestNumbers). x.number) e ∙ extent_number patch block blocks) in
         record {
-          within = omega arith;
           reach =
               ap (λ (x : HighestNumbers). x.blocks) e ∙ extent_sound patch block blocks z
               ∙ ap (λ (k : ℕ). cond (non_empty patch block) (suc block) k) w.reach ∙ sym (extent_more (non_empty patch) block);
@@ -72,22 +69,21 @@ module _ (patch : List ℕ) (n : ℕ) where
         (decided_refused _ _ (first_of (rows_from (λ b. slot_rows (slot_of patch b)) 0 n)) k
         (all_rows _ (w.rest ∙ fault_here (slot_fault patch) block n k l z some)) some)
 
-    pub walk_ends : n ≤ block → record { number = 0; blocks = blocks } ≡ scan_numbers patch n
+    pub walk_ends : n ≡ block → record { number = 0; blocks = blocks } ≡ scan_numbers patch n
     unfolding scan_numbers
-    walk_ends h =
-        let q : block ≡ n = omega (arith, w.within) in
-        ap (λ (k : ℕ). record { number = 0; blocks = k }) (w.reach ∙ ap (extent (non_empty patch)) q)
+    walk_ends e =
+        ap (λ (k : ℕ). record { number = 0; blocks = k }) (w.reach ∙ ap (extent (non_empty patch)) (sym e))
         ∙ sym
         (decided_done _ _ (first_of (rows_from (λ b. slot_rows (slot_of patch b)) 0 n))
-        (all_rows _ (w.rest ∙ fault_end (slot_fault patch) block n h)))
+        (all_rows _ (w.rest ∙ fault_end (slot_fault patch) block n (omega arith))))
 
 -- what a frame that is opened with no full area tells
-module _ (P : ℕ) (patch : List ℕ) (x : Opened) (told : opened_numbers x ≡ open_numbers P true true patch []) where
-  pub alone_refused : (r : Refusal) → x ≡ Refused r → record { number = refusal_number r; blocks = 0 } ≡ highest_numbers P patch
-  alone_refused r is =
-      highest_refused P patch (refusal_number r) (opened_refused P true true patch [] r (sym (ap opened_numbers is) ∙ told)) (refusal_some r)
+module _ (P : ℕ) (patch : List ℕ) where
+  pub alone_refused : (r : Refusal) → opened_numbers (Err r) ≡ open_numbers P true true patch []
+      → record { number = refusal_number r; blocks = 0 } ≡ highest_numbers P patch
+  alone_refused r told = highest_refused P patch (refusal_number r) (opened_refused P true true patch [] r told) (refusal_some r)
 
-  pub alone_frame : (size n m : ℕ) → x ≡ Frame size n m → (n ≤ segment) × (scan_numbers patch n ≡ highest_numbers P patch)
-  alone_frame size n m is =
-      let o = opened_frame P true true patch [] size n m (sym (ap opened_numbers is) ∙ told) in
-      (omega (arith, o.blocks, o.framed.few_blocks), ap (scan_numbers patch) o.blocks ∙ highest_scanned P patch o.framed.none)
+  pub alone_frame : (f : Frame) → opened_numbers (Ok f) ≡ open_numbers P true true patch [] → scan_numbers patch f.n ≡ highest_numbers P patch
+  alone_frame f told =
+      let o = opened_frame P true true patch [] f told in
+      ap (scan_numbers patch) o.blocks ∙ highest_scanned P patch o.framed.none

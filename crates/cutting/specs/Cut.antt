@@ -1,15 +1,14 @@
 -- Cut at K: "their slots, full pages ... become zero, blocks below K keep every byte". No slot, payload or place is looked at.
-use Rattle.std.specs.Prelude.{ℕ, ◌≡◌, List, [], ◌∷◌, ltb, length}
+use Rattle.std.specs.Prelude.{ℕ, ◌≡◌, List, [], ◌∷◌, ltb, length, Result, ⊤}
 use Rattle.span.specs.Bytes.{emptied}
 use Rattle.layout.specs.Sizes.{slot_at, page_at}
-use Rattle.layout.specs.Numbers.{refusal_number}
+use Rattle.layout.specs.Numbers.{answer_number}
+use Rattle.layout.specs.declared.Refusal.{Refusal}
 use Rattle.layout.specs.Refusals.{Row, ◌⇐◌, first_of, decided}
 use Rattle.layout.specs.Groups.{Grouped, ordered, ◌▸◌}
 use Rattle.layout.specs.Groups as group
 use Rattle.layout.specs.Lengths.{blocks_in, length_rows}
 use Rattle.headers.specs.Headers.{header_rows}
-use Rattle.cutting.specs.declared.Shortened.{Shortened}
-use Rattle.cutting.specs.declared.Shortened.TheVariants.{Done, Refused}
 
 -- "2, 9, headers, 5 for K above n": the rows of the lent map, or none
 abbrev pub cut_groups : ℕ → List Row → List ℕ → List ℕ → ℕ → List Grouped
@@ -44,12 +43,7 @@ cut_by P buffers patch full K =
 abbrev pub cut_outcome : ℕ → List ℕ → List ℕ → ℕ → CutOutcome
 cut_outcome P patch full K = cut_by P [] patch full K
 
--- the paper's number for each case of the answer
-abbrev pub shortened_number : Shortened → ℕ
-shortened_number Done = 0
-shortened_number (Refused r) = refusal_number r
-
-pub record Cut (P : ℕ) (patch full : List ℕ) (K : ℕ) (answer : Shortened) (patch' full' : List ℕ) : Type 0 where
-  pub numbers : shortened_number answer ≡ (cut_outcome P patch full K).number
+pub record Cut (P : ℕ) (patch full : List ℕ) (K : ℕ) (answer : Result ⊤ Refusal) (patch' full' : List ℕ) : Type 0 where
+  pub numbers : answer_number answer ≡ (cut_outcome P patch full K).number
   pub patch_bytes : patch' ≡ (cut_outcome P patch full K).patch
   pub full_bytes : full' ≡ (cut_outcome P patch full K).full

@@ -1,7 +1,8 @@
 -- Highest: "one more than the highest non-EMPTY block, or 0". It takes the patch area alone.
-use Rattle.std.specs.Prelude.{ℕ, zero, suc, ◌≡◌, Bool, not, cond, List, [], ◌∷◌, length}
+use Rattle.std.specs.Prelude.{ℕ, zero, suc, ◌≡◌, Bool, not, cond, List, [], ◌∷◌, length, Result, Ok, Err}
 use Rattle.span.specs.Bytes.{same}
 use Rattle.layout.specs.Numbers.{refusal_number}
+use Rattle.layout.specs.declared.Refusal.{Refusal}
 use Rattle.layout.specs.Refusals.{Row, ◌⇐◌, first_of, decided}
 use Rattle.layout.specs.Groups.{Grouped, ordered, ◌▸◌}
 use Rattle.layout.specs.Groups as group
@@ -10,8 +11,6 @@ use Rattle.layout.specs.Lengths.{blocks_in, patch_fits}
 use Rattle.headers.specs.Headers.{patch_head_rows}
 use Rattle.slots.specs.Slots.{empty_slot}
 use Rattle.store.specs.Block.{slot_of, slot_rows}
-use Rattle.cutting.specs.declared.Extent.{Extent}
-use Rattle.cutting.specs.declared.Extent.TheVariants.{Done, Refused}
 
 -- "2, its header's, then 6 if any slot is unsound"
 abbrev pub highest_groups : ℕ → List ℕ → List Grouped
@@ -43,9 +42,9 @@ highest_numbers P patch =
     (λ k. record { number = k; blocks = 0 })
 
 -- the paper's numbers for each case of the answer
-abbrev pub extent_numbers : Extent → HighestNumbers
-extent_numbers (Done b) = record { number = 0; blocks = b }
-extent_numbers (Refused r) = record { number = refusal_number r; blocks = 0 }
+abbrev pub extent_numbers : Result ℕ Refusal → HighestNumbers
+extent_numbers (Ok blocks) = record { number = 0; blocks = blocks }
+extent_numbers (Err r) = record { number = refusal_number r; blocks = 0 }
 
-pub record Highest (P : ℕ) (patch : List ℕ) (answer : Extent) : Type 0 where
+pub record Highest (P : ℕ) (patch : List ℕ) (answer : Result ℕ Refusal) : Type 0 where
   pub numbers : extent_numbers answer ≡ highest_numbers P patch

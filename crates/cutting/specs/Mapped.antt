@@ -1,11 +1,12 @@
 -- Cut with a lent map: Cut's outcome on both areas, and "pairs in a lent map become zero" of the blocks that it drops.
-use Rattle.std.specs.Prelude.{ℕ, ◌-◌, ◌≡◌, List, length}
+use Rattle.std.specs.Prelude.{ℕ, ◌-◌, ◌≡◌, List, length, Result, ⊤}
+use Rattle.layout.specs.Numbers.{answer_number}
+use Rattle.layout.specs.declared.Refusal.{Refusal}
 use Rattle.layout.specs.Refusals.{Row, first_of, decided}
 use Rattle.layout.specs.Lengths.{blocks_in}
 use Rattle.blockmap.specs.Pack.{clear_pairs}
 use Rattle.blockmap.specs.Calls.{short_map}
-use Rattle.cutting.specs.declared.Shortened.{Shortened}
-use Rattle.cutting.specs.Cut.{cut_rows, CutOutcome, cut_by, shortened_number}
+use Rattle.cutting.specs.Cut.{cut_rows, CutOutcome, cut_by}
 
 -- Cut's rows, and 9 for a short map
 unfoldable pub cut_mapped_rows : ℕ → List ℕ → List ℕ → List ℕ → ℕ → List Row
@@ -25,8 +26,8 @@ cut_mapped_outcome P patch full map K =
       map = decided (first_of (cut_mapped_rows P patch full map K)) (clear_pairs map K (n - K)) (λ _. map);
     }
 
-pub record CutMapped (P : ℕ) (patch full map : List ℕ) (K : ℕ) (answer : Shortened) (patch' full' map' : List ℕ) : Type 0 where
-  pub numbers : shortened_number answer ≡ (cut_mapped_outcome P patch full map K).areas.number
+pub record CutMapped (P : ℕ) (patch full map : List ℕ) (K : ℕ) (answer : Result ⊤ Refusal) (patch' full' map' : List ℕ) : Type 0 where
+  pub numbers : answer_number answer ≡ (cut_mapped_outcome P patch full map K).areas.number
   pub patch_bytes : patch' ≡ (cut_mapped_outcome P patch full map K).areas.patch
   pub full_bytes : full' ≡ (cut_mapped_outcome P patch full map K).areas.full
   pub map_bytes_is : map' ≡ (cut_mapped_outcome P patch full map K).map

@@ -2,20 +2,21 @@
 ghost use Rattle.layout.specs.Sizes.{page_size};
 ghost use Rattle.cutting.specs.Mapped.{CutMapped};
 
-use crate::Shortened;
+use layout::Refusal;
 
 // The slots, the places and the pairs of blocks k and up become zero. Unused pairs and later bytes of the map stay.
-pub fn cut_mapped(patch: &mut [u8], full: &mut [u8], map: &mut [u8], k: usize) -> Shortened
+pub fn cut_mapped(
+    patch: &mut [u8],
+    full: &mut [u8],
+    map: &mut [u8],
+    k: usize,
+) -> Result<(), Refusal>
     ensures { CutMapped page_size patch.old full.old map.old k result patch.new
         full.new map.new }
 {
     let n = layout::area::blocks(patch.len());
     let needed = blockmap::map_bytes(n);
-    match crate::cut_with(needed <= map.len(), patch, full, k) {
-        Shortened::Refused(refusal) => Shortened::Refused(refusal),
-        Shortened::Done => {
-            blockmap::clear_pairs(map, k, n);
-            Shortened::Done
-        }
-    }
+    crate::cut_with(needed <= map.len(), patch, full, k)?;
+    blockmap::clear_pairs(map, k, n);
+    Ok(())
 }

@@ -4,13 +4,15 @@ use native.Mathlib.Omega.{arith}
 use native.Mathlib.Nat.{add-mul}
 use native.Mathlib.Decide.{dec_lt}
 use mathlib.Core.Path.{◌≡◌, refl, sym, ap, ◌∙◌}
-use mathlib.Core.Bool.{Bool, true, false, not, ◌||◌, true≢false}
+use mathlib.Core.Bool.{Bool, true, false, not, ◌&&◌, ◌||◌, true≢false}
 use mathlib.Core.Logic.{◌⊎◌, inl, inr}
-use mathlib.Core.List.{List}
+use mathlib.Core.List.{List, [], ◌∷◌}
 use lib.Dec.{eqb, leb}
 use lib.ListN.{length, get_or}
+use lib.Pointwise.{pointwise}
 use mir.Val.{bool_byte}
 use borrow.Author.Tests.{eqb-true, eqb-false, le-leb, lt-leb}
+use Rattle.span.specs.Bytes.{same}
 use Rattle.differ.specs.Differ.{chunk, next_diff, Same, differs_at, diffs_in, NextChunk, has_chunk}
 use Rattle.differ.specs.DifferLaws.{next_skip, diffs_next, has_whole, has_part}
 
@@ -142,3 +144,11 @@ has_asked a b at end e =
       | yes h ↦ lt-leb chunk (end - at) h ∙ sym (has_part a b at (shorter_of (length a) (length b) (at + chunk) (omega arith)))
       | no h ↦ le-leb chunk (end - at) (omega arith) ∙ sym (has_whole a b at (omega arith) (omega arith))
     ]
+
+-- the library's comparison of bytes is `same`
+pub same_bytes : (xs ys : List ℕ) → pointwise eqb xs ys ≡ same xs ys
+unfolding same
+same_bytes [] [] = refl
+same_bytes [] (y ∷ ys) = refl
+same_bytes (x ∷ xs) [] = refl
+same_bytes (x ∷ xs) (y ∷ ys) = ap (λ (t : Bool). eqb x y && t) (same_bytes xs ys)

@@ -27,56 +27,39 @@ impl Grid {
 
 const WORD: usize = 8;
 
-// Whether two parts of the same place and length differ somewhere.
-fn differs(a: &[u8], b: &[u8], at: usize, count: usize) -> bool
-    requires { (at + count ≤ length a.now) × (at + count ≤ length b.now) }
-    ensures { (result ≡ false → Same a.now b.now at (at + count))
-        × (result ≡ true → Same a.now b.now at (at + count) → ⊥) }
+// Whether two parts of the same place and length differ somewhere. By no `==`, which may end early: over slices of 128 bytes it was 1.5 times
+// as slow, over arrays 1.1 times.
+fn differs<const WIDTH: usize>(a: &[u8], b: &[u8], at: usize) -> bool
+    requires { (at + WIDTH ≤ length a.now) × (at + WIDTH ≤ length b.now) }
+    ensures { (result ≡ false → Same a.now b.now at (at + WIDTH))
+        × (result ≡ true → Same a.now b.now at (at + WIDTH) → ⊥) }
 {
     let mut seen = false;
-    let mut i = 0;
-    while i < count {
-        seen = seen | (a[at + i] != b[at + i]);
-        i += 1;
+    for i in 0..WIDTH {
+        seen |= a[at + i] != b[at + i];
     }
     seen
 }
 
-// Passes over equal bytes, `width` at a time, as long as so many are left before `end`.
-fn skip_equal(a: &[u8], b: &[u8], from: usize, end: usize, width: usize) -> usize
-    requires { (from ≤ end) × (end ≡ min (length a.now) (length b.now)) × (1 ≤ width) }
-    ensures { NextChunk width a.now b.now from result }
+// The first place from `from` on, in steps of the width, whose bytes up to the next place differ, or that has no next place. No width is
+// no step.
+pub fn next_unlike<const WIDTH: usize>(a: &[u8], b: &[u8], from: usize) -> usize
+    ensures steps { 1 ≤ WIDTH → NextChunk WIDTH a.now b.now from result }
+    ensures none { WIDTH ≡ 0 → result ≡ from }
 {
+    let end = a.len().min(b.len());
+    if WIDTH == 0 || end <= from {
+        return from;
+    }
+    // Not by an iterator of chunks: that counts chunks, and the answer is a place.
     let mut at = from;
-    while width <= end - at {
-        if differs(a, b, at, width) {
+    while WIDTH <= end - at {
+        if differs::<WIDTH>(a, b, at) {
             return at;
         }
-        at += width;
+        at += WIDTH;
     }
     at
-}
-
-// The first place from `from` on, in steps of the stride, whose bytes up to the next place differ, or that has no next place.
-pub fn next_stride(a: &[u8], b: &[u8], from: usize) -> usize
-    ensures { NextChunk stride a.now b.now from result }
-{
-    let end = span::shorter(a.len(), b.len());
-    if end <= from {
-        return from;
-    }
-    skip_equal(a, b, from, end, Grid::STRIDE)
-}
-
-// The same in steps of a chunk.
-pub fn next_chunk(a: &[u8], b: &[u8], from: usize) -> usize
-    ensures { NextChunk chunk a.now b.now from result }
-{
-    let end = span::shorter(a.len(), b.len());
-    if end <= from {
-        return from;
-    }
-    skip_equal(a, b, from, end, Grid::CHUNK)
 }
 
 // The next difference before `end`, a byte at a time: for the last few bytes before one.
@@ -84,14 +67,12 @@ fn next_byte(a: &[u8], b: &[u8], from: usize, end: usize) -> usize
     requires { (from ≤ end) × (end ≡ min (length a.now) (length b.now)) }
     ensures { result ≡ next_diff a.now b.now from }
 {
-    let mut at = from;
-    while at < end {
+    for at in from..end {
         if a[at] != b[at] {
             return at;
         }
-        at += 1;
     }
-    at
+    end
 }
 
 // The first place from `from` on at which a and b differ or one of them ends. The next byte and the next word come first: where
@@ -99,7 +80,7 @@ fn next_byte(a: &[u8], b: &[u8], from: usize, end: usize) -> usize
 pub fn next_diff(a: &[u8], b: &[u8], from: usize) -> usize
     ensures { result ≡ next_diff a.now b.now from }
 {
-    let end = span::shorter(a.len(), b.len());
+    let end = a.len().min(b.len());
     if end <= from {
         return from;
     }
@@ -109,11 +90,11 @@ pub fn next_diff(a: &[u8], b: &[u8], from: usize) -> usize
     if end - from < WORD {
         return next_byte(a, b, from, end);
     }
-    if differs(a, b, from, WORD) {
+    if differs::<WORD>(a, b, from) {
         return next_byte(a, b, from, end);
     }
-    let wide = skip_equal(a, b, from + WORD, end, Grid::CHUNK);
-    let near = skip_equal(a, b, wide, end, WORD);
+    let wide = next_unlike::<{ Grid::CHUNK }>(a, b, from + WORD);
+    let near = next_unlike::<WORD>(a, b, wide);
     next_byte(a, b, near, end)
 }
 
@@ -121,11 +102,7 @@ pub fn next_diff(a: &[u8], b: &[u8], from: usize) -> usize
 fn has_chunk(a: &[u8], b: &[u8], at: usize) -> bool
     ensures { result ≡ has_chunk a.now b.now at }
 {
-    let end = span::shorter(a.len(), b.len());
-    if end <= at {
-        return false;
-    }
-    Grid::CHUNK <= end - at
+    Grid::CHUNK <= a.len().min(b.len()).saturating_sub(at)
 }
 
 // How many of a chunk's places differ. The count is a byte, so that sixteen are added at one go.
@@ -134,10 +111,8 @@ fn count_whole(a: &[u8], b: &[u8], at: usize) -> u8
     ensures { result ≡ diffs_in a.now b.now at chunk }
 {
     let mut count: u8 = 0;
-    let mut i = 0;
-    while i < Grid::CHUNK {
-        count += (a[at + i] != b[at + i]) as u8;
-        i += 1;
+    for i in 0..Grid::CHUNK {
+        count += u8::from(a[at + i] != b[at + i]);
     }
     count
 }
@@ -147,9 +122,10 @@ pub fn count_chunk(a: &[u8], b: &[u8], at: usize) -> usize
     ensures { result ≡ chunk_diffs a.now b.now at }
 {
     if has_chunk(a, b, at) {
-        return count_whole(a, b, at) as usize;
+        usize::from(count_whole(a, b, at))
+    } else {
+        0
     }
-    0
 }
 
 // The place after the last difference between `from` and `to`, or `from`: for a chunk that has one, looked for from its end.
@@ -157,14 +133,12 @@ fn after_last(a: &[u8], b: &[u8], from: usize, to: usize) -> usize
     requires { (from ≤ to) × (to ≤ length a.now) × (to ≤ length b.now) }
     ensures { result ≡ after_last a.now b.now from (to - from) }
 {
-    let mut at = to;
-    while from < at {
-        if a[at - 1] != b[at - 1] {
-            return at;
+    for at in (from..to).rev() {
+        if a[at] != b[at] {
+            return at + 1;
         }
-        at -= 1;
     }
-    at
+    from
 }
 
 // The place after the last difference of the chunk from `at` on, or `at`; so too where a or b does not have the chunk whole.
@@ -172,19 +146,17 @@ pub fn after_chunk(a: &[u8], b: &[u8], at: usize) -> usize
     ensures { result ≡ chunk_after a.now b.now at }
 {
     if has_chunk(a, b, at) {
-        return after_last(a, b, at, at + Grid::CHUNK);
+        after_last(a, b, at, at + Grid::CHUNK)
+    } else {
+        at
     }
-    at
 }
 
 // Whether a and b hold the same bytes.
 pub fn same(a: &[u8], b: &[u8]) -> bool
     ensures { result ≡ same_bytes a.now b.now }
 {
-    if a.len() != b.len() {
-        return false;
-    }
-    next_diff(a, b, 0) == a.len()
+    a == b
 }
 
 // Whether a and b hold the same bytes in one part of both.

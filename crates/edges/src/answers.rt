@@ -1,99 +1,80 @@
-// What the program prints of its calls' answers.
-use blockmap::{Looked, Tallied};
+// What the program prints of its calls' answers. `told` and `compared` stand in `edges_areas` too: in `cases` they would be public, with a clause that
+// each call of a closure is met, and `cases` would stand on `stream`.
+use blockmap::Tallied;
 use cases::say;
 use entry_reader::{Found, Turn};
+use layout::{Kind, Refusal, RefusedAt};
+use payload::Sound;
 use store::Judged;
-use stream::{Applied, Compared};
+use stream::Compared;
 
-pub(crate) fn compared(answer: Compared) {
+// Tells of an answer what `tell` tells of it, or why the call refuses.
+fn told<T: Drop, F: FnOnce(T)>(answer: Result<T, Refusal>, tell: F)
+    requires { F.IsAlwaysCallable tell }
+{
     match answer {
-        Compared::Done {
-            kind,
-            length,
-            entries,
-            last,
-        } => {
-            say::done(kind);
-            say::number(length as u64);
-            say::number(entries as u64);
-            say::position(last);
-        }
-        Compared::Refused(r) => {
-            say::refused(r);
+        Ok(found) => tell(found),
+        Err(refusal) => {
+            say::refused(refusal);
         }
     }
 }
 
-pub(crate) fn applied(answer: Applied) {
+pub(crate) fn compared(answer: Result<Compared, Refusal>) {
+    told(answer, |found| {
+        say::done(found.kind);
+        say::number(found.length as u64);
+        say::number(found.entries as u64);
+        say::position(found.last);
+    });
+}
+
+pub(crate) fn applied(answer: Result<Sound, RefusedAt>) {
     match answer {
-        Applied::Done { entries, last } => {
+        Ok(sound) => {
             say::number(0);
-            say::number(entries as u64);
-            say::position(last);
+            say::number(sound.entries as u64);
+            say::position(sound.last);
         }
-        Applied::Refused { refusal, offset } => {
-            say::refused_at(refusal, offset);
+        Err(refused) => {
+            say::refused_at(refused.refusal, refused.offset);
         }
     }
 }
 
 // The number and whether there is an entry, then where the reader stands, then the value.
-fn turn(number: u64, found: u64, at: usize, position: i32, value: u8) {
-    say::number(number);
-    say::number(found);
-    say::number(at as u64);
-    say::position(position);
-    say::number(value as u64);
-}
-
 pub(crate) fn next(answer: Turn) {
-    let found = answer.found;
-    match found {
-        Found::Entry { position: _, value } => {
-            turn(0, 1, answer.at, answer.position, value);
-        }
-        Found::End => {
-            turn(0, 0, answer.at, answer.position, 0);
-        }
-        Found::Stopped { offset: _ } => {
-            turn(7, 0, answer.at, answer.position, 0);
-        }
-    }
+    let (number, found, value) = match answer.found {
+        Found::Entry { position: _, value } => (0, 1, value),
+        Found::End => (0, 0, 0),
+        Found::Stopped { offset: _ } => (u32::from(Refusal::Payload), 0, 0),
+    };
+    say::number(u64::from(number));
+    say::number(found);
+    say::number(answer.at as u64);
+    say::position(answer.position);
+    say::number(u64::from(value));
 }
 
-pub(crate) fn judged(answer: Judged) {
-    match answer {
-        Judged::Done { kind, length } => {
-            say::done(kind);
-            say::number(length as u64);
-        }
-        Judged::Refused(r) => {
-            say::refused(r);
-        }
-    }
+pub(crate) fn judged(answer: Result<Judged, Refusal>) {
+    told(answer, |slot| {
+        say::done(slot.kind);
+        say::number(slot.length as u64);
+    });
 }
 
-pub(crate) fn looked(answer: Looked) {
-    match answer {
-        Looked::Done { pair } => {
-            say::number(0);
-            say::number(pair as u64);
-        }
-        Looked::Refused(r) => {
-            say::refused(r);
-        }
-    }
+// Of the kind its pair.
+pub(crate) fn looked(answer: Result<Kind, Refusal>) {
+    told(answer, |kind| {
+        say::number(0);
+        say::number(u64::from(blockmap::pair_of(kind)));
+    });
 }
 
-pub(crate) fn tallied(answer: Tallied) {
-    match answer {
-        Tallied::Done { patch, full } => {
-            say::number(0);
-            say::number(patch as u64);
-            say::number(full as u64);
-        }
-        Tallied::Refused(r) => {
-            say::refused(r);
-        }
-    }
+pub(crate) fn tallied(answer: Result<Tallied, Refusal>) {
+    told(answer, |counted| {
+        say::number(0);
+        say::number(counted.patch as u64);
+        say::number(counted.full as u64);
+    });
 }

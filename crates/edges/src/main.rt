@@ -7,7 +7,7 @@ mod answers;
 
 use cases::delta::delta;
 use cases::fields::field;
-use cases::make::buffer;
+use cases::make::{ROOM, buffer};
 use cases::{fields, say};
 use layout::Layout;
 
@@ -35,89 +35,63 @@ fn slotinfo(slot: &[u8]) {
 }
 
 // A step of the entry reader: next | name | payload | at | position.
-fn next(call: u8, line: &[u8], payload: &[u8]) {
-    if call == NEXT {
-        let at = fields::number(field(line, 3));
-        let position = fields::position(field(line, 4));
-        answers::next(entry_reader::step_at(payload, Layout::PAGE, at, position));
-    }
+fn next(line: &[u8], payload: &[u8]) {
+    let at = fields::number(field(line, 3));
+    let position = fields::position(field(line, 4));
+    answers::next(entry_reader::step_at(payload, Layout::PAGE, at, position));
 }
 
-// The calls on a slot: slotinfo, and judge | name | slot.
-fn on_slot(call: u8, slot: &[u8]) {
-    if call == JUDGE {
-        answers::judged(store::judge::judge(slot));
-    }
-    if call == SLOTINFO {
-        slotinfo(slot);
-    }
-}
-
-// The calls on a map: look up | name | map | n | block, and tally | name | map | n.
-fn on_map(call: u8, line: &[u8], map: &[u8]) {
+// look up | name | map | n | block
+fn look_up(line: &[u8], map: &[u8]) {
     let n = fields::number(field(line, 3));
-    if call == LOOK_UP {
-        answers::looked(blockmap::look_up(map, n, fields::number(field(line, 4))));
-    }
-    if call == TALLY {
-        answers::tallied(blockmap::tally(map, n));
-    }
+    answers::looked(blockmap::look_up(map, n, fields::number(field(line, 4))));
+}
+
+// tally | name | map | n
+fn tally(line: &[u8], map: &[u8]) {
+    let n = fields::number(field(line, 3));
+    answers::tallied(blockmap::tally(map, n));
 }
 
 // compare | name | base | page | buffer
-fn compare(line: &[u8], base: &[u8], page: &[u8]) {
-    let lent = buffer(field(line, 4));
-    let was = lent.bytes;
-    let mut bytes = lent.bytes;
-    let room: &mut [u8] = &mut bytes;
-    let n = lent.length;
-    answers::compared(stream::compare(base, page, &mut room[0..n]));
-    delta(b"buffer", &was, room);
+fn compare(line: &[u8], base: &[u8]) {
+    let page = buffer::<ROOM>(field(line, 3));
+    let was = buffer::<ROOM>(field(line, 4));
+    let mut lent = buffer::<ROOM>(field(line, 4));
+    answers::compared(stream::compare(base, page.as_slice(), lent.as_mut_slice()));
+    delta(b"buffer", was.as_slice(), lent.as_slice());
 }
 
 // apply | name | base | payload | page
-fn apply(line: &[u8], base: &[u8], payload: &[u8]) {
-    let lent = buffer(field(line, 4));
-    let was = lent.bytes;
-    let mut bytes = lent.bytes;
-    let page: &mut [u8] = &mut bytes;
-    let n = lent.length;
-    answers::applied(stream::apply(base, payload, &mut page[0..n]));
-    delta(b"page", &was, page);
-}
-
-// The calls on a page. What they change is lent to them.
-fn on_page(call: u8, line: &[u8], base: &[u8]) {
-    let second = buffer(field(line, 3));
-    let bytes = second.bytes;
-    let other = span::part(&bytes, 0, second.length);
-    if call == COMPARE {
-        compare(line, base, other);
-    }
-    if call == APPLY {
-        apply(line, base, other);
-    }
+fn apply(line: &[u8], base: &[u8]) {
+    let payload = buffer::<ROOM>(field(line, 3));
+    let was = buffer::<ROOM>(field(line, 4));
+    let mut lent = buffer::<ROOM>(field(line, 4));
+    answers::applied(stream::apply(base, payload.as_slice(), lent.as_mut_slice()));
+    delta(b"page", was.as_slice(), lent.as_slice());
 }
 
 // One case.
 fn run(line: &[u8]) {
     let call = say::case(line);
-    let first = buffer(field(line, 2));
-    let bytes = first.bytes;
-    let part = span::part(&bytes, 0, first.length);
-    next(call, line, part);
-    on_slot(call, part);
-    on_map(call, line, part);
-    on_page(call, line, part);
+    let first = buffer::<ROOM>(field(line, 2));
+    let part = first.as_slice();
+    match call {
+        COMPARE => compare(line, part),
+        APPLY => apply(line, part),
+        NEXT => next(line, part),
+        JUDGE => answers::judged(store::judge::judge(part)),
+        SLOTINFO => slotinfo(part),
+        LOOK_UP => look_up(line, part),
+        TALLY => tally(line, part),
+        _ => {}
+    }
     say::text(b"\n");
 }
 
 fn run_all(text: &[u8]) {
-    let mut at = 0;
-    while at < text.len() {
-        let line = fields::line_at(text, at);
-        run(line);
-        at += line.len() + 1;
+    for line in text.split_inclusive(|byte| *byte == b'\n') {
+        run(fields::line_at(line, 0));
     }
 }
 

@@ -1,130 +1,83 @@
-// What the program prints of its calls' answers.
-use building::Built;
+// What the program prints of its calls' answers. `told` and `compared` stand in `edges` too: in `cases` they would be public, with a clause that
+// each call of a closure is met, and `cases` would stand on `stream`.
+use building::RefusedIn;
 use carrying::Written;
 use cases::say;
-use cutting::{Extent, Shortened};
-use reading::Reading;
-use store::Formatted;
+use layout::{Kind, Refusal, RefusedAt};
 use stream::Compared;
-use sweeping::Swept;
 
-pub(crate) fn formatted(answer: Formatted) {
+// Tells of an answer what `tell` tells of it, or why the call refuses.
+fn told<T: Drop, F: FnOnce(T)>(answer: Result<T, Refusal>, tell: F)
+    requires { F.IsAlwaysCallable tell }
+{
     match answer {
-        Formatted::Done => {
-            say::number(0);
-        }
-        Formatted::Refused(r) => {
-            say::refused(r);
-        }
-    }
-}
-
-pub(crate) fn reading(answer: Reading) {
-    match answer {
-        Reading::Done { kind } => {
-            say::done(kind);
-        }
-        Reading::Refused { refusal, offset } => {
-            say::refused_at(refusal, offset);
-        }
-    }
-}
-
-pub(crate) fn compared(answer: Compared) {
-    match answer {
-        Compared::Done {
-            kind,
-            length,
-            entries,
-            last,
-        } => {
-            say::done(kind);
-            say::number(length as u64);
-            say::number(entries as u64);
-            say::position(last);
-        }
-        Compared::Refused(r) => {
-            say::refused(r);
-        }
-    }
-}
-
-pub(crate) fn written(answer: Written) {
-    match answer {
-        Written::Done { kind, length } => {
-            say::done(kind);
-            say::number(length as u64);
-        }
-        Written::Refused(r) => {
-            say::refused(r);
-        }
-    }
-}
-
-pub(crate) fn built(answer: Built) {
-    match answer {
-        Built::Done => {
-            say::number(0);
-            say::number(0);
-            say::number(0);
-        }
-        Built::Refused {
-            refusal,
-            block,
-            offset,
-        } => {
+        Ok(found) => tell(found),
+        Err(refusal) => {
             say::refused(refusal);
-            say::number(block as u64);
-            say::number(offset as u64);
         }
     }
 }
 
-pub(crate) fn shortened(answer: Shortened) {
+// Of a call that answers its number alone.
+pub(crate) fn number(answer: Result<(), Refusal>) {
+    told(answer, |()| {
+        say::number(0);
+    });
+}
+
+pub(crate) fn reading(answer: Result<Kind, RefusedAt>) {
     match answer {
-        Shortened::Done => {
+        Ok(kind) => {
+            say::done(kind);
+        }
+        Err(refused) => {
+            say::refused_at(refused.refusal, refused.offset);
+        }
+    }
+}
+
+pub(crate) fn compared(answer: Result<Compared, Refusal>) {
+    told(answer, |found| {
+        say::done(found.kind);
+        say::number(found.length as u64);
+        say::number(found.entries as u64);
+        say::position(found.last);
+    });
+}
+
+pub(crate) fn written(answer: Result<Written, Refusal>) {
+    told(answer, |stored| {
+        say::done(stored.kind);
+        say::number(stored.length as u64);
+    });
+}
+
+pub(crate) fn built(answer: Result<(), RefusedIn>) {
+    match answer {
+        Ok(()) => {
+            say::number(0);
+            say::number(0);
             say::number(0);
         }
-        Shortened::Refused(r) => {
-            say::refused(r);
+        Err(refused) => {
+            say::refused(refused.refusal);
+            say::number(refused.block as u64);
+            say::number(refused.offset as u64);
         }
     }
 }
 
-pub(crate) fn swept(answer: Swept) {
-    match answer {
-        Swept::Done => {
-            say::number(0);
-        }
-        Swept::Refused(r) => {
-            say::refused(r);
-        }
-    }
-}
-
-pub(crate) fn extent(answer: Extent) {
-    match answer {
-        Extent::Done { blocks } => {
-            say::number(0);
-            say::number(blocks as u64);
-        }
-        Extent::Refused(r) => {
-            say::refused(r);
-        }
-    }
-}
-
-fn wide(byte: u8) -> u64 {
-    byte as u64
+pub(crate) fn extent(answer: Result<usize, Refusal>) {
+    told(answer, |blocks| {
+        say::number(0);
+        say::number(blocks as u64);
+    });
 }
 
 // The first bytes, at most eight, in hexadecimal.
 pub(crate) fn first_bytes(bytes: &[u8]) {
     say::text(b" ");
-    let end = span::shorter(bytes.len(), 8);
-    let mut i = 0;
-    while i < end {
-        io::print_hex(say::STDOUT, wide(bytes[i]), 2);
-        i += 1;
+    for byte in bytes.iter().take(8) {
+        io::print_hex(say::STDOUT, u64::from(*byte), 2);
     }
 }

@@ -5,14 +5,15 @@
 
 mod answers;
 
+use arrayvec::ArrayVec;
 use carrying::Written;
+use carrying::mapped::carry_out_mapped;
 use cases::delta::delta;
 use cases::fields::field;
-use cases::make::{buffer, make_or_keep};
+use cases::make::{ROOM, buffer, make_or_keep};
 use cases::{fields, say};
-use layout::{Kind, Layout};
-use reading::Reading;
-use stream::Compared;
+use layout::{Kind, Layout, Refusal, RefusedAt};
+use reading::mapped::read_mapped;
 
 // The calls by their first letters.
 const FORMAT: u8 = b'f';
@@ -64,190 +65,103 @@ fn show(line: &[u8], patch: &[u8]) {
     let block = fields::number(field(line, 4));
     let part = store::show::show(patch, block);
     say::number(part.len() as u64);
-    if part.len() == 0 {
+    if part.is_empty() {
         return;
     }
     let place = store::show::payload_place(patch, block);
-    let at = place.at;
     say::word(b"at");
-    say::number(at as u64);
+    say::number(place.at as u64);
     answers::first_bytes(part);
 }
 
-// The read that this call names.
-fn read_by(
-    call: u8,
-    patch: &[u8],
-    full: &[u8],
-    map: &[u8],
-    block: usize,
-    base: &[u8],
-    page: &mut [u8],
-) -> Reading {
-    if call == MAPPED {
-        return reading::mapped::read_mapped(patch, full, map, block, base, page);
-    }
-    reading::read(patch, full, block, base, page)
-}
-
 // read | name | patch | full | block | base | page, and mapped with one more, | map
-fn read(call: u8, line: &[u8], patch: &[u8], full: &[u8], map: &[u8]) {
+fn read<F: FnOnce(usize, &[u8], &mut [u8]) -> Result<Kind, RefusedAt>>(line: &[u8], call: F)
+    requires { F.IsAlwaysCallable call }
+{
     let block = fields::number(field(line, 4));
-    let base = buffer(field(line, 5));
-    let base_bytes = base.bytes;
-    let page = buffer(field(line, 6));
-    let was = page.bytes;
-    let mut bytes = page.bytes;
-    let lent: &mut [u8] = &mut bytes;
-    let n = page.length;
-    answers::reading(read_by(
-        call,
-        patch,
-        full,
-        map,
-        block,
-        span::part(&base_bytes, 0, base.length),
-        &mut lent[0..n],
-    ));
-    delta(b"page", &was, lent);
+    let base = buffer::<ROOM>(field(line, 5));
+    let was = buffer::<ROOM>(field(line, 6));
+    let mut page = buffer::<ROOM>(field(line, 6));
+    answers::reading(call(block, base.as_slice(), page.as_mut_slice()));
+    delta(b"page", was.as_slice(), page.as_slice());
 }
 
 // build | name | patch | full | map
 fn build(line: &[u8], patch: &[u8], full: &[u8]) {
-    let map = buffer(field(line, 4));
-    let was = map.bytes;
-    let mut bytes = map.bytes;
-    let lent: &mut [u8] = &mut bytes;
-    let n = map.length;
-    answers::built(building::build(patch, full, &mut lent[0..n]));
-    delta(b"map", &was, lent);
+    let was = buffer::<ROOM>(field(line, 4));
+    let mut map = buffer::<ROOM>(field(line, 4));
+    answers::built(building::build(patch, full, map.as_mut_slice()));
+    delta(b"map", was.as_slice(), map.as_slice());
 }
 
 // How many stores a line tells: its last field, after the map and the kind.
 fn told(line: &[u8]) -> usize {
     let stores = field(line, 9);
-    if stores.len() == 0 {
+    if stores.is_empty() {
         return ALL;
     }
     fields::number(stores)
 }
 
-// The carrying out that this call names, on the line's block.
-fn carry_by(
-    call: u8,
-    line: &[u8],
-    patch: &mut [u8],
-    full: &mut [u8],
-    map: &mut [u8],
-    kind: u32,
-    payload: &[u8],
-    page: &[u8],
-) -> Written {
-    let block = fields::number(field(line, 4));
-    let stores = told(line);
-    if call == KEEP || call == NOTE {
-        return carrying::mapped::carry_out_mapped(
-            patch, full, map, block, kind, payload, page, stores,
-        );
-    }
-    carrying::carry_out(patch, full, block, kind, payload, page, stores)
-}
-
-// How much of Compare's buffer is its payload.
-fn payload_length(kind: Kind, length: usize) -> usize {
-    match kind {
-        Kind::Empty => 0,
-        Kind::Patch => length,
-        Kind::Full => 0,
-    }
-}
-
 // write | name | patch | full | block | base | page, and keep with one more, | map. What Compare decides is carried out.
-fn write(call: u8, line: &[u8], patch: &mut [u8], full: &mut [u8], map: &mut [u8]) {
-    let base = buffer(field(line, 5));
-    let base_bytes = base.bytes;
-    let page = buffer(field(line, 6));
-    let page_bytes = page.bytes;
-    let modified = span::part(&page_bytes, 0, page.length);
+fn write<F>(line: &[u8], call: F)
+where
+    F: FnOnce(usize, u32, &[u8], &[u8], usize) -> Result<Written, Refusal>,
+    requires { F.IsAlwaysCallable call }
+{
+    let base = buffer::<ROOM>(field(line, 5));
+    let page = buffer::<ROOM>(field(line, 6));
+    let modified = page.as_slice();
     let mut bytes = [0xeeu8; Layout::ROOM];
     let room: &mut [u8] = &mut bytes;
-    let decided = stream::compare(span::part(&base_bytes, 0, base.length), modified, room);
+    let decided = stream::compare(base.as_slice(), modified, room);
     answers::compared(decided);
-    match decided {
-        Compared::Refused(_) => {}
-        Compared::Done {
-            kind,
-            length,
-            entries: _,
-            last: _,
-        } => {
-            say::word(b"out");
-            answers::written(carry_by(
-                call,
-                line,
-                patch,
-                full,
-                map,
-                layout::number::kind_number(kind),
-                span::part(room, 0, payload_length(kind, length)),
-                modified,
-            ));
-        }
-    }
+    let Ok(found) = decided else {
+        return;
+    };
+    say::word(b"out");
+    let payload = found.payload(room);
+    let block = fields::number(field(line, 4));
+    answers::written(call(block, found.kind.into(), payload, modified, told(line)));
 }
 
 // out | name | patch | full | block | payload | page | | kind, and note with the map before the kind
-fn out(call: u8, line: &[u8], patch: &mut [u8], full: &mut [u8], map: &mut [u8]) {
-    let payload = buffer(field(line, 5));
-    let payload_bytes = payload.bytes;
-    let page = buffer(field(line, 6));
-    let page_bytes = page.bytes;
-    let kind = fields::number(field(line, 8));
-    answers::written(carry_by(
-        call,
-        line,
-        patch,
-        full,
-        map,
-        (kind % 4294967296) as u32,
-        span::part(&payload_bytes, 0, payload.length),
-        span::part(&page_bytes, 0, page.length),
-    ));
+fn out<F>(line: &[u8], call: F)
+where
+    F: FnOnce(usize, u32, &[u8], &[u8], usize) -> Result<Written, Refusal>,
+    requires { F.IsAlwaysCallable call }
+{
+    let payload = buffer::<ROOM>(field(line, 5));
+    let page = buffer::<ROOM>(field(line, 6));
+    let kind = (fields::number(field(line, 8)) % 4294967296) as u32;
+    let block = fields::number(field(line, 4));
+    answers::written(call(block, kind, payload.as_slice(), page.as_slice(), told(line)));
 }
 
-// cut | name | patch | full | k, and trim with three more, of which the first two are empty, | | | map
-fn cut(call: u8, line: &[u8], patch: &mut [u8], full: &mut [u8], map: &mut [u8]) {
-    let k = fields::number(field(line, 4));
-    if call == TRIM {
-        answers::shortened(cutting::mapped::cut_mapped(patch, full, map, k));
-        return;
-    }
-    answers::shortened(cutting::cut(patch, full, k));
-}
-
-// The calls that change the areas, of which format and zero | name | patch | full take nothing else. It answers whether this was one.
+// The calls that change the areas: format and zero | name | patch | full, cut | name | patch | full | k, trim with three more, of which the
+// first two are empty, | | | map, and those above. It answers whether this was one.
 fn store(call: u8, line: &[u8], patch: &mut [u8], full: &mut [u8], map: &mut [u8]) -> bool {
-    if call == FORMAT {
-        answers::formatted(store::format::format(patch, full));
-        return true;
+    let k = fields::number(field(line, 4));
+    match call {
+        FORMAT => answers::number(store::format::format(patch, full)),
+        WRITE => write(line, |block, kind, payload, page, stores| {
+            carrying::carry_out(patch, full, block, kind, payload, page, stores)
+        }),
+        KEEP => write(line, |block, kind, payload, page, stores| {
+            carry_out_mapped(patch, full, map, block, kind, payload, page, stores)
+        }),
+        OUT => out(line, |block, kind, payload, page, stores| {
+            carrying::carry_out(patch, full, block, kind, payload, page, stores)
+        }),
+        NOTE => out(line, |block, kind, payload, page, stores| {
+            carry_out_mapped(patch, full, map, block, kind, payload, page, stores)
+        }),
+        CUT => answers::number(cutting::cut(patch, full, k)),
+        TRIM => answers::number(cutting::mapped::cut_mapped(patch, full, map, k)),
+        SWEEP => answers::number(sweeping::sweep(patch, full)),
+        _ => return false,
     }
-    if call == WRITE || call == KEEP {
-        write(call, line, patch, full, map);
-        return true;
-    }
-    if call == OUT || call == NOTE {
-        out(call, line, patch, full, map);
-        return true;
-    }
-    if call == CUT || call == TRIM {
-        cut(call, line, patch, full, map);
-        return true;
-    }
-    if call == SWEEP {
-        answers::swept(sweeping::sweep(patch, full));
-        return true;
-    }
-    false
+    true
 }
 
 // An area or the map as it is now.
@@ -266,24 +180,24 @@ fn change(call: u8, line: &[u8], patch: &mut [u8], full: &mut [u8], map: &mut [u
         delta(b"patch", &patch_was, patch);
         delta(b"full", &full_was, full);
     }
-    if call == KEEP || call == NOTE || call == TRIM {
+    if let KEEP | NOTE | TRIM = call {
         delta(b"map", &map_was, map);
     }
 }
 
 // The calls that change no area, of which highest | name | patch takes nothing else. It is not lent the full area.
 fn look(call: u8, line: &[u8], patch: &[u8], full: &[u8], map: &[u8]) {
-    if call == SHOW {
-        show(line, patch);
-    }
-    if call == READ || call == MAPPED {
-        read(call, line, patch, full, map);
-    }
-    if call == BUILD {
-        build(line, patch, full);
-    }
-    if call == HIGHEST {
-        answers::extent(cutting::highest::highest(patch));
+    match call {
+        SHOW => show(line, patch),
+        READ => read(line, |block, base, page| {
+            reading::read(patch, full, block, base, page)
+        }),
+        MAPPED => read(line, |block, base, page| {
+            read_mapped(patch, full, map, block, base, page)
+        }),
+        BUILD => build(line, patch, full),
+        HIGHEST => answers::extent(cutting::highest::highest(patch)),
+        _ => {}
     }
 }
 
@@ -297,23 +211,20 @@ fn run(line: &[u8], patch: &mut [u8], full: &mut [u8], map: &mut [u8]) {
 
 // A map is the last field of the lines that lend one; the other lines leave it.
 fn run_all(text: &[u8]) {
-    let mut a = [0u8; PATCH_ROOM];
-    let patch: &mut [u8] = &mut a;
-    let mut b = [0u8; FULL_ROOM];
-    let full: &mut [u8] = &mut b;
-    let mut c = [0u8; MAP_ROOM];
-    let map: &mut [u8] = &mut c;
-    let mut n = 0;
-    let mut m = 0;
-    let mut k = 0;
-    let mut at = 0;
-    while at < text.len() {
-        let line = fields::line_at(text, at);
-        at += line.len() + 1;
-        n = make_or_keep(patch, field(line, 2), n);
-        m = make_or_keep(full, field(line, 3), m);
-        k = make_or_keep(map, field(line, 7), k);
-        run(line, &mut patch[0..n], &mut full[0..m], &mut map[0..k]);
+    let mut patch = ArrayVec::<u8, PATCH_ROOM>::new();
+    let mut full = ArrayVec::<u8, FULL_ROOM>::new();
+    let mut map = ArrayVec::<u8, MAP_ROOM>::new();
+    for part in text.split_inclusive(|byte| *byte == b'\n') {
+        let line = fields::line_at(part, 0);
+        make_or_keep(&mut patch, field(line, 2));
+        make_or_keep(&mut full, field(line, 3));
+        make_or_keep(&mut map, field(line, 7));
+        run(
+            line,
+            patch.as_mut_slice(),
+            full.as_mut_slice(),
+            map.as_mut_slice(),
+        );
     }
 }
 

@@ -4,14 +4,14 @@
 
 ghost use Rattle.std.specs.Prelude.{◌≡◌};
 ghost use Rattle.payload.specs.Steps.{reach};
-ghost use Rattle.entry_reader.specs.Turns.{stands as stands_in, stays, Turned};
-ghost use Rattle.entry_reader.specs.declared.Found.TheVariants.{End, Stopped};
+ghost use Rattle.entry_reader.specs.Turns.{stands as stands_in, Turned};
 ghost use Rattle.entry_reader.specs.Reader.{opened, turned, moved};
 
 use layout::Layout;
 use payload::{Code, Step};
 
-// What a step finds: an entry's position and value, the payload's end, or no sound entry at this offset.
+// What a step finds: an entry's position and value, the payload's end, or no sound entry at this offset. Three cases of one rank, so no Option in a
+// Result.
 #[derive(Clone, Copy)]
 pub enum Found {
     Entry { position: i32, value: u8 },
@@ -41,58 +41,39 @@ fn stands(position: i32, size: usize) -> bool
     ensures { result ≡ stands_in (reach size) position }
 {
     // The place after it, so that -1 is no case of its own: from 0 to the page's size.
-    let after = payload::entry::moved(position, 1);
-    if after < 0 {
+    let Ok(next) = usize::try_from(payload::entry::moved(position, 1)) else {
         return false;
-    }
-    let next = after as usize;
-    if Code::REACH < next {
-        return false;
-    }
-    next <= size
-}
-
-// No sound entry begins here, and the reader stays.
-fn stopped(at: usize, position: i32) -> Turn
-    ensures { result ≡ stays (Stopped at) at position }
-{
-    Turn {
-        found: Found::Stopped { offset: at },
-        at: at,
-        position: position,
-    }
-}
-
-// The payload ends here, and the reader stays.
-fn ended(at: usize, position: i32) -> Turn
-    ensures { result ≡ stays End at position }
-{
-    Turn {
-        found: Found::End,
-        at: at,
-        position: position,
-    }
+    };
+    next <= size.min(Code::REACH)
 }
 
 // The entry at a place of a payload, read from this position in a page of this size.
 pub fn step_at(payload: &[u8], size: usize, at: usize, position: i32) -> Turn
     ensures { Turned (reach size) payload.now at position result }
 {
-    if payload.len() == 0 {
-        return stopped(at, position);
-    }
-    if Layout::ROOM < payload.len() {
-        return stopped(at, position);
+    // Where there is no entry, the reader stays.
+    let stopped = Turn {
+        found: Found::Stopped { offset: at },
+        at,
+        position,
+    };
+    let ended = Turn {
+        found: Found::End,
+        at,
+        position,
+    };
+    if payload.is_empty() || Layout::ROOM < payload.len() {
+        return stopped;
     }
     if payload.len() <= at {
-        return ended(at, position);
+        return ended;
     }
     if !stands(position, size) {
-        return stopped(at, position);
+        return stopped;
     }
     match payload::entry::step(payload, at, position, size) {
-        Step::End => ended(at, position),
-        Step::Broken => stopped(at, position),
+        Step::End => ended,
+        Step::Broken => stopped,
         Step::Entry {
             position: to,
             value,
@@ -100,7 +81,7 @@ pub fn step_at(payload: &[u8], size: usize, at: usize, position: i32) -> Turn
         } => Turn {
             found: Found::Entry {
                 position: to,
-                value: value,
+                value,
             },
             at: next,
             position: to,
@@ -120,12 +101,15 @@ pub fn entries<'a>(payload: &'a [u8]) -> EntryReader<'a>
     }
 }
 
-// Moves the reader on by one entry. At the payload's end, and where it stopped, it stays and says so again.
-pub fn next<'s, 'a>(reader: &'s mut EntryReader<'a>) -> Found
-    ensures { (result ≡ (turned reader.old).found) × (reader.new ≡ moved reader.old) }
-{
-    let turn = step_at(reader.payload, reader.size, reader.at, reader.position);
-    reader.at = turn.at;
-    reader.position = turn.position;
-    turn.found
+// No Iterator: the end and a stop are told again at each call, and a stop tells its offset, for which a None has no place.
+impl EntryReader<'_> {
+    // Moves the reader on by one entry. At the payload's end, and where it stopped, it stays and says so again.
+    pub fn next(&mut self) -> Found
+        ensures { (result ≡ (turned self.old).found) × (self.new ≡ moved self.old) }
+    {
+        let turn = step_at(self.payload, self.size, self.at, self.position);
+        self.at = turn.at;
+        self.position = turn.position;
+        turn.found
+    }
 }

@@ -38,19 +38,20 @@ pub fresh_patch_is : (P n : ℕ) → splice (zeros n) 0 (take n (patch_fields P)
 unfolding fresh_patch patch_header patch_fields le
 fresh_patch_is P n = fresh_is (patch_fields P) n patch_head (lit≤ tt)
 
-pub fresh_full_is : (P n : ℕ) → splice (zeros n) 0 (take n (full_fields P)) ≡ take n (fresh_full P n)
-unfolding fresh_full full_header full_fields le
-fresh_full_is P n = go (eqb n 0) refl
+-- a full area of length 0 has no header, and no byte to hold one
+pub fresh_full_taken : (P n : ℕ) → take n (fresh_full P n) ≡ take n (full_header P ++ zeros (n - full_head))
+unfolding fresh_full
+fresh_full_taken P n = go (eqb n 0) refl
   where
-    h : splice (zeros n) 0 (take n (full_fields P)) ≡ take n (header (full_fields P) full_head ++ zeros (n - full_head))
-    h = fresh_is (full_fields P) n full_head (lit≤ tt)
-
-    go : (t : Bool) → eqb n 0 ≡ t → splice (zeros n) 0 (take n (full_fields P))
-        ≡ take n (cond t [] (header (full_fields P) full_head ++ zeros (n - full_head)))
+    go : (t : Bool) → eqb n 0 ≡ t → take n (cond t [] (full_header P ++ zeros (n - full_head))) ≡ take n (full_header P ++ zeros (n - full_head))
     go true e =
         let q : n ≡ 0 = eqb-true n 0 e in
-        h ∙ ap (λ (k : ℕ). take k (header (full_fields P) full_head ++ zeros (n - full_head))) q ∙ sym (ap (λ (k : ℕ). take {A = ℕ} k []) q)
-    go false e = h
+        ap (λ (k : ℕ). take {A = ℕ} k []) q ∙ sym (ap (λ (k : ℕ). take k (full_header P ++ zeros (n - full_head))) q)
+    go false e = refl
+
+pub fresh_full_is : (P n : ℕ) → splice (zeros n) 0 (take n (full_fields P)) ≡ take n (fresh_full P n)
+unfolding full_header full_fields le
+fresh_full_is P n = fresh_is (full_fields P) n full_head (lit≤ tt) ∙ sym (fresh_full_taken P n)
 
 -- fresh areas have the lengths that they were made for
 pub fresh_patch_length : (P l : ℕ) → patch_head ≤ l → length (fresh_patch P l) ≡ l

@@ -1,5 +1,6 @@
 pub mod Fresh
 pub mod FreshLaws
+pub mod Head
 pub mod HeaderLaws
 pub mod Headers
 pub mod Meaning

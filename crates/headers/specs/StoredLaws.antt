@@ -43,7 +43,8 @@ le_number (suc k) v =
     let b : (v % 256 + 256 * x) / 256 ≡ x = omega arith in
     rw (a, b) (ap (λ (l : List ℕ). v % 256 ∷ l) (le_number k (v / 256)))
 
-number_four : (ys : List ℕ) → length ys ≤ 4
+-- four bytes, missing ones as zeros
+pub number_four : (ys : List ℕ) → length ys ≤ 4
     → number ys ≡ get_or ys 0 0 + 256 * (get_or ys 1 0 + 256 * (get_or ys 2 0 + 256 * get_or ys 3 0))
 unfolding number
 number_four [] h = refl

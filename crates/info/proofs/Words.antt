@@ -4,22 +4,23 @@ use Prim.Native.Char.{code}
 use native.Mathlib.Omega.{arith}
 use native.Mathlib.Nat.{pow-suc, one-le-pow, pow-le-pow_right, zero-lt-suc}
 use native.Mathlib.Decide.{dec_lt}
-use mathlib.Core.Path.{◌≡◌, sym, ap, ◌∙◌, subst}
-use mathlib.Core.Bool.{true, false, true≢false, false≢true}
+use mathlib.Core.Path.{◌≡◌, refl, sym, ap, ◌∙◌, subst}
+use mathlib.Core.Bool.{true, false}
 use mathlib.Core.List.{List, [], ◌∷◌, ◌++◌}
 use lib.Dec.{ltb}
 use lib.IntN.{ℤ, pos, negsuc, nat_abs}
-use lib.Signed.{lt_z}
+use Rattle.std.specs.Int.{FitsUnsignedBits}
+use mir.Syntax.{w32}
+use mir.Val.{SFits}
 use lib.ListN.{length, set, take, get_or, length-append}
 use lib.Seq.{sets, take-suc, take_all, length-take-le}
 use borrow.Author.Tests.{lt-ltb, le-ltb, ne_eqb}
 use Rattle.layout.specs.Numbers.{kind_number, refusal_number}
 use Rattle.layout.specs.NumberLaws.{refusal_some}
-use Rattle.layout.specs.declared.Kind.{Kind}
 use Rattle.layout.specs.declared.Refusal.{Refusal}
+use Rattle.std.specs.Prelude.{Ok, Err}
 use Rattle.info.specs.Info.{told_numbers}
 use Rattle.info.specs.declared.Info.{Info}
-use Rattle.info.specs.declared.Info.TheVariants.{Slot, Refused}
 use Rattle.io.specs.Digits.{last_digits, hex_digit_ascii, IsDigitCount}
 use Rattle.span.specs.Bytes.{Put}
 use Rattle.span.specs.Ascii.{ascii}
@@ -62,9 +63,9 @@ word_turn out₀ out word at i h e =
     ∙ ap (λ (l : List ℕ). sets out₀ at l) (sym (take-suc word i 0 h))
     ∙ ap (λ (m : ℕ). sets out₀ at (take m word)) (sym j)
 
-pub word_whole : (out₀ out word : List ℕ) (at i : ℕ) → i ≡ length word → out ≡ sets out₀ at (take i word) → Put out₀ at word (at + i) out
+pub word_whole : (out₀ out word : List ℕ) (at i : ℕ) → i ≡ length word → out ≡ sets out₀ at (take i word) → Put out₀ at word (at + length word) out
 word_whole out₀ out word at i e h =
-    record { next = ap (λ (k : ℕ). at + k) e; bytes = h ∙ ap (λ (l : List ℕ). sets out₀ at l) (take_all i word (omega arith)) }
+    record { next = refl; bytes = h ∙ ap (λ (l : List ℕ). sets out₀ at l) (take_all i word (omega arith)) }
 
 -- the digits that `io` writes are those of the definition
 digit : (n : ℕ) → hex_digit_ascii (n % 10) ≡ code "0" + n % 10
@@ -110,51 +111,45 @@ number_put out after at n k r room h w e l p =
     let q : k ≤ 20 = digit_count n k h w in
     (subst (λ (l : List ℕ). Put out at l r after) (e ∙ digits_are k 20 n q w) p, omega (arith, p.next))
 
--- The kind's line, by the case that the code took
-pub kind_put : {out after : List ℕ} {k k' : Kind} {s : ℕ} → k ≡ k'
-    → Put out 0 (kind_line (kind_number k')) s after → Put out 0 (kind_line (kind_number k)) s after
-kind_put {out} {after} {k} {k'} {s} e p = subst (λ (x : Kind). Put out 0 (kind_line (kind_number x)) s after) (sym e) p
-
 -- The last position. The code reads it back from its bits, as r.
 
-pub last_none : {out after : List ℕ} {at s : ℕ} (r q : ℤ) → r ≡ q → lt_z r (pos 0) ≡ true
+pub last_some : {out after : List ℕ} {at s : ℕ} (r q : ℤ) (n : ℕ) → r ≡ q → FitsUnsignedBits 64 r → n ≡ nat_abs r
+    → Put out at (number_line (ascii "last ") n) s after → Put out at (last_line q) s after
+unfolding last_line
+last_some {out} {after} {at} {s} r (pos a) n e f h p =
+    subst (λ (m : ℕ). Put out at (number_line (ascii "last ") m) s after) (h ∙ ap nat_abs e) p
+last_some r (negsuc k) n e f h p = absurd (subst (FitsUnsignedBits 64) e f)
+
+pub last_none : {out after : List ℕ} {at s : ℕ} (r q : ℤ) → r ≡ q → SFits w32 q → (FitsUnsignedBits 64 r → ⊥)
     → Put out at (ascii "last -1\n") s after → Put out at (last_line q) s after
 unfolding last_line
-last_none r (pos a) e h p = absurd (false≢true (sym (ap (λ (z : ℤ). lt_z z (pos 0)) e ∙ le-ltb a 0 (omega arith)) ∙ h))
-last_none r (negsuc k) e h p = p
-
-pub last_some : {out after : List ℕ} {at s : ℕ} (r q : ℤ) → r ≡ q → lt_z r (pos 0) ≡ false
-    → Put out at (number_line (ascii "last ") (nat_abs r)) s after → Put out at (last_line q) s after
-unfolding last_line
-last_some {out} {after} {at} {s} r (pos a) e h p =
-    subst (λ (z : ℤ). Put out at (number_line (ascii "last ") (nat_abs z)) s after) e p
-last_some r (negsuc k) e h p = absurd (true≢false (sym (ap (λ (z : ℤ). lt_z z (pos 0)) e) ∙ h))
+last_none r (pos a) e w h p =
+    let b : a < 2 ^ 31 = w.sfits in
+    let fits : a < 2 ^ 64 = omega arith in
+    absurd (h (subst (FitsUnsignedBits 64) (sym e) fits))
+last_none r (negsuc k) e w h p = p
 
 -- The whole text
 
-pub refused_put : {out after : List ℕ} {i : Info} {r : Refusal} {n s : ℕ} → i ≡ Refused r → n ≡ refusal_number r
-    → Put out 0 (number_line (ascii "refused ") n) s after → Put out 0 (text (told_numbers i)) s after
+pub refused_put : {out after : List ℕ} (r : Refusal) {n s : ℕ} → n ≡ refusal_number r
+    → Put out 0 (number_line (ascii "refused ") n) s after → Put out 0 (text (told_numbers (Err r))) s after
 unfolding text
-refused_put {out} {after} {i} {r} {n} {s} e q p =
-    let t : text (told_numbers (Refused r)) ≡ number_line (ascii "refused ") (refusal_number r) =
+refused_put {out} {after} r {n} {s} q p =
+    let t : text (told_numbers (Err r)) ≡ number_line (ascii "refused ") (refusal_number r) =
     rw (ne_eqb (refusal_number r) 0 (refusal_some r)) in
-    let u : number_line (ascii "refused ") n ≡ text (told_numbers i) =
-    ap (λ (m : ℕ). number_line (ascii "refused ") m) q ∙ sym t ∙ ap (λ (j : Info). text (told_numbers j)) (sym e) in
-    subst (λ (w : List ℕ). Put out 0 w s after) u p
+    subst (λ (w : List ℕ). Put out 0 w s after) (ap (λ (m : ℕ). number_line (ascii "refused ") m) q ∙ sym t) p
 
-pub slot_put : {out after : List ℕ} {i : Info} {k : Kind} {n e : ℕ} {l l' : ℤ} {s : ℕ} (m₁ m₂ m₃ : List ℕ) (a b d : ℕ)
-    → i ≡ Slot k n e l → l' ≡ l
-    → Put out 0 (kind_line (kind_number k)) a m₁
-    → Put m₁ a (number_line (ascii "length ") n) b m₂
-    → Put m₂ b (number_line (ascii "entries ") e) d m₃
+pub slot_put : {out after : List ℕ} (i : Info) {l' : ℤ} {s : ℕ} (m₁ m₂ m₃ : List ℕ) (a b d : ℕ)
+    → l' ≡ i.last
+    → Put out 0 (kind_line (kind_number i.kind)) a m₁
+    → Put m₁ a (number_line (ascii "length ") i.length) b m₂
+    → Put m₂ b (number_line (ascii "entries ") i.entries) d m₃
     → Put m₃ d (last_line l') s after
-    → Put out 0 (text (told_numbers i)) s after
+    → Put out 0 (text (told_numbers (Ok i))) s after
 unfolding text slot_text
-slot_put {out} {after} {i} {k} {n} {e} {l} {l'} {s} m₁ m₂ m₃ a b d q z p₁ p₂ p₃ p₄ =
-    let p₄' : Put m₃ d (last_line l) s after = subst (λ (x : ℤ). Put m₃ d (last_line x) s after) z p₄ in
-    let rest₂ : List ℕ = number_line (ascii "entries ") e ++ last_line l in
-    let rest₁ : List ℕ = number_line (ascii "length ") n ++ rest₂ in
-    let w : Put out 0 (text (told_numbers (Slot k n e l))) s after =
-    put_then (kind_line (kind_number k)) rest₁ p₁
-    (put_then (number_line (ascii "length ") n) rest₂ p₂ (put_then (number_line (ascii "entries ") e) (last_line l) p₃ p₄')) in
-    subst (λ (j : Info). Put out 0 (text (told_numbers j)) s after) (sym q) w
+slot_put {out} {after} i {l'} {s} m₁ m₂ m₃ a b d z p₁ p₂ p₃ p₄ =
+    let p₄' : Put m₃ d (last_line i.last) s after = subst (λ (x : ℤ). Put m₃ d (last_line x) s after) z p₄ in
+    let rest₂ : List ℕ = number_line (ascii "entries ") i.entries ++ last_line i.last in
+    let rest₁ : List ℕ = number_line (ascii "length ") i.length ++ rest₂ in
+    put_then (kind_line (kind_number i.kind)) rest₁ p₁
+    (put_then (number_line (ascii "length ") i.length) rest₂ p₂ (put_then (number_line (ascii "entries ") i.entries) (last_line i.last) p₃ p₄'))

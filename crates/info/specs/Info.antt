@@ -1,15 +1,15 @@
 -- What `slotinfo` tells of one slot: its kind, its payload's length, its number of entries and its last position.
-use Rattle.std.specs.Prelude.{ℕ, ◌≡◌, not, ◌&&◌, List, [], ◌∷◌, eqb, length as length_of, ℤ, pos}
+use Rattle.std.specs.Prelude.{ℕ, ◌≡◌, not, ◌&&◌, List, [], ◌∷◌, eqb, length as length_of, ℤ, pos, Result, Ok, Err}
 use Rattle.span.specs.Bytes.{part}
 use Rattle.layout.specs.Sizes.{slot_size, payload_at, patch_kind}
 use Rattle.layout.specs.Numbers.{kind_number, refusal_number}
+use Rattle.layout.specs.declared.Refusal.{Refusal}
 use Rattle.layout.specs.Refusals.{Row, ◌⇐◌, first_of, decided}
 use Rattle.layout.specs.Groups.{Grouped, ordered, ◌▸◌}
 use Rattle.layout.specs.Groups as group
 use Rattle.slots.specs.Slots.{slot_numbers}
 use Rattle.payload.specs.Entries.{start, payload_stream, sound, entries as entries_of, last as last_of}
 use Rattle.info.specs.declared.Info.{Info}
-use Rattle.info.specs.declared.Info.TheVariants.{Slot, Refused}
 
 -- a slot's payload: as many bytes of its room as its numbers say, so none of EMPTY and FULL_REF
 unfoldable pub payload_in : List ℕ → List ℕ
@@ -51,9 +51,9 @@ unfoldable pub info_numbers : ℕ → List ℕ → InfoNumbers
 info_numbers P bytes = decided (first_of (info_rows P bytes)) (slot_info P bytes) (λ n. refused_info n)
 
 -- the paper's numbers for each case of the answer
-abbrev pub told_numbers : Info → InfoNumbers
-told_numbers (Slot k n e l) = record { number = 0; kind = kind_number k; length = n; entries = e; last = l }
-told_numbers (Refused r) = refused_info (refusal_number r)
+abbrev pub told_numbers : Result Info Refusal → InfoNumbers
+told_numbers (Ok i) = record { number = 0; kind = kind_number i.kind; length = i.length; entries = i.entries; last = i.last }
+told_numbers (Err r) = refused_info (refusal_number r)
 
-pub record Inspect (P : ℕ) (bytes : List ℕ) (answer : Info) : Type 0 where
+pub record Inspect (P : ℕ) (bytes : List ℕ) (answer : Result Info Refusal) : Type 0 where
   pub numbers : told_numbers answer ≡ info_numbers P bytes

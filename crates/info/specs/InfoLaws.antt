@@ -1,5 +1,5 @@
 -- What `slotinfo` tells is one answer, refused just as the rows say; and what is told, by what the slot is.
-use Rattle.std.specs.Prelude.{ℕ, ◌≡◌, refl, true, false, List, eqb, length as length_of, negsuc}
+use Rattle.std.specs.Prelude.{ℕ, ◌≡◌, refl, true, false, List, eqb, length as length_of, negsuc, Result, Ok, Err}
 use Rattle.std.proofs.Common.{arith, sym, ap, ◌∙◌, eq-eqb, ne_eqb}
 use Rattle.span.specs.Bytes.{part}
 use Rattle.layout.specs.Sizes.{slot_size, payload_at}
@@ -10,24 +10,25 @@ use Rattle.layout.specs.Groups.{ordered}
 use Rattle.layout.specs.GroupLaws.{once}
 use Rattle.slots.specs.Slots.{slot_numbers, sound_slot, unsound_slot}
 use Rattle.payload.specs.Entries.{stream, start, payload_stream, sound, entries as entries_of, last as last_of}
+use Rattle.layout.specs.declared.Refusal.{Refusal}
 use Rattle.info.specs.declared.Info.{Info}
-use Rattle.info.specs.declared.Info.TheVariants.{Slot, Refused}
 use Rattle.info.specs.Info.{payload_in, info_groups, info_rows, InfoNumbers, slot_info, refused_info, info_numbers, told_numbers, Inspect}
 
 -- No second answer meets it.
 
-pub told_one : (a b : Info) → told_numbers a ≡ told_numbers b → a ≡ b
-told_one (Slot k n e l) (Slot k' n' e' l') q =
-    λ i. Slot (kind_one k k' (ap (λ (x : InfoNumbers). x.kind) q) i) (q i).length (q i).entries (q i).last
-told_one (Slot k n e l) (Refused r) q = absurd (refusal_some r (sym (ap (λ (x : InfoNumbers). x.number) q)))
-told_one (Refused r) (Slot k n e l) q = absurd (refusal_some r (ap (λ (x : InfoNumbers). x.number) q))
-told_one (Refused r) (Refused r') q = ap Refused (refusal_one r r' (ap (λ (x : InfoNumbers). x.number) q))
+pub told_one : (a b : Result Info Refusal) → told_numbers a ≡ told_numbers b → a ≡ b
+told_one (Ok a) (Ok b) q =
+    let k : a.kind ≡ b.kind = kind_one a.kind b.kind (ap (λ (x : InfoNumbers). x.kind) q) in
+    λ i. Ok (record { kind = k i; length = (q i).length; entries = (q i).entries; last = (q i).last })
+told_one (Ok a) (Err r) q = absurd (refusal_some r (sym (ap (λ (x : InfoNumbers). x.number) q)))
+told_one (Err r) (Ok b) q = absurd (refusal_some r (ap (λ (x : InfoNumbers). x.number) q))
+told_one (Err r) (Err r') q = ap Err (refusal_one r r' (ap (λ (x : InfoNumbers). x.number) q))
 
-pub inspect_only : (P : ℕ) (bytes : List ℕ) (a b : Info) → Inspect P bytes a → Inspect P bytes b → a ≡ b
+pub inspect_only : (P : ℕ) (bytes : List ℕ) (a b : Result Info Refusal) → Inspect P bytes a → Inspect P bytes b → a ≡ b
 inspect_only P bytes a b x y = told_one a b (x.numbers ∙ sym y.numbers)
 
 -- "Each refusal is given when its condition holds and no earlier one does, and at no other time."
-pub inspect_exactly : (P : ℕ) (bytes : List ℕ) (a : Info) → Inspect P bytes a → Exactly (info_rows P bytes) (told_numbers a).number
+pub inspect_exactly : (P : ℕ) (bytes : List ℕ) (a : Result Info Refusal) → Inspect P bytes a → Exactly (info_rows P bytes) (told_numbers a).number
 unfolding info_numbers info_rows ordered slot_info
 inspect_exactly P bytes a x =
     exactly (info_rows P bytes) _

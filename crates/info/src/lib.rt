@@ -3,56 +3,53 @@
 
 pub mod text;
 
+ghost use Rattle.std.specs.Prelude.{◌≡◌, negsuc};
 ghost use Rattle.layout.specs.Sizes.{page_size};
 ghost use Rattle.info.specs.Info.{Inspect};
 
 use layout::{Kind, Layout, Refusal};
-use payload::Checked;
 use slots::SlotState;
 
-// A slot's kind, its payload's length, its number of entries and its last position; or why it is none.
-#[derive(Clone, Copy)]
-pub enum Info {
-    Slot {
-        kind: Kind,
-        length: usize,
-        entries: usize,
-        last: i32,
-    },
-    Refused(Refusal),
+// A slot's kind, its payload's length, its number of entries and its last position: -1 where it has no entry.
+#[derive(Clone, Copy, PartialEq, Eq)]
+pub struct Info {
+    pub kind: Kind,
+    pub length: usize,
+    pub entries: usize,
+    pub last: i32,
+}
+
+// What is told of a slot that has no payload.
+fn bare(kind: Kind) -> Info
+    ensures { result ≡ record { kind = kind; length = 0; entries = 0; last = negsuc 0 } }
+{
+    Info {
+        kind,
+        length: 0,
+        entries: 0,
+        last: -1,
+    }
 }
 
 // All that is decided about the bytes of one slot.
-pub fn inspect(bytes: &[u8]) -> Info
+pub fn inspect(bytes: &[u8]) -> Result<Info, Refusal>
     ensures { Inspect page_size bytes.now result }
 {
     if bytes.len() != Layout::SLOT {
-        return Info::Refused(Refusal::Length);
+        return Err(Refusal::Length);
     }
-    match slots::slot_state(bytes) {
-        SlotState::Unsound => Info::Refused(Refusal::Slot),
-        SlotState::Empty => Info::Slot {
-            kind: Kind::Empty,
-            length: 0,
-            entries: 0,
-            last: -1,
-        },
-        SlotState::Full => Info::Slot {
-            kind: Kind::Full,
-            length: 0,
-            entries: 0,
-            last: -1,
-        },
-        SlotState::Patch(n) => {
-            match payload::check(span::part(bytes, Layout::PAYLOAD_AT, n), Layout::PAGE) {
-                Checked::Unsound { offset: _ } => Info::Refused(Refusal::Payload),
-                Checked::Sound { entries, last } => Info::Slot {
-                    kind: Kind::Patch,
-                    length: n,
-                    entries: entries,
-                    last: last,
-                },
-            }
+    match slots::slot_state(bytes)? {
+        SlotState::Empty => Ok(bare(Kind::Empty)),
+        SlotState::Full => Ok(bare(Kind::Full)),
+        SlotState::Patch(length) => {
+            let payload = span::part(bytes, Layout::PAYLOAD_AT, length);
+            let sound = payload::check(payload, Layout::PAGE)?;
+            Ok(Info {
+                kind: Kind::Patch,
+                length,
+                entries: sound.entries,
+                last: sound.last,
+            })
         }
     }
 }

@@ -5,6 +5,7 @@ pub mod Groups
 pub mod FirstFault
 pub mod Lengths
 pub mod Meaning
+pub mod Exits
 pub mod LengthLaws
 pub mod GroupLaws
 pub mod NumberLaws

@@ -1,12 +1,12 @@
 -- The numbers determine the cases.
-use Rattle.std.specs.Prelude.{ℕ, zero, suc, ◌≡◌, refl}
+use Rattle.std.specs.Prelude.{ℕ, zero, suc, ◌≡◌, refl, Result, Ok, Err, ⊤}
 use Rattle.std.proofs.Common.{arith, sym, ap, ◌∙◌}
 use Rattle.layout.specs.declared.Kind.{Kind}
 use Rattle.layout.specs.declared.Kind.TheVariants.{Empty, Patch, Full}
 use Rattle.layout.specs.declared.Refusal.{Refusal}
 use Rattle.layout.specs.declared.Refusal.TheVariants.{Page, Length, Header, Version, Block, Slot, Payload, FullPage, Buffer}
 use Rattle.layout.specs.declared.Refusal.TheVariants.{Place, Pair}
-use Rattle.layout.specs.Numbers.{kind_number, refusal_number}
+use Rattle.layout.specs.Numbers.{kind_number, refusal_number, answer_number}
 
 kind_of : ℕ → Kind
 kind_of zero = Empty
@@ -66,3 +66,10 @@ refusal_some FullPage e = omega arith
 refusal_some Buffer e = omega arith
 refusal_some Place e = omega arith
 refusal_some Pair e = omega arith
+
+-- so an answer that tells nothing but its number is determined by it
+pub answer_one : (a b : Result ⊤ Refusal) → answer_number a ≡ answer_number b → a ≡ b
+answer_one (Ok x) (Ok y) e = refl
+answer_one (Ok x) (Err r) e = absurd (refusal_some r (sym e))
+answer_one (Err r) (Ok x) e = absurd (refusal_some r e)
+answer_one (Err r) (Err q) e = ap Err (refusal_one r q e)

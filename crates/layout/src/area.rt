@@ -6,36 +6,29 @@ ghost use Rattle.layout.specs.Lengths.{blocks_in, pages_in, patch_fits, full_fit
 use crate::Layout;
 
 // n: how many slots a patch area of this length has.
+#[tactic(auto, unfolding(crate::specs::Lengths::blocks_in))]
 pub fn blocks(patch_length: usize) -> usize
     ensures { result ≡ blocks_in patch_length }
 {
-    if patch_length < Layout::PATCH_HEAD {
-        return 0;
-    }
-    (patch_length - Layout::PATCH_HEAD) / Layout::SLOT
+    patch_length.saturating_sub(Layout::PATCH_HEAD) / Layout::SLOT
 }
 
 // m: how many pages of this size a full area of this length has room for.
+#[tactic(auto, unfolding(crate::specs::Lengths::pages_in))]
 pub fn pages(size: u32, full_length: usize) -> usize
     ensures { result ≡ pages_in size full_length }
 {
-    if size == 0 {
-        return 0;
-    }
-    if full_length < Layout::FULL_HEAD {
-        return 0;
-    }
-    (full_length - Layout::FULL_HEAD) / (size as usize)
+    full_length
+        .saturating_sub(Layout::FULL_HEAD)
+        .checked_div(size as usize)
+        .unwrap_or(0)
 }
 
 // The most blocks of one segment in pages of this size.
 pub fn most_blocks(size: u32) -> usize
     ensures { result ≡ blocks_at_most size }
 {
-    if size == 0 {
-        return 0;
-    }
-    Layout::SEGMENT / (size as usize)
+    Layout::SEGMENT.checked_div(size as usize).unwrap_or(0)
 }
 
 // Whether a patch area may have this length.
@@ -73,8 +66,5 @@ pub fn full_fits(size: u32, n: u32, full_length: usize) -> bool
 pub fn lengths_fit(size: u32, patch_length: usize, full_length: usize) -> bool
     ensures { result ≡ (patch_fits size patch_length && full_fits size (blocks_in patch_length) full_length) }
 {
-    if !patch_fits(size, patch_length) {
-        return false;
-    }
-    full_fits(size, blocks(patch_length) as u32, full_length)
+    patch_fits(size, patch_length) && full_fits(size, blocks(patch_length) as u32, full_length)
 }

@@ -11,35 +11,36 @@ ghost use Rattle.layout.specs.Sizes.{patch_fields_size, patch_flags, patch_head,
 ghost use Rattle.layout.specs.Sizes.{payload_at, reserved_at, rest_at, room, segment, size_width, slot_at, slot_flags_at};
 ghost use Rattle.layout.specs.Sizes.{slot_size, slot_size_at, version_at};
 
-// What a slot holds, and what a comparison finds.
-#[derive(Clone, Copy)]
+// What a slot holds, and what a comparison finds, with the paper's numbers.
+#[derive(Clone, Copy, PartialEq, Eq)]
 pub enum Kind {
-    Empty,
-    Patch,
-    Full,
+    Empty = 0,
+    Patch = 1,
+    Full = 2,
 }
 
-// Why a call refuses, in the order of the paper's numbers 1 to 11.
-#[derive(Clone, Copy)]
+// Why a call refuses, with the paper's numbers.
+#[derive(Clone, Copy, PartialEq, Eq)]
 pub enum Refusal {
-    Page,
-    Length,
-    Header,
-    Version,
-    Block,
-    Slot,
-    Payload,
-    FullPage,
-    Buffer,
-    Place,
-    Pair,
+    Page = 1,
+    Length = 2,
+    Header = 3,
+    Version = 4,
+    Block = 5,
+    Slot = 6,
+    Payload = 7,
+    FullPage = 8,
+    Buffer = 9,
+    Place = 10,
+    Pair = 11,
 }
 
-// What a check finds.
-#[derive(Clone, Copy)]
-pub enum Fault {
-    Nothing,
-    Found(Refusal),
+// A refusal, and with a payload that is not sound the offset at which its first unsound entry starts. With any other it is the paper's 0, and no
+// Option: the paper has one number for both.
+#[derive(Clone, Copy, PartialEq, Eq)]
+pub struct RefusedAt {
+    pub refusal: Refusal,
+    pub offset: usize,
 }
 
 // The layout's numbers, each once.
@@ -79,11 +80,11 @@ impl Layout {
 
     pub const FULL_MAGIC: [u8; 8] = [80, 66, 75, 70, 85, 76, 76, 0];
 
-    pub const PATCH_VERSION: u64 = 2;
+    pub const PATCH_VERSION: u16 = 2;
 
-    pub const FULL_VERSION: u64 = 1;
+    pub const FULL_VERSION: u16 = 1;
 
-    pub const HEADER_FLAGS: u64 = 0;
+    pub const HEADER_FLAGS: u16 = 0;
 
     // Places in a slot, and the payload's room.
     pub const KIND_AT: usize = 0;
@@ -98,6 +99,7 @@ impl Layout {
 
     pub const ROOM: usize = Self::SLOT - Self::PAYLOAD_AT;
 
+    // The first byte of a slot of each kind.
     pub const EMPTY_KIND: u8 = 0;
 
     pub const PATCH_KIND: u8 = 1;
@@ -120,19 +122,6 @@ impl Layout {
         Self::FULL_HEAD + (size as usize) * (block as usize)
     }
 
-    // The magics are arrays: each is tied by a function of its own.
-    pub fn patch_magic() -> [u8; 8]
-        ensures { result ≡ patch_magic }
-    {
-        Self::PATCH_MAGIC
-    }
-
-    pub fn full_magic() -> [u8; 8]
-        ensures { result ≡ full_magic }
-    {
-        Self::FULL_MAGIC
-    }
-
     // The code's numbers are the definitions'.
     pub fn agrees()
         ensures pages { Layout.PAGE ≡ page_size }
@@ -148,6 +137,8 @@ impl Layout {
         ensures size_widths { Layout.SIZE_WIDTH ≡ size_width }
         ensures patch_fields { Layout.PATCH_FIELDS ≡ patch_fields_size }
         ensures full_fields { Layout.FULL_FIELDS ≡ full_fields_size }
+        ensures patch_magics { Layout.PATCH_MAGIC ≡ patch_magic }
+        ensures full_magics { Layout.FULL_MAGIC ≡ full_magic }
         ensures patch_versions { Layout.PATCH_VERSION ≡ patch_version }
         ensures full_versions { Layout.FULL_VERSION ≡ full_version }
         ensures header_flags { Layout.HEADER_FLAGS ≡ header_flags }

@@ -1,35 +1,48 @@
-// The paper's numbers for the cases that all answers share.
+// The paper's numbers for the cases that all answers share, and what they stand for.
 ghost use Rattle.std.specs.Prelude.{◌≡◌};
-ghost use Rattle.layout.specs.Numbers.{kind_number, refusal_number};
+ghost use Rattle.layout.specs.Numbers.{kind_number, refusal_number, IsKind, IsRefusedAt};
 
-use crate::{Kind, Layout, Refusal};
+use crate::{Kind, Refusal, RefusedAt};
 
 // The paper's number for a kind.
-pub fn kind_number(kind: Kind) -> u32
-    ensures { result ≡ kind_number kind }
-{
-    match kind {
-        Kind::Empty => Layout::EMPTY_KIND as u32,
-        Kind::Patch => Layout::PATCH_KIND as u32,
-        Kind::Full => Layout::FULL_KIND as u32,
+impl From<Kind> for u32 {
+    ghost from_gives = { λ kind number. number ≡ kind_number kind };
+
+    fn from(kind: Kind) -> u32 {
+        kind as u32
+    }
+}
+
+// The kind of a number. A number above 2 is no kind: 6.
+impl TryFrom<u32> for Kind {
+    type Error = Refusal;
+
+    ghost try_from_gives = { IsKind };
+
+    fn try_from(number: u32) -> Result<Kind, Refusal> {
+        match number {
+            0 => Ok(Kind::Empty),
+            1 => Ok(Kind::Patch),
+            2 => Ok(Kind::Full),
+            _ => Err(Refusal::Slot),
+        }
     }
 }
 
 // The paper's number for a refusal.
-pub fn refusal_number(refusal: Refusal) -> u32
-    ensures { result ≡ refusal_number refusal }
-{
-    match refusal {
-        Refusal::Page => 1,
-        Refusal::Length => 2,
-        Refusal::Header => 3,
-        Refusal::Version => 4,
-        Refusal::Block => 5,
-        Refusal::Slot => 6,
-        Refusal::Payload => 7,
-        Refusal::FullPage => 8,
-        Refusal::Buffer => 9,
-        Refusal::Place => 10,
-        Refusal::Pair => 11,
+impl From<Refusal> for u32 {
+    ghost from_gives = { λ refusal number. number ≡ refusal_number refusal };
+
+    fn from(refusal: Refusal) -> u32 {
+        refusal as u32
+    }
+}
+
+// A refusal that comes with no offset.
+impl From<Refusal> for RefusedAt {
+    ghost from_gives = { IsRefusedAt };
+
+    fn from(refusal: Refusal) -> RefusedAt {
+        RefusedAt { refusal, offset: 0 }
     }
 }

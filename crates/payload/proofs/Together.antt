@@ -4,15 +4,17 @@ use native.Mathlib.Omega.{arith}
 use native.Mathlib.Numerals.{add-one}
 use native.Mathlib.Decide.{dec_lt}
 use mathlib.Core.Path.{◌≡◌, refl, sym, ap, ◌∙◌, subst}
-use mathlib.Core.Bool.{Bool, true, false, ◌||◌, cond, true≢false}
+use mathlib.Core.Bool.{Bool, true, false, ◌||◌, cond, true≢false, false≢true}
 use mathlib.Core.List.{List}
 use lib.Dec.{eqb, ltb}
 use lib.ListN.{length, drop, get_or, set}
 use lib.IntN.{pos}
 use borrow.Author.Tests.{eq-eqb, lt-ltb, le-ltb, ltb-true, ltb-false, eqb-false}
+use Rattle.std.specs.Prelude.{Option, Some, None, is_some, IsSome}
 use Rattle.payload.specs.Positions.{before, before_next}
 use Rattle.payload.specs.Entries.{code, stream}
 use Rattle.payload.specs.Steps.{Entered, long_among, jumps_of, after_together, LaysTo}
+use Rattle.payload.specs.declared.reached.Reached.{Reached}
 use Rattle.payload.proofs.Reading.{Opened, opened_short, enters}
 use Rattle.payload.proofs.Turns.{Passed, passed_more, lays_more}
 
@@ -48,28 +50,28 @@ module _ (s : List ℕ) (at : ℕ) where
       eq-eqb (get_or s (at + 2 * 0) 0) 255 (ap (λ (i : ℕ). get_or s i 0) f ∙ e)
   long_first e (suc k) = ap (λ (t : Bool). t || eqb (get_or s (at + 2 * suc k) 0) 255) (long_first e k)
 
-either : (t : Bool) (x : ℕ) → cond t x x ≡ x
-either true x = refl
-either false x = refl
+either : (t : Bool) → cond {A = Option ℕ} t None None ≡ None
+either true = refl
+either false = refl
 
 -- The place after the last of eight, test by test
 module _ (n : ℕ) (s : List ℕ) (place after : ℕ) where
   abbrev all : ℕ
   all = after + 8 + jumps_of s place 8
 
-  pub together_cut : length s - place < 16 → after_together n s place after ≡ 0
+  pub together_cut : length s - place < 16 → after_together n s place after ≡ None
   unfolding after_together
   together_cut h = rw (lt-ltb (length s - place) 16 h)
 
-  pub together_long : long_among s place 8 ≡ true → after_together n s place after ≡ 0
+  pub together_long : long_among s place 8 ≡ true → after_together n s place after ≡ None
   unfolding after_together
-  together_long e = rw e (either (ltb (length s - place) 16) 0)
+  together_long e = rw e (either (ltb (length s - place) 16))
 
-  pub together_out : n < all → after_together n s place after ≡ 0
+  pub together_out : n < all → after_together n s place after ≡ None
   unfolding after_together
-  together_out h = rw (lt-ltb n all h) (ap (cond (ltb (length s - place) 16) 0) (either (long_among s place 8) 0) ∙ either (ltb (length s - place) 16) 0)
+  together_out h = rw (lt-ltb n all h, either (long_among s place 8)) (either (ltb (length s - place) 16))
 
-  pub together_in : 16 ≤ length s - place → long_among s place 8 ≡ false → all ≤ n → after_together n s place after ≡ all
+  pub together_in : 16 ≤ length s - place → long_among s place 8 ≡ false → all ≤ n → after_together n s place after ≡ Some all
   unfolding after_together
   together_in h e k = rw (le-ltb (length s - place) 16 h, e, le-ltb n all k)
 
@@ -110,25 +112,35 @@ pub record Taken (n : ℕ) (s : List ℕ) (place after : ℕ) : Type 0 where
   pub within : place + 16 ≤ length s
   pub short : long_among s place 8 ≡ false
   pub within_page : all n s place after ≤ n
-  pub is : after_together n s place after ≡ all n s place after
+  pub is : after_together n s place after ≡ Some (all n s place after)
 
-pub taken : (n : ℕ) (s : List ℕ) (place after : ℕ) → (after_together n s place after ≡ 0 → ⊥) → Taken n s place after
+pub taken : (n : ℕ) (s : List ℕ) (place after : ℕ) → IsSome (after_together n s place after) → Taken n s place after
 taken n s place after d = go (ltb (length s - place) 16) (long_among s place 8) (ltb n last) refl refl refl
   where
     last : ℕ
     last = all n s place after
 
+    none : after_together n s place after ≡ None → ⊥
+    none e = false≢true (sym (ap (λ (o : Option ℕ). is_some o) e) ∙ d)
+
     go : (x y z : Bool) → ltb (length s - place) 16 ≡ x → long_among s place 8 ≡ y → ltb n last ≡ z → Taken n s place after
-    go true y z p q r = absurd (d (together_cut n s place after (ltb-true (length s - place) 16 p)))
-    go false true z p q r = absurd (d (together_long n s place after q))
-    go false false true p q r = absurd (d (together_out n s place after (ltb-true n last r)))
+    go true y z p q r = absurd (none (together_cut n s place after (ltb-true (length s - place) 16 p)))
+    go false true z p q r = absurd (none (together_long n s place after q))
+    go false false true p q r = absurd (none (together_out n s place after (ltb-true n last r)))
     go false false false p q r =
         let k : 16 ≤ length s - place = ltb-false (length s - place) 16 p in
         let b : last ≤ n = ltb-false n last r in
         record { within = omega arith; short = q; within_page = b; is = together_in n s place after k q b }
 
+pub taken_to : (n : ℕ) (s : List ℕ) (place after to : ℕ) → Some to ≡ after_together n s place after
+    → Taken n s place after × (to ≡ after + 8 + jumps_of s place 8)
+taken_to n s place after to e =
+    let t : Taken n s place after = taken n s place after (ap (λ (o : Option ℕ). is_some o) (sym e)) in
+    let is = t.is in
+    (t, cc)
+
 -- They are entries one by one: each is in the page if the last is, since positions only grow.
-module _ (n : ℕ) (s : List ℕ) (place after : ℕ) (m : n ≤ 65536) (t : Taken n s place after) where
+module _ (n : ℕ) (s : List ℕ) (place after : ℕ) (t : Taken n s place after) where
   module _ (i : ℕ) (h : i < 8) where
     abbrev x : ℕ
     x = place + 2 * i
@@ -141,8 +153,8 @@ module _ (n : ℕ) (s : List ℕ) (place after : ℕ) (m : n ≤ 65536) (t : Tak
 
     pub each_entered : Entered n s x (stream n (before next) code (drop x s)) (pos (next + get_or s x 0)) (get_or s (x + 1) 0) (x + 2)
     each_entered =
-        let o : Opened s x (get_or s x 0) 2 = opened_short s x (omega (arith, t.within)) (omega (arith, each_in)) (short_at s place 8 t.short i h) in
-        enters s x (get_or s x 0) 2 (x + 1) o (omega arith) n next m each_in
+        let o : Opened s x (get_or s x 0) 2 = opened_short s x (omega (arith, t.within)) (short_at s place 8 t.short i h) in
+        enters s x (get_or s x 0) 2 (x + 1) o (omega arith) n next each_in
 
     -- the place after the next one
     pub each_next : next + get_or s x 0 + 1 ≡ after + (i + 1) + jumps_of s place (i + 1)
@@ -169,43 +181,29 @@ module _ (n : ℕ) (s : List ℕ) (place after : ℕ) (m : n ≤ 65536) (t : Tak
     pub passed_taken : Passed n s (place + 16) (before (all n s place after)) (count + 8)
     passed_taken = passed_short 8 (omega arith)
 
-pub passed_together : (n : ℕ) (s : List ℕ) (place after count : ℕ) → Passed n s place (before after) count → n ≤ 65536
-    → (to : ℕ) → to ≡ after_together n s place after → (to ≡ 0 → ⊥) → (to ≤ n) × Passed n s (place + 16) (before to) (count + 8)
-passed_together n s place after count h m to e d =
-    let t : Taken n s place after = taken n s place after (λ z. d (e ∙ z)) in
-    let f : to ≡ all n s place after = e ∙ t.is in
-    (omega (arith, t.within_page), rw f (passed_taken n s place after m t count h))
+pub passed_together : (n : ℕ) (s : List ℕ) (place after count : ℕ) → Passed n s place (before after) count
+    → (to : ℕ) → Some to ≡ after_together n s place after → (to ≤ n) × Passed n s (place + 16) (before to) (count + 8)
+passed_together n s place after count h to e =
+    let t = taken_to n s place after to e in
+    (omega (arith, t.0.within_page, t.1), rw t.1 (passed_taken n s place after t.0 count h))
 
--- Laid one by one: the entry whose value stands at `from + 2 * i`
-module _ (n : ℕ) (s page : List ℕ) (from after : ℕ) (m : n ≤ 65536) (o : 1 ≤ from) (t : Taken n s (from - 1) after) (i next : ℕ) (h : i < 8)
-    (e : next ≡ after + i + jumps_of s (from - 1) i) where
+-- Laid one by one: the entry at `from.place + 2 * i`
+module _ (n : ℕ) (s page : List ℕ) (from : Reached) (t : Taken n s from.place from.next) (i next : ℕ) (h : i < 8)
+    (e : next ≡ from.next + i + jumps_of s from.place i) where
   abbrev on : ℕ
-  on = from + 2 * i - 1
-
-  here : from - 1 + 2 * i ≡ on
-  here = omega arith
+  on = from.place + 2 * i
 
   pub lands_in : next + get_or s on 0 < n
-  lands_in =
-      let q : get_or s (from - 1 + 2 * i) 0 ≡ get_or s on 0 = ap (λ (x : ℕ). get_or s x 0) here in
-      omega (arith, each_in n s (from - 1) after m t i h)
+  lands_in = omega (arith, each_in n s from.place from.next t i h)
 
-  pub lands_next : next + get_or s on 0 + 1 ≡ after + (i + 1) + jumps_of s (from - 1) (i + 1)
-  lands_next =
-      let q : get_or s (from - 1 + 2 * i) 0 ≡ get_or s on 0 = ap (λ (x : ℕ). get_or s x 0) here in
-      omega (arith, each_next n s (from - 1) after m t i h)
+  pub lands_next : next + get_or s on 0 + 1 ≡ from.next + (i + 1) + jumps_of s from.place (i + 1)
+  lands_next = omega (arith, each_next n s from.place from.next t i h)
 
-  entered : Entered n s on (stream n (before next) code (drop on s)) (pos (next + get_or s on 0)) (get_or s (from + 2 * i) 0) (on + 2)
-  entered =
-      let v : on + 1 ≡ from + 2 * i = omega arith in
-      let was : ℕ = from - 1 + 2 * i in
-      subst (λ (y : ℕ). Entered n s on (stream n (before next) code (drop on s)) (pos (next + get_or s on 0)) (get_or s y 0) (on + 2)) v
-      (subst (λ (x : ℕ). Entered n s x (stream n (before next) code (drop x s)) (pos (next + get_or s x 0)) (get_or s (x + 1) 0) (x + 2)) here
-      (subst (λ (a : ℕ). Entered n s was (stream n (before a) code (drop was s)) (pos (a + get_or s was 0)) (get_or s (was + 1) 0) (was + 2)) (sym e)
-      (each_entered n s (from - 1) after m t i h)))
-
-  pub lays_each : (page₁ : List ℕ) → LaysTo n s page from after page₁ (from + 2 * i) next
-      → LaysTo n s page from after (set page₁ (next + get_or s on 0) (get_or s (from + 2 * i) 0)) (from + 2 * (i + 1)) (next + get_or s on 0 + 1)
+  pub lays_each : (page₁ : List ℕ) → LaysTo n s page from page₁ on next
+      → LaysTo n s page from (set page₁ (next + get_or s on 0) (get_or s (on + 1) 0)) (from.place + 2 * (i + 1)) (next + get_or s on 0 + 1)
   lays_each page₁ w =
-      lays_more n s page from after page₁ (record { place = from + 2 * i; next = next }) w m (next + get_or s on 0) (get_or s (from + 2 * i) 0) (on + 2)
-      (from + 2 * (i + 1)) entered lands_in (omega arith) (omega arith)
+      let q : on + 2 ≡ from.place + 2 * (i + 1) = omega arith in
+      subst (λ (x : ℕ). LaysTo n s page from (set page₁ (next + get_or s on 0) (get_or s (on + 1) 0)) x (next + get_or s on 0 + 1)) q
+      (lays_more n s page from page₁ on next w (next + get_or s on 0) (get_or s (on + 1) 0) (on + 2)
+      (subst (λ (a : ℕ). Entered n s on (stream n (before a) code (drop on s)) (pos (a + get_or s on 0)) (get_or s (on + 1) 0) (on + 2)) (sym e)
+      (each_entered n s from.place from.next t i h)))

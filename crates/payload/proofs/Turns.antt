@@ -16,18 +16,16 @@ use Rattle.layout.specs.Sizes.{room}
 use Rattle.payload.specs.Entries.{Stream, done, unsound, code, in_page, stream, start, payload_stream, whole, sound}
 use Rattle.payload.specs.Entries.{entries, last, used, breaks_at, put, applied}
 use Rattle.payload.specs.Positions.{before, before_next}
-use Rattle.payload.specs.Steps.{Follows, Entered, Laid, Lays, code_at, Over}
+use Rattle.payload.specs.Steps.{Follows, Entered, Laid, LaysTo, Lays, code_at, Over}
 use Rattle.payload.specs.StepLaws.{SoundAs, UnsoundAt}
 use Rattle.payload.specs.declared.Step.{Step}
-use Rattle.payload.specs.declared.Reached.{Reached}
+use Rattle.payload.specs.declared.reached.Reached.{Reached}
 use Rattle.payload.proofs.Reading.{at_end, cut}
 
--- A step's answer from a position that the code found, once a `match` has told which it is.
-pub told : (n : ℕ) (payload : List ℕ) (place : ℕ) (p p' : ℤ) (r r' : Step) → p' ≡ p → r ≡ r'
-    → Follows n payload place (stream n p' code (drop place payload)) r → Follows n payload place (stream n p code (drop place payload)) r'
-told n payload place p p' r r' e f s =
-    subst (λ (z : ℤ). Follows n payload place (stream n z code (drop place payload)) r') e
-    (subst (Follows n payload place (stream n p' code (drop place payload))) f s)
+-- A step's answer from a position that the code found.
+pub told : (n : ℕ) (payload : List ℕ) (place : ℕ) (p p' : ℤ) (r : Step) → p' ≡ p → Follows n payload place (stream n p' code (drop place payload)) r
+    → Follows n payload place (stream n p code (drop place payload)) r
+told n payload place p p' r e s = subst (λ (z : ℤ). Follows n payload place (stream n z code (drop place payload)) r) e s
 
 -- A place in the page is a signed 32-bit number, and an index.
 pub place_is : (n : ℕ) (q : ℤ) → in_page n q ≡ true → q ≡ pos (nat_abs q)
@@ -117,6 +115,12 @@ module _ (n : ℕ) (payload : List ℕ) (place : ℕ) (p : ℤ) (count : ℕ) (h
         at = rw (le-leb (length payload) room l) k;
       }
 
+-- at a place that was told by equations
+pub passed_at : (n : ℕ) (payload : List ℕ) (place next count : ℕ) → Passed n payload place (before next) count
+    → (r : Reached) → r.place ≡ place → r.next ≡ next → Passed n payload r.place (before r.next) count
+passed_at n payload place next count h r e f =
+    subst (λ (x : ℕ). Passed n payload x (before r.next) count) (sym e) (subst (λ (x : ℕ). Passed n payload place (before x) count) (sym f) h)
+
 pub unsound_empty : (n : ℕ) (payload : List ℕ) → length payload ≡ 0 → UnsoundAt n payload 0
 unfolding sound breaks_at used stream
 unsound_empty n [] e = record { is = refl; at = refl }
@@ -142,48 +146,52 @@ laid_more n page₀ payload page place p h at v to m =
     (record { on = m.within; same = length-set page at v ∙ h.same; still = h.still ∙ ap (λ (s : Stream). applied page s) m.is })
 
 -- what its loops lay: nothing yet, an entry more, and one after the other
-pub lays_none : (n : ℕ) (payload page : List ℕ) (place next : ℕ) → next ≤ 65536 → Lays n payload page place next page (record { place = place; next = next })
-lays_none n payload page place next h = record { on = omega arith; same = refl; few = h; still = λ e. refl; laid = λ page₀ w. w }
+pub lays_none : (n : ℕ) (payload page : List ℕ) (from : Reached) → from.place ≤ length payload
+    → LaysTo n payload page from page from.place from.next
+lays_none n payload page from h = record { on = omega arith; within = h; same = refl; still = λ e. refl; laid = λ page₀ w. w }
 
-pub lays_more : (n : ℕ) (payload page : List ℕ) (from after : ℕ) (page₁ : List ℕ) (r : Reached) → Lays n payload page from after page₁ r → n ≤ 65536
-    → (at v to place : ℕ) → Entered n payload (r.place - 1) (stream n (before r.next) code (drop (r.place - 1) payload)) (pos at) v to
-    → at < n → to ≡ place - 1 → r.place < place → Lays n payload page from after (set page₁ at v) (record { place = place; next = at + 1 })
-lays_more n payload page from after page₁ r h m at v to place e k f g = record {
-  on = omega (arith, h.on);
+pub lays_more : (n : ℕ) (payload page : List ℕ) (from : Reached) (page₁ : List ℕ) (place next : ℕ)
+    → LaysTo n payload page from page₁ place next → (at v to : ℕ) → Entered n payload place (stream n (before next) code (drop place payload)) (pos at) v to
+    → LaysTo n payload page from (set page₁ at v) to (at + 1)
+lays_more n payload page from page₁ place next h at v to e = record {
+  on = omega (arith, h.on, e.on);
+  within = e.within;
   same = length-set page₁ at v ∙ h.same;
-  few = omega arith;
-  still = λ q. absurd (omega (arith, h.on, q));
-  laid = λ page₀ w.
-      subst (λ (x : ℕ). Laid n page₀ payload (set page₁ at v) x (before (at + 1))) f
-      (laid_more n page₀ payload page₁ (r.place - 1) (before r.next) (h.laid page₀ w) at v to e);
+  still = λ q. absurd (omega (arith, h.on, e.on, q));
+  laid = λ page₀ w. laid_more n page₀ payload page₁ place (before next) (h.laid page₀ w) at v to e;
 }
 
-pub lays_then : (n : ℕ) (payload page : List ℕ) (place next : ℕ) (page₁ : List ℕ) (s : Reached) (page₂ : List ℕ) (r : Reached)
-    → Lays n payload page place next page₁ s → Lays n payload page₁ s.place s.next page₂ r → Lays n payload page place next page₂ r
-lays_then n payload page place next page₁ s page₂ r f g = record {
+pub lays_then : (n : ℕ) (payload page : List ℕ) (from : Reached) (page₁ : List ℕ) (s : Reached) (page₂ : List ℕ) (place next : ℕ)
+    → Lays n payload page from page₁ s → LaysTo n payload page₁ s page₂ place next → LaysTo n payload page from page₂ place next
+lays_then n payload page from page₁ s page₂ place next f g = record {
   on = omega (arith, f.on, g.on);
+  within = g.within;
   same = g.same ∙ f.same;
-  few = g.few;
   still = λ e. g.still (omega (arith, f.on, g.on, e)) ∙ f.still (omega (arith, f.on, g.on, e));
   laid = λ page₀ w. g.laid page₀ (f.laid page₀ w);
 }
 
+pub lays_at : (n : ℕ) (payload page : List ℕ) (from : Reached) (page₁ : List ℕ) (place next : ℕ)
+    → LaysTo n payload page from page₁ place next → (r : Reached) → r.place ≡ place → r.next ≡ next → Lays n payload page from page₁ r
+lays_at n payload page from page₁ place next h r e f =
+    subst (λ (x : ℕ). LaysTo n payload page from page₁ x r.next) (sym e) (subst (LaysTo n payload page from page₁ place) (sym f) h)
+
 -- where the stream lays nothing more: at an unsound entry, and with one byte left or none
 module _ (n : ℕ) (payload : List ℕ) (r : Reached) where
-  pub over_broken : stream n (before r.next) code (drop (r.place - 1) payload) ≡ unsound → Over n payload r
+  pub over_broken : stream n (before r.next) code (drop r.place payload) ≡ unsound → Over n payload r
   unfolding applied
   over_broken e page = ap (λ (s : Stream). applied page s) e
 
-  over_done : stream n (before r.next) code (drop (r.place - 1) payload) ≡ done → Over n payload r
+  over_done : stream n (before r.next) code (drop r.place payload) ≡ done → Over n payload r
   unfolding applied
   over_done e page = ap (λ (s : Stream). applied page s) e
 
-  pub over_few : length payload ≤ r.place → Over n payload r
-  over_few h = go (ltb (r.place - 1) (length payload)) refl
+  pub over_few : length payload ≤ r.place + 1 → Over n payload r
+  over_few h = go (ltb r.place (length payload)) refl
     where
-      go : (t : Bool) → ltb (r.place - 1) (length payload) ≡ t → Over n payload r
-      go true e = over_broken (cut payload (r.place - 1) n (before r.next) (ltb-true (r.place - 1) (length payload) e) (omega arith))
-      go false e = over_done (at_end payload (r.place - 1) n (before r.next) (ltb-false (r.place - 1) (length payload) e))
+      go : (t : Bool) → ltb r.place (length payload) ≡ t → Over n payload r
+      go true e = over_broken (cut payload r.place n (before r.next) (ltb-true r.place (length payload) e) (omega arith))
+      go false e = over_done (at_end payload r.place n (before r.next) (ltb-false r.place (length payload) e))
 
 -- neither loop moved
 pub over_both : (n : ℕ) (payload : List ℕ) (s r : Reached) → r.place ≡ s.place → r.next ≡ s.next
@@ -193,11 +201,11 @@ over_both n payload s r e f g h = go (eqb (code_at payload r) 255) refl
     go : (t : Bool) → eqb (code_at payload r) 255 ≡ t → Over n payload r
     go true q = h (eqb-true (code_at payload r) 255 q)
     go false q = λ page.
-        ap (λ (x : ℕ). applied page (stream n (before x) code (drop (r.place - 1) payload))) f
-        ∙ ap (λ (x : ℕ). applied page (stream n (before s.next) code (drop (x - 1) payload))) e
-        ∙ g (λ z. eqb-false (code_at payload r) 255 q (ap (λ (x : ℕ). get_or payload (x - 1) 0) e ∙ z)) page
+        ap (λ (x : ℕ). applied page (stream n (before x) code (drop r.place payload))) f
+        ∙ ap (λ (x : ℕ). applied page (stream n (before s.next) code (drop x payload))) e
+        ∙ g (λ z. eqb-false (code_at payload r) 255 q (ap (λ (x : ℕ). get_or payload x 0) e ∙ z)) page
 
 -- what the overlay has made of the page there
-pub laid_over : (n : ℕ) (page₀ payload page : List ℕ) (r : Reached) → Laid n page₀ payload page (r.place - 1) (before r.next) → Over n payload r
+pub laid_over : (n : ℕ) (page₀ payload page : List ℕ) (r : Reached) → Laid n page₀ payload page r.place (before r.next) → Over n payload r
     → page ≡ applied page₀ (payload_stream n payload)
 laid_over n page₀ payload page r h o = sym (h.still ∙ o page)

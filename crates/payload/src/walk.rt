@@ -1,12 +1,12 @@
 // The check of a payload's entries. Long ones are taken as they come and short ones together, as long as they can be.
-ghost use Rattle.std.specs.Prelude.{◌≡◌, ◌+◌, ◌*◌, ◌≤◌, length};
+ghost use Rattle.std.specs.Prelude.{◌≡◌, ◌+◌, ◌*◌, ◌≤◌, length, IfSome};
 ghost use Rattle.layout.specs.Sizes.{room};
 ghost use Rattle.payload.specs.Entries.{short_entry, long_entry};
 ghost use Rattle.payload.specs.Steps.{farthest, reach, together, long_among, jumps_of, after_together, Passes, checked_numbers, check_numbers};
-ghost use Rattle.payload.specs.Positions.{before};
 
 use crate::entry::{long_jump, step};
-use crate::{Checked, Code, Step};
+use crate::reached::Reached;
+use crate::{Code, Sound, Step, Unsound};
 
 // How many short entries are taken at a go, and the bytes that they take.
 pub(crate) const TOGETHER: usize = 8;
@@ -19,10 +19,8 @@ fn long_among(payload: &[u8], place: usize) -> bool
     ensures { result ≡ long_among payload.now place together }
 {
     let mut seen = false;
-    let mut i = 0;
-    while i < TOGETHER {
-        seen = seen | (payload[place + Code::SHORT_WIDTH * i] == Code::LONG);
-        i += 1;
+    for i in 0..TOGETHER {
+        seen |= payload[place + Code::SHORT_WIDTH * i] == Code::LONG;
     }
     seen
 }
@@ -32,107 +30,89 @@ fn jumps_of(payload: &[u8], place: usize) -> u16
     requires { place + short_entry * together ≤ length payload.now }
     ensures { result ≡ jumps_of payload.now place together }
 {
-    let mut sum: u16 = 0;
-    let mut i = 0;
-    while i < TOGETHER {
-        sum += payload[place + Code::SHORT_WIDTH * i] as u16;
-        i += 1;
+    let mut sum = 0;
+    for i in 0..TOGETHER {
+        sum += u16::from(payload[place + Code::SHORT_WIDTH * i]);
     }
     sum
 }
 
-// The place after the last of the next short entries together, or 0 where they are cut off, not all short, or leave the page. Positions
+// The place after the last of the next short entries together, or none where they are cut off, not all short, or leave the page. Positions
 // only grow, so that all are in the page if the last is. The first code is tested by itself: where long codes are many it mostly tells.
-pub(crate) fn after_together(payload: &[u8], place: usize, after: usize, end: usize) -> usize
-    requires { (place ≤ length payload.now) × (after ≤ farthest) }
-    ensures { result ≡ after_together end payload.now place after }
+pub(crate) fn after_together(payload: &[u8], from: Reached, end: usize) -> Option<usize>
+    requires { from.place ≤ length payload.now }
+    ensures { result ≡ after_together end payload.now from.place from.next }
 {
-    if payload.len() - place < TOGETHER_WIDTH {
-        return 0;
+    if payload.len() - from.place < TOGETHER_WIDTH {
+        return None;
     }
-    if payload[place] == Code::LONG {
-        return 0;
+    if payload[from.place] == Code::LONG {
+        return None;
     }
-    if long_among(payload, place) {
-        return 0;
+    if long_among(payload, from.place) {
+        return None;
     }
-    let to = after + TOGETHER + (jumps_of(payload, place) as usize);
-    if end < to {
-        return 0;
+    let next = from.next + TOGETHER + usize::from(jumps_of(payload, from.place));
+    if end < next {
+        return None;
     }
-    to
+    Some(next)
 }
 
-// The position before a place: -1 before the first.
-fn position_before(place: usize) -> i32
-    requires { place ≤ farthest }
-    ensures { result ≡ before place }
+// The place after the position of the next entry, if it is sound and has a long code: in payloads of many long codes quicker than the step.
+fn after_long(payload: &[u8], from: Reached, end: usize) -> Option<usize>
+    requires { from.place ≤ length payload.now }
+    ensures { IfSome result (λ next. Passes end payload.now from.place from.next long_entry next) }
 {
-    (place as i32) - 1
-}
-
-// The place after the position of the sound entry at `place` that has a long code, or 0 if there is none: in payloads of many long codes
-// quicker than the step.
-fn after_long(payload: &[u8], place: usize, after: usize, end: usize) -> usize
-    requires { (place ≤ length payload.now) × (after ≤ farthest) × (end ≤ farthest) }
-    ensures { (result ≡ 0 → ⊥) → Passes end payload.now place after long_entry result }
-{
-    if payload.len() - place < Code::LONG_WIDTH {
-        return 0;
+    if payload.len() - from.place < Code::LONG_WIDTH {
+        return None;
     }
-    if payload[place] != Code::LONG {
-        return 0;
+    if payload[from.place] != Code::LONG {
+        return None;
     }
-    let at = after + long_jump(payload, place);
+    let at = from.next + usize::from(long_jump(payload, from.place)?);
     if end <= at {
-        return 0;
+        return None;
     }
-    at + 1
+    Some(at + 1)
 }
 
 // The check of a payload that has a right length. Long entries are taken as they come and short ones together, as long as they can be; the
 // step takes each other one, and finds the first that is unsound.
-pub(crate) fn check_entries(payload: &[u8], size: usize) -> Checked
+pub(crate) fn check_entries(payload: &[u8], size: usize) -> Result<Sound, Unsound>
     requires { (1 ≤ length payload.now) × (length payload.now ≤ room) }
     ensures { checked_numbers result ≡ check_numbers (reach size) payload.now }
 {
-    let end = span::shorter(size, Code::REACH);
-    let mut place = 0;
-    let mut after = 0;
+    let end = size.min(Code::REACH);
+    let mut reached = Reached::new(0, 0);
     let mut entries = 0;
     loop {
-        let far = after_long(payload, place, after, end);
-        if far != 0 {
-            after = far;
-            place += Code::LONG_WIDTH;
+        if let Some(next) = after_long(payload, reached, end) {
+            reached = Reached::new(reached.place + Code::LONG_WIDTH, next);
             entries += 1;
             continue;
         }
-        let to = after_together(payload, place, after, end);
-        if to != 0 {
-            after = to;
-            place += TOGETHER_WIDTH;
+        if let Some(next) = after_together(payload, reached, end) {
+            reached = Reached::new(reached.place + TOGETHER_WIDTH, next);
             entries += TOGETHER;
             continue;
         }
-        let last = position_before(after);
-        match step(payload, place, last, size) {
+        let last = reached.last();
+        match step(payload, reached.place, last, size) {
             Step::End => {
-                return Checked::Sound {
-                    entries: entries,
-                    last: last,
-                };
+                return Ok(Sound { entries, last });
             }
             Step::Broken => {
-                return Checked::Unsound { offset: place };
+                return Err(Unsound {
+                    offset: reached.place,
+                });
             }
             Step::Entry {
-                position: at,
+                position,
                 value: _,
                 next,
             } => {
-                after = (at as usize) + 1;
-                place = next;
+                reached = Reached::new(next, (position as usize) + 1);
                 entries += 1;
             }
         }

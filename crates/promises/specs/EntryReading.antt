@@ -2,7 +2,7 @@
 --
 -- `given`, `finds` and `standing` are what a reader gave in its first k steps, what its next one finds, and where it stands (`Walk` of
 -- `entry_reader`, whose `held` and `told` tie them to the struct that `entries` makes and `next` moves).
-use Rattle.std.specs.Prelude.{ℕ, ◌≤◌, ◌≡◌, refl, Bool, cond, ◌⊎◌, ℤ}
+use Rattle.std.specs.Prelude.{ℕ, ◌≤◌, ◌≡◌, refl, Bool, cond, ◌⊎◌, ℤ, Result, Ok}
 use native.Mathlib.Omega.{arith}
 use Rattle.std.proofs.Math.Path.{sym, ap}
 use Rattle.std.proofs.Common.{◌∙◌}
@@ -19,10 +19,11 @@ use Rattle.entry_reader.specs.Reads.{reads, writes, sound_shown}
 use Rattle.entry_reader.specs.declared.Found.TheVariants.{End, Stopped}
 use Rattle.stream.specs.Calls.{page_of, AppliedNumbers, applied_numbers, apply_rows, Apply}
 use Rattle.stream.specs.Laws.{pages_fit_is, apply_number, apply_done_is, apply_not}
-use Rattle.stream.specs.declared.Applied.{Applied}
-use Rattle.stream.specs.declared.Applied.TheVariants.{Done, Refused}
+use Rattle.payload.specs.declared.Sound.{Sound}
+use Rattle.layout.specs.declared.RefusedAt.{RefusedAt}
+use Rattle.layout.specs.Numbers.{refused_at}
 
-module _ (base payload page : List ℕ) (answer : Applied) (after : List ℕ) (call : Apply page_size base payload page answer after)
+module _ (base payload page : List ℕ) (answer : Result Sound RefusedAt) (after : List ℕ) (call : Apply page_size base payload page answer after)
     (base_fits : (length base ≡ 0) ⊎ (length base ≡ page_size)) (page_fits : length page ≡ page_size) where
   -- Apply is done: the reader gives as many entries as Apply counts, written over the base they are the page, and then comes the end
   pub record Joined (count k : ℕ) : Type 0 where
@@ -58,10 +59,10 @@ module _ (base payload page : List ℕ) (answer : Applied) (after : List ℕ) (c
       go true e = absurd (omega (arith, z, told true e))
       go false e = e
 
-  pub joined : (count : ℕ) (last : ℤ) → answer ≡ Done count last → (k : ℕ) → count ≤ k → Joined count k
+  pub joined : (count : ℕ) (last : ℤ) → answer ≡ Ok (record { entries = count; last = last }) → (k : ℕ) → count ≤ k → Joined count k
   unfolding ending
   joined count last is k l =
-      let s : sound page_size payload ≡ true = is_sound (ap (λ (a : Applied). (applied_numbers a).number) is) in
+      let s : sound page_size payload ≡ true = is_sound (ap (λ (a : Result Sound RefusedAt). (applied_numbers a).number) is) in
       let d = apply_done_is page_size base payload page (number true s) in
       let c : count ≡ entries (payload_stream page_size payload) = ap (λ (x : AppliedNumbers). x.entries) (sym (ap applied_numbers is)
       ∙ call.numbers ∙ d.0) in
@@ -75,10 +76,10 @@ module _ (base payload page : List ℕ) (answer : Applied) (after : List ℕ) (c
         stands_at = (reads page_size payload).at k h ∙ rw s;
       }
 
-  pub stops_there : (at : ℕ) → answer ≡ Refused Payload at → (k : ℕ) → length (shown page_size payload) ≤ k → StopsThere at k
+  pub stops_there : (at : ℕ) → answer ≡ refused_at Payload at → (k : ℕ) → length (shown page_size payload) ≤ k → StopsThere at k
   unfolding ending
   stops_there at is k h =
-      let s : sound page_size payload ≡ false = not_sound (ap (λ (a : Applied). (applied_numbers a).number) is) in
+      let s : sound page_size payload ≡ false = not_sound (ap (λ (a : Result Sound RefusedAt). (applied_numbers a).number) is) in
       let o : at ≡ breaks_at page_size payload = ap (λ (x : AppliedNumbers). x.offset) (sym (ap applied_numbers is)
       ∙ call.numbers ∙ (apply_not page_size base payload page 6 (number false s)).0) in
       record {

@@ -1,43 +1,37 @@
 -- What the public functions below the calls owe: each contract determines the result. Of those whose contract is an equation with the
 -- result alone on one side there is nothing to show; these are the others.
-use Rattle.std.specs.Prelude.{ℕ, ◌≡◌, refl, List}
+use Rattle.std.specs.Prelude.{ℕ, ◌≡◌, refl, List, Result, Ok, Err, ⊤}
 use Rattle.std.proofs.Common.{arith, sym, ap, ◌∙◌}
-use Rattle.layout.specs.Numbers.{kind_number, fault_number}
-use Rattle.layout.specs.NumberLaws.{kind_one, refusal_one, refusal_some}
+use Rattle.layout.specs.Numbers.{kind_number, answer_number}
+use Rattle.layout.specs.NumberLaws.{kind_one, refusal_one, refusal_some, answer_one}
 use Rattle.layout.specs.declared.Kind.{Kind}
-use Rattle.layout.specs.declared.Fault.{Fault}
-use Rattle.layout.specs.declared.Fault.TheVariants.{Nothing, Found}
+use Rattle.layout.specs.declared.Refusal.{Refusal}
+use Rattle.layout.specs.declared.RefusedAt.{RefusedAt}
 use Rattle.slots.specs.Slots.{SlotNumbers, slot_numbers, state_numbers}
 use Rattle.slots.specs.declared.SlotState.{SlotState}
-use Rattle.slots.specs.declared.SlotState.TheVariants.{Empty, Patch, Full, Unsound}
+use Rattle.slots.specs.declared.SlotState.TheVariants.{Empty, Patch, Full}
 use Rattle.payload.specs.Entries.{Stream}
 use Rattle.payload.specs.Steps.{Follows, checked_numbers, check_numbers}
 use Rattle.payload.specs.StepLaws.{step_one, checked_one}
 use Rattle.payload.specs.declared.Step.{Step}
-use Rattle.payload.specs.declared.Checked.{Checked}
+use Rattle.payload.specs.declared.Sound.{Sound}
+use Rattle.payload.specs.declared.Unsound.{Unsound}
 use Rattle.blockmap.specs.Pack.{kind_of}
 use Rattle.writer.specs.Steps.{Differs}
 use Rattle.writer.specs.declared.Difference.{Difference}
 use Rattle.stream.specs.Calls.{kind_for}
 use Rattle.stream.specs.Steps.{Applies}
 use Rattle.stream.specs.Only.{applied_one}
-use Rattle.stream.specs.declared.Applied.{Applied}
 use Rattle.store.specs.Open.{FrameNumbers, opened_numbers}
 use Rattle.store.specs.OpenLaws.{opened_one}
-use Rattle.store.specs.declared.Opened.{Opened}
+use Rattle.store.specs.declared.frame.Frame.{Frame}
 
--- `headers::headers_fault`
-pub one_fault : (n : ℕ) (a b : Fault) → fault_number a ≡ n → fault_number b ≡ n → a ≡ b
-one_fault n a b x y = fault_one a b (x ∙ sym y)
-  where
-    fault_one : (a b : Fault) → fault_number a ≡ fault_number b → a ≡ b
-    fault_one Nothing Nothing e = refl
-    fault_one Nothing (Found r) e = absurd (refusal_some r (sym e))
-    fault_one (Found r) Nothing e = absurd (refusal_some r e)
-    fault_one (Found q) (Found r) e = ap Found (refusal_one q r e)
+-- `headers::check_headers`
+pub one_fault : (n : ℕ) (a b : Result ⊤ Refusal) → answer_number a ≡ n → answer_number b ≡ n → a ≡ b
+one_fault n a b x y = answer_one a b (x ∙ sym y)
 
 -- `store::frame::open`
-pub one_frame : (k : FrameNumbers) (a b : Opened) → opened_numbers a ≡ k → opened_numbers b ≡ k → a ≡ b
+pub one_frame : (k : FrameNumbers) (a b : Result Frame Refusal) → opened_numbers a ≡ k → opened_numbers b ≡ k → a ≡ b
 one_frame k a b x y = opened_one a b (x ∙ sym y)
 
 -- `stream::kind_for`
@@ -49,26 +43,27 @@ pub one_kind_of : (v : ℕ) (a b : Kind) → kind_number a ≡ kind_of v → kin
 one_kind_of v a b x y = kind_one a b (x ∙ sym y)
 
 -- `slots::slot_state`
-pub one_state : (slot : List ℕ) (a b : SlotState) → state_numbers a ≡ slot_numbers slot → state_numbers b ≡ slot_numbers slot → a ≡ b
+pub one_state : (slot : List ℕ) (a b : Result SlotState Refusal) → state_numbers a ≡ slot_numbers slot → state_numbers b ≡ slot_numbers slot
+    → a ≡ b
 one_state slot a b x y = state_one a b (x ∙ sym y)
   where
-    state_one : (a b : SlotState) → state_numbers a ≡ state_numbers b → a ≡ b
-    state_one Empty Empty e = refl
-    state_one Empty (Patch n) e = absurd (omega (arith, ap (λ (x : SlotNumbers). x.kind) e))
-    state_one Empty Full e = absurd (omega (arith, ap (λ (x : SlotNumbers). x.kind) e))
-    state_one Empty Unsound e = absurd (omega (arith, ap (λ (x : SlotNumbers). x.number) e))
-    state_one (Patch m) Empty e = absurd (omega (arith, ap (λ (x : SlotNumbers). x.kind) e))
-    state_one (Patch m) (Patch n) e = ap Patch (ap (λ (x : SlotNumbers). x.length) e)
-    state_one (Patch m) Full e = absurd (omega (arith, ap (λ (x : SlotNumbers). x.kind) e))
-    state_one (Patch m) Unsound e = absurd (omega (arith, ap (λ (x : SlotNumbers). x.number) e))
-    state_one Full Empty e = absurd (omega (arith, ap (λ (x : SlotNumbers). x.kind) e))
-    state_one Full (Patch n) e = absurd (omega (arith, ap (λ (x : SlotNumbers). x.kind) e))
-    state_one Full Full e = refl
-    state_one Full Unsound e = absurd (omega (arith, ap (λ (x : SlotNumbers). x.number) e))
-    state_one Unsound Empty e = absurd (omega (arith, ap (λ (x : SlotNumbers). x.number) e))
-    state_one Unsound (Patch n) e = absurd (omega (arith, ap (λ (x : SlotNumbers). x.number) e))
-    state_one Unsound Full e = absurd (omega (arith, ap (λ (x : SlotNumbers). x.number) e))
-    state_one Unsound Unsound e = refl
+    state_one : (a b : Result SlotState Refusal) → state_numbers a ≡ state_numbers b → a ≡ b
+    state_one (Ok Empty) (Ok Empty) e = refl
+    state_one (Ok Empty) (Ok (Patch n)) e = absurd (omega (arith, ap (λ (x : SlotNumbers). x.kind) e))
+    state_one (Ok Empty) (Ok Full) e = absurd (omega (arith, ap (λ (x : SlotNumbers). x.kind) e))
+    state_one (Ok (Patch m)) (Ok Empty) e = absurd (omega (arith, ap (λ (x : SlotNumbers). x.kind) e))
+    state_one (Ok (Patch m)) (Ok (Patch n)) e = ap (λ (l : ℕ). Ok (Patch l)) (ap (λ (x : SlotNumbers). x.length) e)
+    state_one (Ok (Patch m)) (Ok Full) e = absurd (omega (arith, ap (λ (x : SlotNumbers). x.kind) e))
+    state_one (Ok Full) (Ok Empty) e = absurd (omega (arith, ap (λ (x : SlotNumbers). x.kind) e))
+    state_one (Ok Full) (Ok (Patch n)) e = absurd (omega (arith, ap (λ (x : SlotNumbers). x.kind) e))
+    state_one (Ok Full) (Ok Full) e = refl
+    state_one (Ok Empty) (Err r) e = absurd (refusal_some r (sym (ap (λ (x : SlotNumbers). x.number) e)))
+    state_one (Ok (Patch n)) (Err r) e = absurd (refusal_some r (sym (ap (λ (x : SlotNumbers). x.number) e)))
+    state_one (Ok Full) (Err r) e = absurd (refusal_some r (sym (ap (λ (x : SlotNumbers). x.number) e)))
+    state_one (Err r) (Ok Empty) e = absurd (refusal_some r (ap (λ (x : SlotNumbers). x.number) e))
+    state_one (Err r) (Ok (Patch n)) e = absurd (refusal_some r (ap (λ (x : SlotNumbers). x.number) e))
+    state_one (Err r) (Ok Full) e = absurd (refusal_some r (ap (λ (x : SlotNumbers). x.number) e))
+    state_one (Err r) (Err q) e = ap Err (refusal_one r q (ap (λ (x : SlotNumbers). x.number) e))
 
 -- `payload::entry::step`
 pub one_step : (n : ℕ) (payload : List ℕ) (place : ℕ) (s : Stream) (a b : Step)
@@ -76,7 +71,7 @@ pub one_step : (n : ℕ) (payload : List ℕ) (place : ℕ) (s : Stream) (a b : 
 one_step = step_one
 
 -- `payload::check`
-pub one_check : (n : ℕ) (payload : List ℕ) (a b : Checked)
+pub one_check : (n : ℕ) (payload : List ℕ) (a b : Result Sound Unsound)
     → checked_numbers a ≡ check_numbers n payload → checked_numbers b ≡ check_numbers n payload → a ≡ b
 one_check n payload a b x y = checked_one a b (x ∙ sym y)
 
@@ -93,6 +88,6 @@ one_stream base page room c d p q x y = (
 )
 
 -- `stream::apply_to`
-pub one_apply_to : (n : ℕ) (base payload page : List ℕ) (a b : Applied) (p q : List ℕ) → Applies n base payload page a p
+pub one_apply_to : (n : ℕ) (base payload page : List ℕ) (a b : Result Sound RefusedAt) (p q : List ℕ) → Applies n base payload page a p
     → Applies n base payload page b q → (a ≡ b) × (p ≡ q)
 one_apply_to n base payload page a b p q x y = (applied_one a b (x.numbers ∙ sym y.numbers), x.bytes ∙ sym y.bytes)

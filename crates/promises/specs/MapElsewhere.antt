@@ -2,7 +2,7 @@
 -- map, and then lends it to every write and cut. So it is stated here too: from any areas that Build accepts, with the map that it left, any
 -- run of writes and cuts that are lent the map ends with areas that Build accepts and with the map that it makes of them, and reads by it are
 -- Read's. A write carries out any decision, whoever made it.
-use Rattle.std.specs.Prelude.{ℕ, ◌<◌, ◌≡◌, refl, Bool, true, false, List, [], ◌∷◌, eqb, length}
+use Rattle.std.specs.Prelude.{ℕ, ◌<◌, ◌≡◌, refl, Bool, true, false, List, [], ◌∷◌, eqb, length, Ok}
 use Rattle.std.proofs.Common.{sym, ap, ◌∙◌, arith, le-leb, eqb-true}
 use Rattle.std.proofs.Math.Decide.{dec_lt}
 use Rattle.std.proofs.lemmas.Bool.{eqb-false}
@@ -17,7 +17,6 @@ use Rattle.building.specs.Build.{place_rows, block_fault, BuildOutcome, build_do
 use Rattle.building.specs.BuildLaws.{no_strays, block_empty, build_zero, build_done_is}
 use Rattle.building.specs.BuildWords.{SoundFrame, PairsOf}
 use Rattle.building.specs.BuildMeaningLaws.{frame_iff, pairs_are}
-use Rattle.building.specs.declared.Built.TheVariants.{Done}
 use Rattle.promises.specs.Words.{blocks, LengthsFit, HeadersFit}
 use Rattle.promises.specs.FrameLaws.{lengths_moved, headers_moved}
 use Rattle.promises.specs.StoreLaws.{both, StoredAt, carry_stored}
@@ -203,7 +202,7 @@ module _ (s : Areas) (map : List ℕ) (accepts : (build_into page_size s map).nu
   pub pairs_from_elsewhere : PairsOf (after_with page_size opened os).areas.patch (after_with page_size opened os).map
   pairs_from_elsewhere =
       pairs_are page_size (after_with page_size opened os).areas.patch (after_with page_size opened os).areas.full
-      (after_with page_size opened os).map Done (after_with page_size opened os).map
+      (after_with page_size opened os).map (Ok tt) (after_with page_size opened os).map
       (record {
         numbers = sym (ap (λ (o : BuildOutcome). record { number = o.number; block = o.block; offset = o.offset }) built_from_elsewhere);
         bytes = sym (ap (λ (o : BuildOutcome). o.map) built_from_elsewhere);

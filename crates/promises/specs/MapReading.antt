@@ -2,7 +2,7 @@
 --
 -- The map's first bytes are the built ones; its later bytes are any. The whole outcome is the same, number, kind, offset and page, for
 -- every block, base and page, also where both refuse.
-use Rattle.std.specs.Prelude.{ℕ, ◌≤◌, ◌<◌, ◌≡◌, refl, List, length, get_or}
+use Rattle.std.specs.Prelude.{ℕ, ◌≤◌, ◌<◌, ◌≡◌, refl, List, length, get_or, Result, Ok}
 use Rattle.std.proofs.Common.{arith, ap, ◌∙◌}
 use Rattle.std.proofs.Math.Decide.{dec_lt}
 use Rattle.std.proofs.Math.Path.{sym}
@@ -17,17 +17,17 @@ use Rattle.store.specs.Block.{slot_of}
 use Rattle.reading.specs.Read.{Read, ReadOutcome, read_outcome, read_numbers}
 use Rattle.reading.specs.Mapped.{ReadMapped, read_mapped_outcome}
 use Rattle.reading.specs.ReadLaws.{read_frame, read_block}
-use Rattle.reading.specs.declared.Reading.{Reading}
 use Rattle.building.specs.Build.{Build, BuildNumbers, BuildOutcome, build_outcome, built_map, block_fault}
 use Rattle.building.specs.BuildLaws.{build_zero, build_done_is, slot_sound}
 use Rattle.building.specs.BuildWords.{SoundFrame}
 use Rattle.building.specs.BuildMeaningLaws.{frame_iff}
 use Rattle.building.specs.MapLaws.{built_length, built_pair}
-use Rattle.building.specs.declared.Built.TheVariants.{Done}
 use Rattle.promises.specs.Words.{blocks, FrameFits, header}
 use Rattle.promises.specs.FrameLaws.{frame_number, FrameIs, frame_refused, frame_right, frame_is, frame_gives, frame_zero, frame_some}
 use Rattle.promises.specs.MapTables.{by_map_refused, by_map_not_below, pair_agrees}
 use Rattle.promises.specs.Answers.{reading_one}
+use Rattle.layout.specs.declared.RefusedAt.{RefusedAt}
+use Rattle.layout.specs.declared.Kind.{Kind}
 
 -- a map whose first bytes are these is the one with these laid over it
 pub laid_over : (map first : List ℕ) (n : ℕ) → length first ≡ n → part 0 n map ≡ first → (n ≤ length map) × (map ≡ splice map 0 first)
@@ -77,9 +77,9 @@ module _ (P : ℕ) (patch full old : List ℕ) (accepts : (build_outcome P patch
             ∙ sym (read_frame P patch full b base page k (frame_gives P patch full base page r) (frame_some P patch full base page r))
 
 -- The same of the calls: after a Build that is done, any map that begins as the one it left, and two reads of the same block
-pub reads_alike : (patch full old built map : List ℕ) → Build page_size patch full old Done built
+pub reads_alike : (patch full old built map : List ℕ) → Build page_size patch full old (Ok tt) built
     → part 0 (map_bytes (blocks patch)) map ≡ part 0 (map_bytes (blocks patch)) built
-    → (b : ℕ) (base page : List ℕ) (x y : Reading) (p q : List ℕ)
+    → (b : ℕ) (base page : List ℕ) (x y : Result Kind RefusedAt) (p q : List ℕ)
     → ReadMapped page_size patch full map b base page x p → Read page_size patch full b base page y q
     → (x ≡ y) × (p ≡ q)
 reads_alike patch full old built map call equal b base page x y p q by_map plain =

@@ -1,5 +1,5 @@
 -- Demand 3 with the map over any page size to 65,536, from demand 3 and what is proved of a buffer beside a state.
-use Rattle.std.specs.Prelude.{ℕ, ◌+◌, ◌≤◌, ◌<◌, ◌≡◌, true, false, ◌↔◌, ◌⊎◌, length, get_or}
+use Rattle.std.specs.Prelude.{ℕ, ◌+◌, ◌≤◌, ◌<◌, ◌≡◌, true, false, ◌↔◌, ◌⊎◌, length, get_or, Ok}
 use Rattle.std.proofs.Common.{arith, ◌∙◌, inl, inr, le-leb}
 use Rattle.std.proofs.Math.Decide.{dec_lt}
 use Rattle.std.proofs.Math.Path.{refl, sym, ap}
@@ -22,7 +22,6 @@ use Rattle.building.specs.Build.{BuildOutcome, built_map, build_done}
 use Rattle.building.specs.MapLaws.{built_length, laid_later, laid_length}
 use Rattle.building.specs.BuildWords.{PairsOf}
 use Rattle.building.specs.BuildMeaningLaws.{pairs_are}
-use Rattle.building.specs.declared.Built.TheVariants.{Done}
 use Rattle.promises.specs.Words.{blocks, PagesFit}
 use Rattle.promises.specs.Decisions.{Cell}
 use Rattle.promises.specs.Runs.{run, taking, last_such, NoRepeats, write}
@@ -163,7 +162,7 @@ module _ (P : ℕ) (x : Mapped) (h : FreshWith P x) where
 
       pub pairs_at_end : PairsOf (after_with P x os).areas.patch (after_with P x os).map
       pairs_at_end =
-          pairs_are P (after_with P x os).areas.patch (after_with P x os).areas.full x.map Done (after_with P x os).map
+          pairs_are P (after_with P x os).areas.patch (after_with P x os).areas.full x.map (Ok tt) (after_with P x os).map
           (record {
             numbers = sym (ap (λ (o : BuildOutcome). record { number = o.number; block = o.block; offset = o.offset }) built_at_end);
             bytes = sym (ap (λ (o : BuildOutcome). o.map) built_at_end);

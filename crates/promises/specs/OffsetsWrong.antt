@@ -19,15 +19,14 @@ use Rattle.payload.specs.Spelling.{Bytes}
 use Rattle.payload.specs.Breaking.{Unsound, unsound_iff}
 use Rattle.stream.specs.Calls.{Apply}
 use Rattle.stream.specs.Landing.{apply_seven}
-use Rattle.stream.specs.declared.Applied.TheVariants.{Refused as AppliedRefused}
 use Rattle.store.specs.Block.{slot_of}
 use Rattle.reading.specs.Read.{ReadOutcome, read_outcome, read_refused, ReadNumbers, Read}
-use Rattle.reading.specs.declared.Reading.TheVariants.{Refused as ReadingRefused}
 use Rattle.building.specs.Build.{Build}
-use Rattle.building.specs.declared.Built.TheVariants.{Refused as BuiltRefused}
 use Rattle.promises.specs.Words.{blocks, FrameFits, PatchOf}
 use Rattle.promises.specs.DemandOne.{read_offset, build_offset}
 use Rattle.promises.specs.DemandTwo.{patch_slot_7}
+use Rattle.layout.specs.Numbers.{refused_at}
+use Rattle.building.specs.Build.{refused_in}
 
 abbrev pub payload : List ℕ
 payload = 0 ∷ 7 ∷ 255 ∷ 0 ∷ 32 ∷ 1 ∷ 0 ∷ 9 ∷ []
@@ -97,9 +96,9 @@ pub not_entry_after : Unsound page_size payload 6 → ⊥
 not_entry_after u = omega (arith, only_2 6 u)
 
 -- What Apply may not answer: by what its answer means, whatever page it is lent
-pub not_apply_after : (lent after : List ℕ) → length lent ≡ page_size → Apply page_size [] payload lent (AppliedRefused Payload 6) after → ⊥
+pub not_apply_after : (lent after : List ℕ) → length lent ≡ page_size → Apply page_size [] payload lent (refused_at Payload 6) after → ⊥
 not_apply_after lent after l x =
-    not_entry_after ((apply_seven page_size [] payload lent (AppliedRefused Payload 6) after x (inl refl) l bytes 6).0 refl)
+    not_entry_after ((apply_seven page_size [] payload lent (refused_at Payload 6) after x (inl refl) l bytes 6).0 refl)
 
 -- What Read may not answer
 
@@ -107,36 +106,36 @@ reads_2 : read_outcome page_size patch [] 0 [] page ≡ read_refused 7 2 page
 reads_2 =
     patch_slot_7 patch [] 0 [] page fits (rw one_block (lit< tt)) payload patch_stands is_unsound ∙ ap (λ (o : ℕ). read_refused 7 o page) breaks_at_2
 
-wrong : (o : ℕ) (after : List ℕ) → Read page_size patch [] 0 [] page (ReadingRefused Payload o) after → o ≡ 2
+wrong : (o : ℕ) (after : List ℕ) → Read page_size patch [] 0 [] page (refused_at Payload o) after → o ≡ 2
 wrong o after x = ap (λ (n : ReadNumbers). n.offset) x.numbers ∙ ap (λ (r : ReadOutcome). r.offset) reads_2
 
 -- the offset of the entry after
-pub not_offset_after : (after : List ℕ) → Read page_size patch [] 0 [] page (ReadingRefused Payload 6) after → ⊥
+pub not_offset_after : (after : List ℕ) → Read page_size patch [] 0 [] page (refused_at Payload 6) after → ⊥
 not_offset_after after x = omega (arith, wrong 6 after x)
 
 -- the offset counted from the slot's first byte
-pub not_from_slot : (after : List ℕ) → Read page_size patch [] 0 [] page (ReadingRefused Payload (payload_at + 2)) after → ⊥
+pub not_from_slot : (after : List ℕ) → Read page_size patch [] 0 [] page (refused_at Payload (payload_at + 2)) after → ⊥
 not_from_slot after x = omega (arith, wrong (payload_at + 2) after x)
 
 -- none at all
-pub not_without : (after : List ℕ) → Read page_size patch [] 0 [] page (ReadingRefused Payload 0) after → ⊥
+pub not_without : (after : List ℕ) → Read page_size patch [] 0 [] page (refused_at Payload 0) after → ⊥
 not_without after x = omega (arith, wrong 0 after x)
 
 -- What Build may not answer, whatever map it is lent
-pub not_build_from_slot : (map after : List ℕ) → Build page_size patch [] map (BuiltRefused Payload 0 (payload_at + 2)) after → ⊥
+pub not_build_from_slot : (map after : List ℕ) → Build page_size patch [] map (refused_in Payload 0 (payload_at + 2)) after → ⊥
 not_build_from_slot map after x =
     let own : payload_of (slot_of patch 0) ≡ payload = ap payload_of patch_stands.image ∙ payload_of_is payload patch_stands.room_for in
-    let e : payload_at + 2 ≡ 2 = build_offset page_size patch [] map (BuiltRefused Payload 0 (payload_at + 2)) after x
+    let e : payload_at + 2 ≡ 2 = build_offset page_size patch [] map (refused_in Payload 0 (payload_at + 2)) after x
     ∙ ap (breaks_at page_size) own ∙ breaks_at_2 in
     omega (arith, e)
 
 -- an offset beside 10, for any areas, map and block
 pub not_build_beside_10 : (areas full map : List ℕ) (b o : ℕ) (after : List ℕ)
-    → Build page_size areas full map (BuiltRefused Place b (suc o)) after → ⊥
+    → Build page_size areas full map (refused_in Place b (suc o)) after → ⊥
 not_build_beside_10 areas full map b o after x =
-    omega (arith, build_offset page_size areas full map (BuiltRefused Place b (suc o)) after x)
+    omega (arith, build_offset page_size areas full map (refused_in Place b (suc o)) after x)
 
 -- What Read may not: an offset beside 5, for any areas, block, base and page
 pub not_beside_5 : (areas full : List ℕ) (b : ℕ) (base lent after : List ℕ) (o : ℕ)
-    → Read page_size areas full b base lent (ReadingRefused Block (suc o)) after → ⊥
-not_beside_5 areas full b base lent after o x = omega (arith, read_offset page_size areas full b base lent (ReadingRefused Block (suc o)) after x)
+    → Read page_size areas full b base lent (refused_at Block (suc o)) after → ⊥
+not_beside_5 areas full b base lent after o x = omega (arith, read_offset page_size areas full b base lent (refused_at Block (suc o)) after x)

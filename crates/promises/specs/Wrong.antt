@@ -1,7 +1,7 @@
 -- Wrong programs, each shut out by a proved input: the areas and pages of `Sample`, at the page size that the calls have. A wrong program for
 -- carrying out goes from the areas and what it is lent to the numbers and bytes that it gives back. `Breaks` says that no answer with these
 -- numbers meets the predicate that the call's contract cites; `LastsLeave` and `ReadsAsLast` are parts of demand 3 for the runs of a given program.
-use Rattle.std.specs.Prelude.{ℕ, suc, ◌+◌, ◌<◌, min, ◌≡◌, refl, true, cond, ◌||◌, List, [], ◌∷◌, map, eqb, length, get_or, replicate}
+use Rattle.std.specs.Prelude.{ℕ, suc, ◌+◌, ◌<◌, min, ◌≡◌, refl, true, cond, ◌||◌, List, [], ◌∷◌, map, eqb, length, get_or, replicate, Result}
 use Rattle.std.proofs.Common.{arith, sym, ap, ◌∙◌, inl, inr, lit≤, lit<, eq-eqb}
 use Rattle.std.proofs.Math.Option.{some, none-ne-some}
 use mathlib.Core.List.Memᴰ
@@ -18,8 +18,6 @@ use Rattle.reading.specs.Read.{ReadOutcome, reading_numbers, read_numbers, Read,
 use Rattle.carrying.specs.Puts.{all}
 use Rattle.carrying.specs.CarryOut.{CarryOutcome, written_numbers, carry_numbers, CarryOut}
 use Rattle.carrying.specs.CarryLaws.{carry_not}
-use Rattle.reading.specs.declared.Reading.{Reading}
-use Rattle.carrying.specs.declared.Written.{Written}
 use Rattle.promises.specs.Words.{blocks, PagesFit, AreasFit, SameFrame, stream_of}
 use Rattle.promises.specs.FrameLaws.{lengths_moved, headers_moved}
 use Rattle.promises.specs.CarryWords.{CarryGives, ReadAs}
@@ -40,10 +38,14 @@ use Rattle.promises.specs.DemandThree.{lasts_leave_the_same, compare_is_decided,
 use Rattle.promises.specs.Sample.{sample, sample_fresh, two_blocks, two_places, takes, refuses, page, same_bytes, one, two, many}
 use Rattle.promises.specs.Sample.{one_fits, two_fits, stream_one, stream_two, stream_next, to, puts, slot_of_is, place_ones}
 use Rattle.promises.specs.Sample.{reads, reads_zeros, changes, same_page, decides, decides_by, decides_fit, one_fit, two_fit}
+use Rattle.layout.specs.declared.RefusedAt.{RefusedAt}
+use Rattle.layout.specs.declared.Refusal.{Refusal}
+use Rattle.layout.specs.declared.Kind.{Kind}
+use Rattle.carrying.specs.declared.Written.{Written}
 
 abbrev pub Breaks : Program → Areas → Lent → Type 0
 Breaks wrong s w =
-    (a : Written) → written_numbers a ≡ carry_numbers (wrong s w)
+    (a : Result Written Refusal) → written_numbers a ≡ carry_numbers (wrong s w)
     → CarryOut page_size s.patch s.full w.block w.decision all a (wrong s w).patch (wrong s w).full → ⊥
 
 other : (wrong : Program) (s : Areas) (w : Lent) → (outcome page_size s w ≡ wrong s w → ⊥) → Breaks wrong s w
@@ -233,7 +235,7 @@ not_refused_stores_run claim = changes 0 (lit< tt) (sym refused_leaves ∙ sym (
 unfoldable pub always_base : Areas → ℕ → List ℕ → List ℕ → ReadOutcome
 always_base s b base into = read_done 0 (page_of page_size base)
 
-pub not_always_base : (a : Reading) → reading_numbers a ≡ read_numbers (always_base (T one) 0 [] two)
+pub not_always_base : (a : Result Kind RefusedAt) → reading_numbers a ≡ read_numbers (always_base (T one) 0 [] two)
     → Read page_size (T one).patch (T one).full 0 [] two a (always_base (T one) 0 [] two).page
     → ⊥
 unfolding always_base page_of page run

@@ -1,5 +1,5 @@
 -- Read a block by a lent map: the block's own pair says what it holds, and no other pair is looked at.
-use Rattle.std.specs.Prelude.{ℕ, ◌≡◌, not, ◌&&◌, List, [], ◌∷◌, eqb, leb, length}
+use Rattle.std.specs.Prelude.{ℕ, ◌≡◌, not, ◌&&◌, List, [], ◌∷◌, eqb, leb, length, Result}
 use Rattle.layout.specs.Sizes.{patch_kind, full_kind}
 use Rattle.layout.specs.Refusals.{Row, ◌⇐◌, first_of, decided}
 use Rattle.layout.specs.Groups.{Grouped, ordered, ◌▸◌}
@@ -13,7 +13,8 @@ use Rattle.blockmap.specs.Pack.{kind_of}
 use Rattle.blockmap.specs.Calls.{short_map}
 use Rattle.stream.specs.Calls.{page_rows}
 use Rattle.store.specs.Block.{slot_of, block_rows}
-use Rattle.reading.specs.declared.Reading.{Reading}
+use Rattle.layout.specs.declared.Kind.{Kind}
+use Rattle.layout.specs.declared.RefusedAt.{RefusedAt}
 use Rattle.reading.specs.Read.{contents_as, ReadOutcome, read_done, read_refused, reading_numbers, read_numbers}
 
 -- "11 for pair 3, after 5"
@@ -57,6 +58,6 @@ read_mapped_outcome P patch full map b base page =
     (read_done kind (contents_as P kind patch full b base))
     (λ k. read_refused k (offset_with k P (payload_of (slot_of patch b))) page)
 
-pub record ReadMapped (P : ℕ) (patch full map : List ℕ) (b : ℕ) (base page : List ℕ) (answer : Reading) (page' : List ℕ) : Type 0 where
+pub record ReadMapped (P : ℕ) (patch full map : List ℕ) (b : ℕ) (base page : List ℕ) (answer : Result Kind RefusedAt) (page' : List ℕ) : Type 0 where
   pub numbers : reading_numbers answer ≡ read_numbers (read_mapped_outcome P patch full map b base page)
   pub bytes : page' ≡ (read_mapped_outcome P patch full map b base page).page

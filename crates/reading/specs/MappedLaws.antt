@@ -23,12 +23,17 @@ use Rattle.payload.specs.EntryLaws.{offset_other}
 use Rattle.blockmap.specs.Pairs.{map_bytes, pair_at}
 use Rattle.blockmap.specs.Pack.{kind_of}
 use Rattle.blockmap.specs.Calls.{short_map, map_rows, LookedNumbers, look_up_rows, look_up_numbers, LookUp}
-use Rattle.blockmap.specs.declared.Looked.TheVariants.{Done as LookedDone, Refused as LookedRefused}
+use Rattle.std.specs.Prelude.{Result, Ok, Err}
+use Rattle.layout.specs.Numbers.{kind_number}
+use Rattle.layout.specs.declared.Kind.{Kind}
+use Rattle.layout.specs.declared.Kind.TheVariants.{Empty, Patch, Full}
+use Rattle.blockmap.specs.SetLaws.{kind_back}
+use Rattle.layout.specs.declared.RefusedAt.{RefusedAt}
+use Rattle.blockmap.specs.Pack.{pair_of}
 use Rattle.stream.specs.Calls.{page_of, page_rows}
 use Rattle.store.specs.Block.{slot_of, place_of, block_rows, slot_rows, full_rows, payload_rows}
 use Rattle.store.specs.Frame.{frame_rows}
 use Rattle.store.specs.FrameLaws.{frame_lacks}
-use Rattle.reading.specs.declared.Reading.{Reading}
 use Rattle.reading.specs.Read.{contents_as, contents, ReadOutcome, read_numbers, read_done, read_refused}
 use Rattle.reading.specs.Mapped.{own_rows, patch_rows, page_row, sound_rows, read_mapped_rows, read_mapped_outcome}
 use Rattle.reading.specs.Parts.{slot_outcome, BlockRead, PatchRead, PlaceRead, kind_outcome, KindRead}
@@ -101,6 +106,11 @@ module _ (P : ℕ) (patch full map : List ℕ) (b : ℕ) (base page : List ℕ) 
         (λ (k : ℕ). read_refused k (offset_with k P (payload_of (slot_of patch b))) page))
         (inside ∙ or_skip (first_of looked) (first_of by_kind) q)
 
+kind_few : (k : Kind) → kind_number k < 3
+kind_few Empty = omega arith
+kind_few Patch = omega arith
+kind_few Full = omega arith
+
 -- Look up, told a frame's n and a map that is long enough, looks at the block's number and its own pair
 module _ (P : ℕ) (patch map : List ℕ) (n b : ℕ) (own : n ≡ blocks_in (length patch)) (few : n ≤ blocks_at_most P)
     (long : map_bytes n ≤ length map) where
@@ -112,21 +122,25 @@ module _ (P : ℕ) (patch map : List ℕ) (n b : ℕ) (own : n ≡ blocks_in (le
       ∙ first_skip 9 (ltb (length map) (map_bytes n)) _ (le-ltb (length map) (map_bytes n) long)
       ∙ ap (λ (k : ℕ). first_of ((5 ⇐ leb k b) ∷ own_rows (pair_at map b))) own
 
-  pub look_refuses : (r : Refusal) → LookUp P map n b (LookedRefused r)
+  pub look_refuses : (r : Refusal) → LookUp P map n b (Err r)
       → first_of (block_rows patch b ++ own_rows (pair_at map b)) ≡ refusal_number r
   look_refuses r l = sym (ap (λ (x : LookedNumbers). x.number) l.numbers ∙ look_number)
 
-  module _ (pair : ℕ) (l : LookUp P map n b (LookedDone pair)) where
+  module _ (kind : Kind) (l : LookUp P map n b (Ok kind)) where
     pub look_none : first_of (block_rows patch b ++ own_rows (pair_at map b)) ≡ 0
     look_none = sym (ap (λ (x : LookedNumbers). x.number) l.numbers ∙ look_number)
 
-    pub look_pair : pair ≡ pair_at map b
+    pub look_pair : pair_of (kind_number kind) ≡ pair_at map b
     unfolding look_up_numbers
     look_pair =
         let z : first_of (look_up_rows P map n b) ≡ 0 =
         sym (ap (λ (x : LookedNumbers). x.number) l.numbers
         ∙ decided_number (λ (x : LookedNumbers). x.number) _ _ (first_of (look_up_rows P map n b)) refl (λ k. refl)) in
         ap (λ (x : LookedNumbers). x.pair) (l.numbers ∙ decided_done _ _ (first_of (look_up_rows P map n b)) z)
+
+    -- the kind is the one that the block's pair stands for
+    pub look_kind : kind_number kind ≡ kind_of (pair_at map b)
+    look_kind = sym (kind_back (kind_number kind) (kind_few kind)) ∙ ap kind_of look_pair
 
     pub look_below : b < n
     unfolding first_of
@@ -163,7 +177,7 @@ module _ (P : ℕ) (patch full : List ℕ) (b : ℕ) (base page : List ℕ) wher
       (rw (lt-leb (pages_in P (length full)) b h))
 
   -- the place, whatever the slot is
-  pub place_as : (answer : Reading) (page' : List ℕ) → PlaceRead P full b page answer page'
+  pub place_as : (answer : Result Kind RefusedAt) (page' : List ℕ) → PlaceRead P full b page answer page'
       → KindRead 2 P patch full b base page answer page'
   place_as answer page' r = go (ltb b (pages_in P (length full))) refl
     where
@@ -191,7 +205,7 @@ module _ (P : ℕ) (patch full : List ℕ) (b : ℕ) (base page : List ℕ) wher
           rw (e, p, q)
       go false h = rw (e, h)
 
-  pub kind_block : (k n : ℕ) (answer : Reading) (page' : List ℕ) → slot_numbers (slot_of patch b) ≡ sound_slot k n
+  pub kind_block : (k n : ℕ) (answer : Result Kind RefusedAt) (page' : List ℕ) → slot_numbers (slot_of patch b) ≡ sound_slot k n
       → KindRead k P patch full b base page answer page' → BlockRead P patch full b base page answer page'
   kind_block k n answer page' e r =
       let q = slot_as k n e in
@@ -201,7 +215,7 @@ module _ (P : ℕ) (patch full : List ℕ) (b : ℕ) (base page : List ℕ) wher
       }
 
   -- a payload read over its base is what a block with a sound PATCH slot holds
-  pub patch_as : (payload : List ℕ) (answer : Reading) (page' : List ℕ) → is_patch (slot_of patch b) ≡ true
+  pub patch_as : (payload : List ℕ) (answer : Result Kind RefusedAt) (page' : List ℕ) → is_patch (slot_of patch b) ≡ true
       → payload ≡ payload_of (slot_of patch b) → page_of P base ≡ base → PatchRead P base payload page answer page'
       → KindRead 1 P patch full b base page answer page'
   patch_as payload answer page' e same_payload same_base r =

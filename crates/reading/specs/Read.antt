@@ -1,5 +1,5 @@
 -- Read a block: base, patched base or full page.
-use Rattle.std.specs.Prelude.{ℕ, ◌≡◌, cond, List, [], ◌∷◌, eqb, length}
+use Rattle.std.specs.Prelude.{ℕ, ◌≡◌, cond, List, [], ◌∷◌, eqb, length, Result, Ok, Err}
 use Rattle.layout.specs.Sizes.{empty_kind, patch_kind}
 use Rattle.layout.specs.Numbers.{kind_number, refusal_number}
 use Rattle.layout.specs.Refusals.{Row, first_of, decided}
@@ -11,8 +11,8 @@ use Rattle.slots.specs.Slots.{slot_numbers, payload_of}
 use Rattle.payload.specs.Entries.{payload_stream, offset_with, applied}
 use Rattle.stream.specs.Calls.{page_of, page_rows}
 use Rattle.store.specs.Block.{slot_of, place_of, block_rows, slot_rows, full_rows, payload_rows}
-use Rattle.reading.specs.declared.Reading.{Reading}
-use Rattle.reading.specs.declared.Reading.TheVariants.{Done, Refused}
+use Rattle.layout.specs.declared.Kind.{Kind}
+use Rattle.layout.specs.declared.RefusedAt.{RefusedAt}
 
 abbrev pub read_groups : ℕ → List ℕ → List ℕ → ℕ → List ℕ → List ℕ → List Grouped
 read_groups P patch full b base page =
@@ -63,13 +63,13 @@ pub record ReadNumbers : Type 0 where
   pub kind : ℕ
   pub offset : ℕ
 
-abbrev pub reading_numbers : Reading → ReadNumbers
-reading_numbers (Done k) = record { number = 0; kind = kind_number k; offset = 0 }
-reading_numbers (Refused r offset) = record { number = refusal_number r; kind = 0; offset = offset }
+abbrev pub reading_numbers : Result Kind RefusedAt → ReadNumbers
+reading_numbers (Ok k) = record { number = 0; kind = kind_number k; offset = 0 }
+reading_numbers (Err r) = record { number = refusal_number r.refusal; kind = 0; offset = r.offset }
 
 abbrev pub read_numbers : ReadOutcome → ReadNumbers
 read_numbers o = record { number = o.number; kind = o.kind; offset = o.offset }
 
-pub record Read (P : ℕ) (patch full : List ℕ) (b : ℕ) (base page : List ℕ) (answer : Reading) (page' : List ℕ) : Type 0 where
+pub record Read (P : ℕ) (patch full : List ℕ) (b : ℕ) (base page : List ℕ) (answer : Result Kind RefusedAt) (page' : List ℕ) : Type 0 where
   pub numbers : reading_numbers answer ≡ read_numbers (read_outcome P patch full b base page)
   pub bytes : page' ≡ (read_outcome P patch full b base page).page

@@ -17,7 +17,9 @@ use Rattle.stream.specs.Calls.{page_of, page_rows}
 use Rattle.store.specs.Block.{slot_of, block_rows, slot_rows, full_rows, payload_rows}
 use Rattle.store.specs.Frame.{frame_rows}
 use Rattle.store.specs.FrameLaws.{frame_lacks}
-use Rattle.reading.specs.declared.Reading.{Reading}
+use Rattle.std.specs.Prelude.{Result}
+use Rattle.layout.specs.declared.Kind.{Kind}
+use Rattle.layout.specs.declared.RefusedAt.{RefusedAt}
 use Rattle.reading.specs.Read.{read_rows, contents, read_outcome, read_done, read_refused}
 use Rattle.reading.specs.Parts.{slot_outcome, BlockRead, PatchRead}
 
@@ -109,7 +111,7 @@ unfolding slot_outcome contents
 same_base P patch full b base base' page e = rw e
 
 -- a payload read over its base is what the block holds
-pub patch_read : (P : ℕ) (patch full : List ℕ) (b : ℕ) (base page : List ℕ) (n : ℕ) (payload : List ℕ) (answer : Reading) (page' : List ℕ)
+pub patch_read : (P : ℕ) (patch full : List ℕ) (b : ℕ) (base page : List ℕ) (n : ℕ) (payload : List ℕ) (answer : Result Kind RefusedAt) (page' : List ℕ)
     → slot_numbers (slot_of patch b) ≡ sound_slot 1 n
     → payload ≡ payload_of (slot_of patch b)
     → page_of P base ≡ base

@@ -1,9 +1,10 @@
 -- A run of writes and cuts from lent buffers, in the words of demand 3: "each write carries out the kind and payload of a Compare that
 -- answered 0, with the page it compared". The runs are those of `promises`, without a map and with one.
-use Rattle.std.specs.Prelude.{ℕ, ◌≡◌, Bool, cond, List, [], ◌∷◌, eqb, length, take, drop, get_or}
+use Rattle.std.specs.Prelude.{ℕ, ◌≡◌, Bool, cond, List, [], ◌∷◌, eqb, length, take, drop, get_or, Result, Ok, Err, ⊤}
 use Rattle.std.proofs.Math.Option.{Option, none, some}
 use Rattle.span.specs.Bytes.{zeros, splice}
 use Rattle.layout.specs.Sizes.{room, patch_kind}
+use Rattle.layout.specs.declared.Refusal.{Refusal}
 use Rattle.stream.specs.Calls.{compare_numbers, compare_buffer}
 use Rattle.promises.specs.Runs.{run, taking, write, wipe}
 use Rattle.promises.specs.RunWords.{Decision, Areas, Operation, outcome, cutting, takes_by, does_by}
@@ -76,6 +77,11 @@ pub record Made {S : Type 0} (takes : S → Operation → Bool) (does : S → Op
     : Type 0 where
   pub state : s' ≡ left_by does s o
   pub marked : mark ≡ mark_of takes s o
+
+-- the mark of a call's answer
+abbrev pub answer_mark : Result ⊤ Refusal → ℕ
+answer_mark (Ok _) = 1
+answer_mark (Err _) = 0
 
 -- Without a map, and with one
 

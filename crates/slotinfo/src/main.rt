@@ -12,5 +12,5 @@ fn main() {
     let n = io::read_full(0, &mut bytes);
     let mut out = [0u8; LONGEST];
     let length = info::text::report(&mut out, &bytes[..n]);
-    io::write_all(1, span::part(&out, 0, length));
+    io::write_all(1, &out[..length]);
 }

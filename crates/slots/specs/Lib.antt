@@ -1,3 +1,4 @@
 pub mod Meaning
 pub mod SlotLaws
 pub mod Slots
+pub mod StateLaws

@@ -1,9 +1,10 @@
 -- The laws of slots: told by their fields, and laid by their fields.
 use Prim.Native.Nat.{ℕ, suc, ◌+◌, ◌-◌, ◌*◌, ◌/◌, ◌%◌, ◌≤◌, ◌<◌, min}
 use native.Mathlib.Omega.{arith}
-use Rattle.std.specs.Prelude.{◌≡◌, Bool, true, false, ◌&&◌, cond, leb, take, drop, set}
+use Rattle.std.specs.Prelude.{◌≡◌, Bool, true, false, ◌&&◌, cond, leb, take, drop, set, Option, Some, None, Ok, ok_or, MatchOption, IsSomeAnd}
+use Rattle.std.specs.Bool.{then_some}
 use Rattle.std.proofs.Math.Path.{refl, sym, ap}
-use Rattle.std.proofs.Common.{◌∙◌, true≢false, take_all, eq-eqb, leb-true, leb-false, le-leb}
+use Rattle.std.proofs.Common.{◌∙◌, true≢false, take_all, eq-eqb, ne_eqb, leb-true, leb-false, le-leb}
 use Rattle.std.proofs.Math.Bool.{and-true}
 use mathlib.Core.List.{List, [], ◌∷◌, ◌++◌}
 use Rattle.std.proofs.Math.Dec.{eqb}
@@ -16,7 +17,11 @@ use Rattle.span.specs.Laws.{same_is, is_same}
 use Rattle.layout.specs.Sizes.{slot_size, payload_at, room}
 use Rattle.layout.specs.Numbers.{number, le}
 use Rattle.slots.specs.Slots.{empty_slot, patch_slot, full_slot, payload_length, payload_of, is_patch, SlotNumbers, sound_slot}
-use Rattle.slots.specs.Slots.{unsound_slot, slot_numbers, slot_image}
+use Rattle.slots.specs.Slots.{unsound_slot, slot_numbers, state_numbers, slot_image}
+use Rattle.layout.specs.declared.Refusal.TheVariants.{Slot}
+use Rattle.slots.specs.StateLaws.{none_told, some_told}
+use Rattle.slots.specs.declared.SlotState.{SlotState}
+use Rattle.slots.specs.declared.SlotState.TheVariants.{Patch}
 
 -- the first four bytes of a list
 first_four : (s : List ℕ) → 4 ≤ length s → part 0 4 s ≡ get_or s 0 0 ∷ get_or s 1 0 ∷ get_or s 2 0 ∷ get_or s 3 0 ∷ []
@@ -188,6 +193,15 @@ slot_other s l h =
     go false false true = refl
     go false false false = refl
 
+-- what makes a PATCH slot, by its other fields
+pub patch_test : (s : List ℕ) (n : ℕ) → length s ≡ slot_size → get_or s 0 0 ≡ 1 → payload_length s ≡ n → get_or s 2 0 < 256
+    → get_or s 3 0 < 256 → 1 ≤ n → n ≤ room
+    → is_patch s ≡ (eqb (get_or s 1 0) 1 && (same (part 4 4 s) (zeros 4) && same (part (payload_at + n) (room - n) s) (zeros (room - n))))
+unfolding is_patch
+patch_test s n l k e low high some fits =
+    rw (e, le-leb 1 n some, le-leb n room fits) (patch_fields_is s l k low high (omega arith)
+    ∙ ap (λ (m : ℕ). eqb (get_or s 1 0) 1 && (same (part 4 4 s) (zeros 4) && same (part (payload_at + m) (room - m) s) (zeros (room - m)))) e)
+
 -- what the length of a PATCH slot comes to, by its other fields
 pub patch_value : (s : List ℕ) → length s ≡ slot_size → get_or s 0 0 ≡ 1 → get_or s 2 0 < 256 → get_or s 3 0 < 256 → payload_length s ≤ room
     → cond (is_patch s) (payload_length s) 0
@@ -216,6 +230,10 @@ patch_over s h = go (leb 1 (payload_length s)) (leb (payload_length s) room) (lt
     go true true e = absurd (true≢false e)
     go true false e = refl
     go false b e = refl
+
+pub patch_under : (s : List ℕ) → payload_length s < 1 → is_patch s ≡ false
+unfolding is_patch
+patch_under s h = rw (lt-leb 1 (payload_length s) h)
 
 pub length_at_is : (s : List ℕ) → length s ≡ slot_size → payload_length s ≡ get_or s 2 0 + 256 * get_or s 3 0
 length_at_is s l = length_field s (omega arith)
@@ -302,7 +320,17 @@ told_other s x e h = go (is_patch s) (same s empty_slot) (same s full_slot) refl
     go true false t p r q = absurd (h (ap (λ (y : SlotNumbers). y.kind) q))
     go false a t p r q = refl
 
--- so the length that is answered for a PATCH, and 0 for any other kind, is that of the definition
+-- so the length that is answered for a PATCH, and none for any other kind, is that of the definition
+pub patch_length_some : (s : List ℕ) (n : ℕ) → sound_slot 1 n ≡ slot_numbers s → Some n ≡ cond (is_patch s) (Some (payload_length s)) None
+patch_length_some s n e =
+    let t : (is_patch s ≡ true) × (payload_length s ≡ n) = told_patch s n e in
+    rw (t.0, t.1)
+
+pub other_length_none : (s : List ℕ) (x : SlotNumbers) → x ≡ slot_numbers s → (x.kind ≡ 1 → ⊥)
+    → ◌≡◌ {A = Option ℕ} None (cond (is_patch s) (Some (payload_length s)) None)
+other_length_none s x e h = rw (told_other s x e h)
+
+-- the same where 0 stands for none
 pub patch_length_is : (s : List ℕ) (n : ℕ) → sound_slot 1 n ≡ slot_numbers s → n ≡ cond (is_patch s) (payload_length s) 0
 patch_length_is s n e =
     let t : (is_patch s ≡ true) × (payload_length s ≡ n) = told_patch s n e in
@@ -341,6 +369,38 @@ pub patch_some : (s : List ℕ) (r : ℕ) → (r ≡ 0 → ⊥) → cond (is_pat
 patch_some s r h e =
     let t : (is_patch s ≡ true) × (payload_length s ≡ r) = length_some s r h e in
     rw (t.0, t.1)
+
+-- what the code makes of that length: PATCH with it, or unsound
+pub patch_state : (s : List ℕ) → length s ≡ slot_size → get_or s 0 0 ≡ 1 → (r : Option ℕ) (m : Option SlotState)
+    → r ≡ cond (is_patch s) (Some (payload_length s)) None → MatchOption r (m ≡ None) (λ n. IsSomeAnd m (λ p. p ≡ Patch n))
+    → state_numbers (ok_or m Slot) ≡ slot_numbers s
+patch_state s l k None None e h = rw (slot_patch s l k, none_told s e)
+patch_state s l k None (Some p) e h = cc
+patch_state s l k (Some n) None e h = absurd h
+patch_state s l k (Some n) (Some p) e h =
+    let t : (is_patch s ≡ true) × (payload_length s ≡ n) = some_told s n e in
+    rw (slot_patch s l k, t.0, t.1, h)
+
+-- and of a kind whose slots are zero after it: that kind, or unsound
+pub plain_state : (s : List ℕ) → length s ≡ slot_size → (get_or s 0 0 ≡ 1 → ⊥) → (p : SlotState)
+    → state_numbers (Ok p) ≡ plain_numbers (get_or s 0 0)
+    → state_numbers (ok_or (then_some (same (part 1 (slot_size - 1) s) (zeros (slot_size - 1))) p) Slot) ≡ slot_numbers s
+plain_state s l k p e = go (same (part 1 (slot_size - 1) s) (zeros (slot_size - 1))) ∙ sym (slot_other s l k)
+  where
+    go : (t : Bool) → state_numbers (ok_or (then_some t p) Slot) ≡ cond t (plain_numbers (get_or s 0 0)) unsound_slot
+    go true = e
+    go false = refl
+
+-- a kind above 2 is none
+pub slot_unknown : (s : List ℕ) → length s ≡ slot_size → 2 < get_or s 0 0 → slot_numbers s ≡ unsound_slot
+unfolding plain_numbers
+slot_unknown s l h =
+    rw (slot_other s l (λ e. omega arith), ne_eqb (get_or s 0 0) 0 (λ e. omega arith), ne_eqb (get_or s 0 0) 2 (λ e. omega arith))
+    (go (same (part 1 (slot_size - 1) s) (zeros (slot_size - 1))))
+  where
+    go : (t : Bool) → cond t unsound_slot unsound_slot ≡ unsound_slot
+    go true = refl
+    go false = refl
 
 -- every sound slot has 512 bytes
 pub slot_image_length : (k : ℕ) (payload : List ℕ) → length payload ≤ room → length (slot_image k payload) ≡ slot_size

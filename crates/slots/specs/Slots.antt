@@ -1,11 +1,12 @@
 -- The three sound slots, each as its image.
-use Rattle.std.specs.Prelude.{ℕ, ◌-◌, Bool, ◌&&◌, cond, List, ◌∷◌, ◌++◌, leb, eqb, length}
+use Rattle.std.specs.Prelude.{ℕ, ◌-◌, Bool, ◌&&◌, cond, List, ◌∷◌, ◌++◌, leb, eqb, length, Result, Ok, Err}
 use Rattle.span.specs.Bytes.{zeros, part, same}
 use Rattle.layout.specs.Sizes.{slot_size, short_width, length_at, reserved_at, payload_at, room}
 use Rattle.layout.specs.Sizes.{empty_kind, patch_kind, full_kind, patch_flags}
-use Rattle.layout.specs.Numbers.{number, le}
+use Rattle.layout.specs.Numbers.{refusal_number, number, le}
+use Rattle.layout.specs.declared.Refusal.{Refusal}
 use Rattle.slots.specs.declared.SlotState.{SlotState}
-use Rattle.slots.specs.declared.SlotState.TheVariants.{Empty, Patch, Full, Unsound}
+use Rattle.slots.specs.declared.SlotState.TheVariants.{Empty, Patch, Full}
 
 -- EMPTY: all bytes zero
 unfoldable pub empty_slot : List ℕ
@@ -50,12 +51,12 @@ slot_numbers s =
     (cond (is_patch s) (sound_slot patch_kind (payload_length s))
     (cond (same s full_slot) (sound_slot full_kind 0) unsound_slot))
 
--- the paper's numbers for each case of the code's enum
-abbrev pub state_numbers : SlotState → SlotNumbers
-state_numbers Empty = sound_slot empty_kind 0
-state_numbers (Patch n) = sound_slot patch_kind n
-state_numbers Full = sound_slot full_kind 0
-state_numbers Unsound = unsound_slot
+-- the paper's numbers for each case of the code's answer
+abbrev pub state_numbers : Result SlotState Refusal → SlotNumbers
+state_numbers (Ok Empty) = sound_slot empty_kind 0
+state_numbers (Ok (Patch n)) = sound_slot patch_kind n
+state_numbers (Ok Full) = sound_slot full_kind 0
+state_numbers (Err r) = record { number = refusal_number r; kind = 0; length = 0 }
 
 -- the sound slot of a kind, by its number
 unfoldable pub slot_image : ℕ → List ℕ → List ℕ

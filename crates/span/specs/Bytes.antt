@@ -1,11 +1,7 @@
 -- Bytes in a list: a run of zeros, a part, a part laid over, a list emptied from some place on, and whether two lists are the same.
 -- All but `same` are shut: proofs go by the laws of `Laws.antt`.
-use Rattle.std.specs.Prelude.{ℕ, ◌+◌, ◌-◌, ◌*◌, Bool, true, false, ◌&&◌, cond, List, [], ◌∷◌, ◌++◌, eqb, leb, length, take, drop, replicate, ◌≡◌}
+use Rattle.std.specs.Prelude.{ℕ, ◌+◌, ◌-◌, Bool, true, false, ◌&&◌, cond, List, [], ◌∷◌, ◌++◌, eqb, leb, length, take, drop, replicate, ◌≡◌}
 use Rattle.std.proofs.lemmas.List.Edits.{sets}
-
--- how many bytes the code moves at one go
-abbrev pub bulk : ℕ
-bulk = 8 * 1024
 
 -- n zero bytes
 unfoldable pub zeros : ℕ → List ℕ

@@ -1,17 +1,18 @@
 -- The laws of a block's own bytes.
-use Rattle.std.specs.Prelude.{ℕ, ◌+◌, ◌≤◌, ◌≡◌, List, length, get_or}
+use Rattle.std.specs.Prelude.{ℕ, ◌+◌, ◌≤◌, ◌≡◌, List, length, get_or, Result}
 use Rattle.std.proofs.Common.{arith, sym, ap, ◌∙◌, subst}
 use Rattle.span.specs.Bytes.{part}
 use Rattle.span.specs.Laws.{part_at}
 use Rattle.layout.specs.Sizes.{slot_size, slot_at, payload_at, room}
 use Rattle.slots.specs.Slots.{patch_slot, payload_length, payload_of, slot_numbers, state_numbers}
 use Rattle.slots.specs.Meaning.{payload_of_is, kind_first}
+use Rattle.layout.specs.declared.Refusal.{Refusal}
 use Rattle.slots.specs.declared.SlotState.{SlotState}
 use Rattle.payload.specs.Spelling.{Bytes, bytes_part}
 use Rattle.store.specs.Block.{slot_of}
 
 -- what a block's slot was found to be, where it was looked at as a part of the area
-pub slot_state : (patch : List ℕ) (b at : ℕ) (slot : List ℕ) (r x : SlotState) → at ≡ slot_at b → slot ≡ part at slot_size patch
+pub slot_state : (patch : List ℕ) (b at : ℕ) (slot : List ℕ) (r x : Result SlotState Refusal) → at ≡ slot_at b → slot ≡ part at slot_size patch
     → state_numbers r ≡ slot_numbers slot → r ≡ x → slot_numbers (slot_of patch b) ≡ state_numbers x
 unfolding slot_of
 slot_state patch b at slot r x e f g q =

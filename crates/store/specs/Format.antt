@@ -1,13 +1,12 @@
 -- Format both areas: headers, then zeros.
-use Rattle.std.specs.Prelude.{ℕ, ◌≡◌, List, [], ◌∷◌, length}
-use Rattle.layout.specs.Numbers.{refusal_number}
+use Rattle.std.specs.Prelude.{ℕ, ◌≡◌, List, [], ◌∷◌, length, Result, ⊤}
+use Rattle.layout.specs.Numbers.{answer_number}
+use Rattle.layout.specs.declared.Refusal.{Refusal}
 use Rattle.layout.specs.Refusals.{Row, first_of, decided}
 use Rattle.layout.specs.Groups.{Grouped, ordered, ◌▸◌}
 use Rattle.layout.specs.Groups as group
 use Rattle.layout.specs.Lengths.{length_rows}
 use Rattle.headers.specs.Fresh.{fresh_patch, fresh_full}
-use Rattle.store.specs.declared.Formatted.{Formatted}
-use Rattle.store.specs.declared.Formatted.TheVariants.{Done, Refused}
 
 pub record FormatOutcome : Type 0 where
   pub number : ℕ
@@ -29,11 +28,7 @@ format_outcome P patch full =
     (record { number = 0; patch = fresh_patch P (length patch); full = fresh_full P (length full) })
     (λ n. record { number = n; patch = patch; full = full })
 
-abbrev pub formatted_number : Formatted → ℕ
-formatted_number Done = 0
-formatted_number (Refused r) = refusal_number r
-
-pub record Format (P : ℕ) (patch full : List ℕ) (answer : Formatted) (patch' full' : List ℕ) : Type 0 where
-  pub numbers : formatted_number answer ≡ (format_outcome P patch full).number
+pub record Format (P : ℕ) (patch full : List ℕ) (answer : Result ⊤ Refusal) (patch' full' : List ℕ) : Type 0 where
+  pub numbers : answer_number answer ≡ (format_outcome P patch full).number
   pub patch_bytes : patch' ≡ (format_outcome P patch full).patch
   pub full_bytes : full' ≡ (format_outcome P patch full).full

@@ -11,3 +11,4 @@ pub mod ShowLaws
 pub mod BlockLaws
 pub mod Open
 pub mod OpenLaws
+pub mod Opened

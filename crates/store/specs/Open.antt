@@ -1,10 +1,10 @@
 -- The opened frame: the page size, n and m of two areas, or the first refusal of what is decided before any block is looked at.
-use Rattle.std.specs.Prelude.{ℕ, Bool, not, List, [], ◌∷◌, length}
+use Rattle.std.specs.Prelude.{ℕ, Bool, not, List, [], ◌∷◌, length, Result, Ok, Err}
 use Rattle.layout.specs.Numbers.{refusal_number}
 use Rattle.layout.specs.Refusals.{Row, ◌⇐◌, first_of, decided}
 use Rattle.layout.specs.Lengths.{blocks_in, pages_in}
-use Rattle.store.specs.declared.Opened.{Opened}
-use Rattle.store.specs.declared.Opened.TheVariants.{Refused, Frame}
+use Rattle.layout.specs.declared.Refusal.{Refusal}
+use Rattle.store.specs.declared.frame.Frame.{Frame}
 use Rattle.store.specs.Frame.{frame_rows}
 
 -- the frame's rows, told whether the call's pages and its buffer have the lengths that they must have
@@ -24,6 +24,6 @@ open_numbers P pages buffers patch full =
     (λ k. record { number = k; size = 0; n = 0; m = 0 })
 
 -- the numbers of each case of the answer
-abbrev pub opened_numbers : Opened → FrameNumbers
-opened_numbers (Refused r) = record { number = refusal_number r; size = 0; n = 0; m = 0 }
-opened_numbers (Frame size n m) = record { number = 0; size = size; n = n; m = m }
+abbrev pub opened_numbers : Result Frame Refusal → FrameNumbers
+opened_numbers (Ok f) = record { number = 0; size = f.size; n = f.n; m = f.m }
+opened_numbers (Err r) = record { number = refusal_number r; size = 0; n = 0; m = 0 }

@@ -1,5 +1,5 @@
 -- The laws of the opened frame: what each answer tells, and that the numbers determine it.
-use Rattle.std.specs.Prelude.{ℕ, zero, suc, ◌≤◌, ◌≡◌, refl, Bool, true, not, List, [], ◌∷◌, length}
+use Rattle.std.specs.Prelude.{ℕ, zero, suc, ◌≤◌, ◌≡◌, refl, Bool, true, not, List, [], ◌∷◌, length, Result, Ok, Err}
 use Rattle.std.proofs.Common.{arith, sym, ap, ◌∙◌, subst}
 use Rattle.span.specs.Laws.{and_left, and_right}
 use Rattle.layout.specs.Sizes.{segment}
@@ -10,8 +10,7 @@ use Rattle.layout.specs.Refusals.{Row, ◌⇐◌, first_of}
 use Rattle.layout.specs.RefusalLaws.{decided_done, decided_refused}
 use Rattle.layout.specs.Lengths.{blocks_in, pages_in, patch_fits, full_fits}
 use Rattle.layout.specs.LengthLaws.{patch_fits_is, most_blocks}
-use Rattle.store.specs.declared.Opened.{Opened}
-use Rattle.store.specs.declared.Opened.TheVariants.{Refused, Frame}
+use Rattle.store.specs.declared.frame.Frame.{Frame}
 use Rattle.stream.specs.Calls.{pages_fit, page_rows}
 use Rattle.stream.specs.Laws.{page_length, base_length}
 use Rattle.store.specs.Frame.{frame_rows}
@@ -74,13 +73,13 @@ module _ (P : ℕ) (pages buffers : Bool) (patch full : List ℕ) where
       go (suc k) e = ap (λ (x : FrameNumbers). x.number) (open_refused (suc k) e (λ q. omega arith)) ∙ sym e
 
   -- what the answers tell
-  pub opened_refused : (r : Refusal) → opened_numbers (Refused r) ≡ open_numbers P pages buffers patch full
+  pub opened_refused : (r : Refusal) → opened_numbers (Err r) ≡ open_numbers P pages buffers patch full
       → first_of (open_rows P pages buffers patch full) ≡ refusal_number r
   opened_refused r e = sym (ap (λ (x : FrameNumbers). x.number) e ∙ open_number)
 
-  pub opened_frame : (size n m : ℕ) → opened_numbers (Frame size n m) ≡ open_numbers P pages buffers patch full
-      → Opening P pages buffers patch full size n m
-  opened_frame size n m e =
+  pub opened_frame : (f : Frame) → opened_numbers (Ok f) ≡ open_numbers P pages buffers patch full
+      → Opening P pages buffers patch full f.size f.n f.m
+  opened_frame f e =
       let z : first_of (open_rows P pages buffers patch full) ≡ 0 = sym (ap (λ (x : FrameNumbers). x.number) e ∙ open_number) in
       let d = e ∙ open_done z in
       record {
@@ -96,6 +95,7 @@ pub record Lent (P : ℕ) (buffers : List Row) (patch full base page : List ℕ)
   pub own : size ≡ P
   pub blocks : n ≡ blocks_in (length patch)
   pub places : m ≡ pages_in size (length full)
+  pub fits : pages_fit P base page ≡ true
   pub page_size_is : length page ≡ size
   pub base_size : (length base ≡ 0 → ⊥) → length base ≡ size
   pub patch_fit : patch_fits size (length patch) ≡ true
@@ -111,6 +111,7 @@ lent_as P rows rows' patch full base page size n m e l =
       own = l.own;
       blocks = l.blocks;
       places = l.places;
+      fits = l.fits;
       page_size_is = l.page_size_is;
       base_size = l.base_size;
       patch_fit = l.patch_fit;
@@ -118,26 +119,26 @@ lent_as P rows rows' patch full base page size n m e l =
     }
 
 -- a call with a buffer, told whether it is long enough
-module _ (P : ℕ) (patch full base page : List ℕ) (fit long : Bool) (x : Opened) (e : fit ≡ pages_fit P base page)
-    (told : opened_numbers x ≡ open_numbers P fit long patch full) where
+module _ (P : ℕ) (patch full base page : List ℕ) (fit long : Bool) (e : fit ≡ pages_fit P base page) where
   own_pages : first_of (frame_rows P (page_rows P base page) ((9 ⇐ not long) ∷ []) patch full) ≡ first_of (open_rows P fit long patch full)
   own_pages = ap (λ (t : Bool). first_of (open_rows P t long patch full)) (sym e)
 
-  pub buffered_refused : (r : Refusal) → x ≡ Refused r
+  pub buffered_refused : (r : Refusal) → opened_numbers (Err r) ≡ open_numbers P fit long patch full
       → first_of (frame_rows P (page_rows P base page) ((9 ⇐ not long) ∷ []) patch full) ≡ refusal_number r
-  buffered_refused r is = own_pages ∙ opened_refused P fit long patch full r (sym (ap opened_numbers is) ∙ told)
+  buffered_refused r told = own_pages ∙ opened_refused P fit long patch full r told
 
-  pub buffered_frame : (size n m : ℕ) → x ≡ Frame size n m
-      → (long ≡ true) × Lent P ((9 ⇐ not long) ∷ []) patch full base page size n m
-  buffered_frame size n m is =
-      let o = opened_frame P fit long patch full size n m (sym (ap opened_numbers is) ∙ told) in
+  pub buffered_frame : (f : Frame) → opened_numbers (Ok f) ≡ open_numbers P fit long patch full
+      → (long ≡ true) × Lent P ((9 ⇐ not long) ∷ []) patch full base page f.size f.n f.m
+  buffered_frame f told =
+      let o = opened_frame P fit long patch full f told in
       let pages : pages_fit P base page ≡ true = sym e ∙ o.framed.pages_fit_is in (
         o.framed.buffers_fit,
-        subst (λ (s : ℕ). Lent P ((9 ⇐ not long) ∷ []) patch full base page s n m) (sym o.own) (record {
+        subst (λ (s : ℕ). Lent P ((9 ⇐ not long) ∷ []) patch full base page s f.n f.m) (sym o.own) (record {
           none = own_pages ∙ o.framed.none;
           own = refl;
           blocks = o.blocks;
           places = o.places;
+          fits = pages;
           page_size_is = page_length P base page pages;
           base_size = base_length P base page pages;
           patch_fit = o.framed.patch_fit;
@@ -146,20 +147,20 @@ module _ (P : ℕ) (patch full base page : List ℕ) (fit long : Bool) (x : Open
       )
 
 -- and one without
-module _ (P : ℕ) (patch full base page : List ℕ) (fit : Bool) (x : Opened) (e : fit ≡ pages_fit P base page)
-    (told : opened_numbers x ≡ open_numbers P fit true patch full) where
-  pub lent_refused : (r : Refusal) → x ≡ Refused r → first_of (frame_rows P (page_rows P base page) [] patch full) ≡ refusal_number r
-  lent_refused r is = frame_pages P patch full (pages_fit P base page) ∙ buffered_refused P patch full base page fit true x e told r is
+module _ (P : ℕ) (patch full base page : List ℕ) (fit : Bool) (e : fit ≡ pages_fit P base page) where
+  pub lent_refused : (r : Refusal) → opened_numbers (Err r) ≡ open_numbers P fit true patch full
+      → first_of (frame_rows P (page_rows P base page) [] patch full) ≡ refusal_number r
+  lent_refused r told = frame_pages P patch full (pages_fit P base page) ∙ buffered_refused P patch full base page fit true e r told
 
-  pub lent_frame : (size n m : ℕ) → x ≡ Frame size n m → Lent P [] patch full base page size n m
-  lent_frame size n m is =
-      lent_as P ((9 ⇐ not true) ∷ []) [] patch full base page size n m (frame_pages P patch full (pages_fit P base page))
-      (buffered_frame P patch full base page fit true x e told size n m is).1
+  pub lent_frame : (f : Frame) → opened_numbers (Ok f) ≡ open_numbers P fit true patch full
+      → Lent P [] patch full base page f.size f.n f.m
+  lent_frame f told =
+      lent_as P ((9 ⇐ not true) ∷ []) [] patch full base page f.size f.n f.m (frame_pages P patch full (pages_fit P base page))
+      (buffered_frame P patch full base page fit true e f told).1
 
 -- one answer
-pub opened_one : (a b : Opened) → opened_numbers a ≡ opened_numbers b → a ≡ b
-opened_one (Refused q) (Refused r) e = ap Refused (refusal_one q r (ap (λ (x : FrameNumbers). x.number) e))
-opened_one (Refused q) (Frame s n m) e = absurd (refusal_some q (ap (λ (x : FrameNumbers). x.number) e))
-opened_one (Frame s n m) (Refused r) e = absurd (refusal_some r (sym (ap (λ (x : FrameNumbers). x.number) e)))
-opened_one (Frame s n m) (Frame t k l) e =
-    λ i. Frame (ap (λ (x : FrameNumbers). x.size) e i) (ap (λ (x : FrameNumbers). x.n) e i) (ap (λ (x : FrameNumbers). x.m) e i)
+pub opened_one : (a b : Result Frame Refusal) → opened_numbers a ≡ opened_numbers b → a ≡ b
+opened_one (Err q) (Err r) e = ap Err (refusal_one q r (ap (λ (x : FrameNumbers). x.number) e))
+opened_one (Err q) (Ok f) e = absurd (refusal_some q (ap (λ (x : FrameNumbers). x.number) e))
+opened_one (Ok f) (Err r) e = absurd (refusal_some r (sym (ap (λ (x : FrameNumbers). x.number) e)))
+opened_one (Ok f) (Ok g) e = λ i. Ok (record { size = (e i).size; n = (e i).n; m = (e i).m })

@@ -1,5 +1,5 @@
 -- The laws of Show: its place by what is wrong first.
-use Rattle.std.specs.Prelude.{ℕ, zero, suc, ◌+◌, ◌≤◌, ◌<◌, ◌≡◌, refl, Bool, false, not, cond, ◌&&◌, leb, length}
+use Rattle.std.specs.Prelude.{ℕ, zero, suc, ◌+◌, ◌≤◌, ◌<◌, ◌≡◌, refl, Bool, false, not, cond, ◌&&◌, leb, length, Ok, Err}
 use Rattle.std.proofs.Common.{arith, ◌∙◌}
 use Rattle.std.proofs.Math.Path.{sym, ap}
 use Rattle.std.proofs.Math.Bool.{true, and-true}
@@ -16,14 +16,14 @@ use Rattle.headers.specs.HeaderLaws.{headers_are, full_absent}
 use Rattle.layout.specs.Lengths.{blocks_in, patch_fits}
 use Rattle.slots.specs.Slots.{is_patch, payload_length}
 use Rattle.store.specs.Block.{slot_of}
-use Rattle.store.specs.Show.{show_rows, show_place}
+use Rattle.store.specs.Show.{nowhere, show_rows, show_place}
 use Rattle.layout.specs.Numbers.{refusal_number}
 use Rattle.layout.specs.NumberLaws.{refusal_some}
 use Rattle.layout.specs.declared.Refusal.{Refusal}
 use Rattle.store.specs.Open.{open_rows, open_numbers, opened_numbers}
 use Rattle.store.specs.OpenLaws.{opened_frame, opened_refused}
 use Rattle.store.specs.FrameLaws.{frame_is, frame_by}
-use Rattle.store.specs.declared.Opened.TheVariants.{Refused, Frame}
+use Rattle.store.specs.declared.frame.Frame.{Frame}
 use Rattle.store.specs.declared.Place.{Place}
 
 or_zero : (n : ℕ) → or_else n 0 ≡ n
@@ -43,27 +43,27 @@ show_rows_is P patch b =
     (first_append (patch_head_rows P patch) ((5 ⇐ leb (blocks_in (length patch)) b) ∷ (6 ⇐ not (is_patch (slot_of patch b))) ∷ []))
 
 module _ (P : ℕ) (patch : List ℕ) (b : ℕ) where
-  refused : (k : ℕ) → first_of (show_rows P patch b) ≡ k → (k ≡ 0 → ⊥) → record { at = 0; len = 0 } ≡ show_place P patch b
+  refused : (k : ℕ) → first_of (show_rows P patch b) ≡ k → (k ≡ 0 → ⊥) → nowhere ≡ show_place P patch b
   unfolding show_place
   refused k e h = sym (decided_refused _ _ (first_of (show_rows P patch b)) k e h)
 
-  pub show_length : patch_fits P (length patch) ≡ false → record { at = 0; len = 0 } ≡ show_place P patch b
+  pub show_length : patch_fits P (length patch) ≡ false → nowhere ≡ show_place P patch b
   unfolding or_else
   show_length e = refused 2 (show_rows_is P patch b ∙ rw e) (λ q. omega arith)
 
   pub show_header : (k : ℕ) → patch_fits P (length patch) ≡ true → first_of (patch_head_rows P patch) ≡ k → (k ≡ 0 → ⊥)
-      → record { at = 0; len = 0 } ≡ show_place P patch b
+      → nowhere ≡ show_place P patch b
   unfolding or_else
   show_header k e f h = refused k (show_rows_is P patch b
       ∙ rw (e, f) (or_some k (or_else (cond (leb (blocks_in (length patch)) b) 5 0) (or_else (cond (not (is_patch (slot_of patch b))) 6 0) 0))
       h)) h
 
   module _ (e : patch_fits P (length patch) ≡ true) (f : first_of (patch_head_rows P patch) ≡ 0) where
-    pub show_block : blocks_in (length patch) ≤ b → record { at = 0; len = 0 } ≡ show_place P patch b
+    pub show_block : blocks_in (length patch) ≤ b → nowhere ≡ show_place P patch b
     unfolding or_else
     show_block h = refused 5 (show_rows_is P patch b ∙ rw (e, f, le-leb (blocks_in (length patch)) b h)) (λ q. omega arith)
 
-    pub show_slot : b < blocks_in (length patch) → is_patch (slot_of patch b) ≡ false → record { at = 0; len = 0 } ≡ show_place P patch b
+    pub show_slot : b < blocks_in (length patch) → is_patch (slot_of patch b) ≡ false → nowhere ≡ show_place P patch b
     unfolding or_else
     show_slot h g = refused 6 (show_rows_is P patch b ∙ rw (e, f, lt-leb (blocks_in (length patch)) b h, g)) (λ q. omega arith)
 
@@ -88,19 +88,19 @@ module _ (P : ℕ) (patch : List ℕ) where
   unfolding or_else
   heads_told k fit e = sym (alone ∙ rw fit) ∙ e
 
-  pub opened_wrong : (b : ℕ) (r : Refusal) → opened_numbers (Refused r) ≡ open_numbers P true true patch []
-      → record { at = 0; len = 0 } ≡ show_place P patch b
+  pub opened_wrong : (b : ℕ) (r : Refusal) → opened_numbers (Err r) ≡ open_numbers P true true patch []
+      → nowhere ≡ show_place P patch b
   opened_wrong b r told = go (patch_fits P (length patch)) refl
     where
-      go : (t : Bool) → patch_fits P (length patch) ≡ t → record { at = 0; len = 0 } ≡ show_place P patch b
+      go : (t : Bool) → patch_fits P (length patch) ≡ t → nowhere ≡ show_place P patch b
       go true fit = show_header P patch b (refusal_number r) fit
           (heads_told (refusal_number r) fit (opened_refused P true true patch [] r told)) (refusal_some r)
       go false fit = show_length P patch b fit
 
-  pub opened_alone : (size n m : ℕ) → opened_numbers (Frame size n m) ≡ open_numbers P true true patch []
-      → (patch_fits P (length patch) ≡ true) × (first_of (patch_head_rows P patch) ≡ 0) × (n ≡ blocks_in (length patch))
-  opened_alone size n m told =
-      let o = opened_frame P true true patch [] size n m told in
+  pub opened_alone : (f : Frame) → opened_numbers (Ok f) ≡ open_numbers P true true patch []
+      → (patch_fits P (length patch) ≡ true) × (first_of (patch_head_rows P patch) ≡ 0) × (f.n ≡ blocks_in (length patch))
+  opened_alone f told =
+      let o = opened_frame P true true patch [] f told in
       (o.framed.patch_fit, heads_told 0 o.framed.patch_fit o.framed.none, o.blocks)
 
 -- the part lies in the patch area
@@ -108,7 +108,7 @@ pub show_within : (P : ℕ) (patch : List ℕ) (b : ℕ) → (show_place P patch
 unfolding is_patch
 show_within P patch b = go (patch_fits P (length patch)) refl
   where
-    none : record { at = 0; len = 0 } ≡ show_place P patch b → (show_place P patch b).at + (show_place P patch b).len ≤ length patch
+    none : nowhere ≡ show_place P patch b → (show_place P patch b).at + (show_place P patch b).len ≤ length patch
     none e =
         let x : 0 ≡ (show_place P patch b).at = ap (λ (p : Place). p.at) e in
         let y : 0 ≡ (show_place P patch b).len = ap (λ (p : Place). p.len) e in

@@ -6,25 +6,16 @@ use layout::{Kind, Layout, Refusal};
 use slots::SlotState;
 
 // A slot's kind and payload length. Entries are not looked at.
-pub fn judge(slot: &[u8]) -> Judged
+pub fn judge(slot: &[u8]) -> Result<Judged, Refusal>
     ensures { Judge slot.now result }
 {
     if slot.len() != Layout::SLOT {
-        return Judged::Refused(Refusal::Length);
+        return Err(Refusal::Length);
     }
-    match slots::slot_state(slot) {
-        SlotState::Empty => Judged::Done {
-            kind: Kind::Empty,
-            length: 0,
-        },
-        SlotState::Patch(n) => Judged::Done {
-            kind: Kind::Patch,
-            length: n,
-        },
-        SlotState::Full => Judged::Done {
-            kind: Kind::Full,
-            length: 0,
-        },
-        SlotState::Unsound => Judged::Refused(Refusal::Slot),
-    }
+    let (kind, length) = match slots::slot_state(slot)? {
+        SlotState::Empty => (Kind::Empty, 0),
+        SlotState::Patch(n) => (Kind::Patch, n),
+        SlotState::Full => (Kind::Full, 0),
+    };
+    Ok(Judged { kind, length })
 }

@@ -2,36 +2,24 @@
 // first byte is written.
 #![tactic(auto)]
 
+pub mod areas;
 pub mod format;
 pub mod frame;
 pub mod judge;
 pub mod show;
 
-use layout::{Kind, Refusal};
+use layout::Kind;
 
-// The frame of two areas: the page size, n and m, or the first of what is wrong before any block is looked at.
-#[derive(Clone, Copy)]
-pub enum Opened {
-    Refused(Refusal),
-    Frame { size: u32, n: u32, m: u32 },
-}
-
-// What Format answers.
-#[derive(Clone, Copy)]
-pub enum Formatted {
-    Done,
-    Refused(Refusal),
-}
-
-// What Judge answers: the slot's kind and its payload's length.
-#[derive(Clone, Copy)]
-pub enum Judged {
-    Done { kind: Kind, length: usize },
-    Refused(Refusal),
+// What Judge answers: the slot's kind and its payload's length. Carry out answers the same two of what it stored, by a type of its own: each call's
+// answer goes by its name.
+#[derive(Clone, Copy, PartialEq, Eq)]
+pub struct Judged {
+    pub kind: Kind,
+    pub length: usize,
 }
 
 // A part of a patch area.
-#[derive(Clone, Copy)]
+#[derive(Clone, Copy, PartialEq, Eq)]
 pub struct Place {
     pub at: usize,
     pub len: usize,

@@ -1,34 +1,34 @@
 // Show: a block's payload where it lies.
 ghost use Rattle.std.specs.Prelude.{◌≡◌};
 ghost use Rattle.layout.specs.Sizes.{page_size};
-ghost use Rattle.store.specs.Show.{show_place, Show};
+ghost use Rattle.store.specs.Show.{found_place, show_place, Show};
 
-use crate::{Opened, Place, frame};
-use layout::Layout;
+use crate::{Place, frame};
+use layout::{Layout, Refusal};
 
-// Where the payload of a block lies in the patch area; nowhere if anything is wrong, or the slot is not a sound PATCH. The frame is
-// opened with no full area: Show looks at the patch area alone.
+// Where the payload of a block lies in the patch area. The frame is opened with no full area: Show looks at the patch area alone.
+fn find_payload(patch: &[u8], block: usize) -> Result<Place, Refusal>
+    ensures { found_place result ≡ show_place page_size patch.now block }
+{
+    let opened = frame::open(Layout::PAGE as u32, true, true, patch, &patch[..0])?;
+    if opened.n as usize <= block {
+        return Err(Refusal::Block);
+    }
+    let at = Layout::slot_at(block as u32);
+    let Some(len) = slots::payload_length(span::part(patch, at, Layout::SLOT)) else {
+        return Err(Refusal::Slot);
+    };
+    Ok(Place {
+        at: at + Layout::PAYLOAD_AT,
+        len,
+    })
+}
+
+// The same; an empty part at 0 if anything is wrong, or the slot is not a sound PATCH: so the paper hands it out, and no Option.
 pub fn payload_place(patch: &[u8], block: usize) -> Place
     ensures { result ≡ show_place page_size patch.now block }
 {
-    let page_size = Layout::PAGE as u32;
-    match frame::open(page_size, true, true, patch, &patch[0..0]) {
-        Opened::Refused(_) => Place { at: 0, len: 0 },
-        Opened::Frame { size: _, n, m: _ } => {
-            if (n as usize) <= block {
-                return Place { at: 0, len: 0 };
-            }
-            let at = Layout::slot_at(block as u32);
-            let n = slots::payload_length(span::part(patch, at, Layout::SLOT));
-            if n == 0 {
-                return Place { at: 0, len: 0 };
-            }
-            Place {
-                at: at + Layout::PAYLOAD_AT,
-                len: n,
-            }
-        }
-    }
+    find_payload(patch, block).unwrap_or(Place { at: 0, len: 0 })
 }
 
 // A block's payload, as a part of the patch area itself, where `payload_place` says.

@@ -1,18 +1,18 @@
 -- Compare and Apply: one total function a call, from what is lent to the answer's numbers and every lent byte afterwards; and one
 -- predicate a call, which its contract cites whole.
-use Rattle.std.specs.Prelude.{ℕ, ◌≡◌, Bool, not, ◌&&◌, ◌||◌, cond, List, [], ◌∷◌, eqb, leb, ltb, length, ℤ, pos}
+use Rattle.std.specs.Prelude.{ℕ, ◌≡◌, Bool, not, ◌&&◌, ◌||◌, cond, List, [], ◌∷◌, eqb, leb, ltb, length, ℤ, pos, Result, Ok, Err}
 use Rattle.span.specs.Bytes.{zeros, splice}
 use Rattle.layout.specs.Sizes.{room, empty_kind, patch_kind, full_kind}
 use Rattle.layout.specs.Numbers.{kind_number, refusal_number}
 use Rattle.layout.specs.Refusals.{Row, ◌⇐◌, first_of, decided}
 use Rattle.layout.specs.Groups.{Grouped, ordered, ◌▸◌}
 use Rattle.layout.specs.Groups as group
+use Rattle.layout.specs.declared.Refusal.{Refusal}
+use Rattle.layout.specs.declared.RefusedAt.{RefusedAt}
+use Rattle.payload.specs.declared.Sound.{Sound}
 use Rattle.payload.specs.Entries.{start, payload_stream, sound, offset_with, entries, last, applied}
 use Rattle.writer.specs.Differences.{Change, diffs, coded, last_place}
 use Rattle.stream.specs.declared.Compared.{Compared}
-use Rattle.stream.specs.declared.Compared.TheVariants.{Done as ComparedDone, Refused as ComparedRefused}
-use Rattle.stream.specs.declared.Applied.{Applied}
-use Rattle.stream.specs.declared.Applied.TheVariants.{Done as AppliedDone, Refused as AppliedRefused}
 
 -- "a base of length 0 stands for a page of 8,192 zeros"
 unfoldable pub page_of : ℕ → List ℕ → List ℕ
@@ -66,11 +66,11 @@ compare_buffer P base page buffer =
     cond (eqb (compare_numbers P base page buffer).kind patch_kind) (splice buffer 0 (coded 0 (diffs 0 (page_of P base) page))) buffer
 
 -- the paper's numbers for each case of the answer
-abbrev pub compared_numbers : Compared → ComparedNumbers
-compared_numbers (ComparedDone k n e l) = record { number = 0; kind = kind_number k; length = n; entries = e; last = l }
-compared_numbers (ComparedRefused r) = refused_comparison (refusal_number r)
+abbrev pub compared_numbers : Result Compared Refusal → ComparedNumbers
+compared_numbers (Ok c) = record { number = 0; kind = kind_number c.kind; length = c.length; entries = c.entries; last = c.last }
+compared_numbers (Err r) = refused_comparison (refusal_number r)
 
-pub record Compare (P : ℕ) (base page buffer : List ℕ) (answer : Compared) (after : List ℕ) : Type 0 where
+pub record Compare (P : ℕ) (base page buffer : List ℕ) (answer : Result Compared Refusal) (after : List ℕ) : Type 0 where
   pub numbers : compared_numbers answer ≡ compare_numbers P base page buffer
   pub bytes : after ≡ compare_buffer P base page buffer
 
@@ -108,10 +108,10 @@ unfoldable pub apply_page : ℕ → List ℕ → List ℕ → List ℕ → List 
 apply_page P base payload page = decided (first_of (apply_rows P base payload page)) (applied (page_of P base) (payload_stream P payload))
     (λ _. page)
 
-abbrev pub applied_numbers : Applied → AppliedNumbers
-applied_numbers (AppliedDone e l) = apply_done e l
-applied_numbers (AppliedRefused r offset) = apply_refused (refusal_number r) offset
+abbrev pub applied_numbers : Result Sound RefusedAt → AppliedNumbers
+applied_numbers (Ok s) = apply_done s.entries s.last
+applied_numbers (Err r) = apply_refused (refusal_number r.refusal) r.offset
 
-pub record Apply (P : ℕ) (base payload page : List ℕ) (answer : Applied) (after : List ℕ) : Type 0 where
+pub record Apply (P : ℕ) (base payload page : List ℕ) (answer : Result Sound RefusedAt) (after : List ℕ) : Type 0 where
   pub numbers : applied_numbers answer ≡ apply_numbers P base payload page
   pub bytes : after ≡ apply_page P base payload page

@@ -1,7 +1,7 @@
 -- What a payload does, the writer's or not: where entries spell it and stay in the page, Apply counts those entries, the last of them
 -- gives the last position, and each value lands at its entry's place. What is said of the entries shares nothing with the reader's
 -- definition.
-use Rattle.std.specs.Prelude.{ℕ, suc, ◌+◌, ◌≤◌, ◌≡◌, refl, Bool, true, false, cond, List, [], ◌∷◌, ◌↔◌, ◌⊎◌, length, set, get_or, ℤ, pos, ◌+ℤ◌}
+use Rattle.std.specs.Prelude.{ℕ, suc, ◌+◌, ◌≤◌, ◌≡◌, refl, Bool, true, false, cond, List, [], ◌∷◌, ◌↔◌, ◌⊎◌, length, set, get_or, ℤ, pos, ◌+ℤ◌, Result, Ok}
 use Rattle.std.proofs.Common.{arith, sym, ap, ◌∙◌, subst, inl, inr, length-set, get_or-set_same, get_or-set_other}
 use Rattle.layout.specs.Sizes.{room}
 use Rattle.layout.specs.Refusals.{first_of}
@@ -19,8 +19,9 @@ use Rattle.writer.specs.Writer.{In, Rising, Below, placed}
 use Rattle.writer.specs.LastPlace.{LastOf, last_some}
 use Rattle.writer.specs.ReadBack.{before_next, moved, pokes}
 use Rattle.stream.specs.Only.{applied_one}
-use Rattle.stream.specs.declared.Applied.{Applied}
-use Rattle.stream.specs.declared.Applied.TheVariants.{Done, Refused}
+use Rattle.layout.specs.Numbers.{refused_at}
+use Rattle.layout.specs.declared.RefusedAt.{RefusedAt}
+use Rattle.payload.specs.declared.Sound.{Sound}
 use Rattle.layout.specs.declared.Refusal.TheVariants.{Payload}
 
 -- Where the entries put their values: in rising order, in the page
@@ -112,9 +113,9 @@ pokes_named (d ∷ cs) base next c r b (inr m) =
 -- Apply
 
 -- what Apply gives over a base for a payload that these entries spell
-pub record Landed (P : ℕ) (base : List ℕ) (es : List Spelt) (answer : Applied) (after : List ℕ) : Type 0 where
+pub record Landed (P : ℕ) (base : List ℕ) (es : List Spelt) (answer : Result Sound RefusedAt) (after : List ℕ) : Type 0 where
   -- "the number of entries it applied and the last position"
-  pub numbers : answer ≡ Done (length es) (last_place start (placed 0 es))
+  pub numbers : answer ≡ Ok (record { entries = length es; last = last_place start (placed 0 es) })
   -- the last position is the place of the last entry
   pub last_at : (i : ℕ) → (last_place start (placed 0 es) ≡ pos i) ↔ LastOf (placed 0 es) i
   -- each value at its entry's place, in order
@@ -125,7 +126,7 @@ pub record Landed (P : ℕ) (base : List ℕ) (es : List Spelt) (answer : Applie
   pub others : (i : ℕ) → ((c : Change) → In c (placed 0 es) → c.place ≡ i → ⊥) → get_or after i 0 ≡ get_or (page_of P base) i 0
   pub size : length after ≡ P
 
-module _ (P : ℕ) (base payload page : List ℕ) (answer : Applied) (after : List ℕ) (call : Apply P base payload page answer after)
+module _ (P : ℕ) (base payload page : List ℕ) (answer : Result Sound RefusedAt) (after : List ℕ) (call : Apply P base payload page answer after)
     (base_fits : (length base ≡ 0) ⊎ (length base ≡ P)) (page_fits : length page ≡ P) where
   fit : pages_fit P base page ≡ true
   fit = pages_fit_is P base page base_fits page_fits
@@ -139,7 +140,7 @@ module _ (P : ℕ) (base payload page : List ℕ) (answer : Applied) (after : Li
       let q : after ≡ pokes (page_of P base) (placed 0 es) = call.bytes ∙ d.1 ∙ l.page (page_of P base) in
       record {
         numbers =
-            applied_one answer (Done (length es) (last_place start (placed 0 es)))
+            applied_one answer (Ok (record { entries = length es; last = last_place start (placed 0 es) }))
             (call.numbers ∙ d.0 ∙ (λ i. apply_done (l.count i) (l.last start i)));
         last_at = last_some 0 (placed 0 es) (placed_rising es 0);
         page = q;
@@ -154,26 +155,26 @@ module _ (P : ℕ) (base payload page : List ℕ) (answer : Applied) (after : Li
       }
 
   -- and 7 where no entries spell it, with the offset at which they break off
-  pub apply_seven : Bytes payload → (at : ℕ) → (answer ≡ Refused Payload at) ↔ Unsound P payload at
+  pub apply_seven : Bytes payload → (at : ℕ) → (answer ≡ refused_at Payload at) ↔ Unsound P payload at
   apply_seven h at = (λ e. go (sound P payload) refl e, λ u. refused ((unsound_iff P payload h at).1 u))
     where
       number : (t : Bool) → sound P payload ≡ t → first_of (apply_rows P base payload page) ≡ cond t 0 7
       number t e = apply_number P base payload page ∙ rw (fit, e)
 
-      refused : (sound P payload ≡ false) × (at ≡ breaks_at P payload) → answer ≡ Refused Payload at
+      refused : (sound P payload ≡ false) × (at ≡ breaks_at P payload) → answer ≡ refused_at Payload at
       refused u =
-          applied_one answer (Refused Payload at)
+          applied_one answer (refused_at Payload at)
           (call.numbers ∙ (apply_not P base payload page 6 (number false u.0)).0 ∙ ap (λ (o : ℕ). apply_refused 7 o) (sym u.1))
 
-      go : (t : Bool) → sound P payload ≡ t → answer ≡ Refused Payload at → Unsound P payload at
+      go : (t : Bool) → sound P payload ≡ t → answer ≡ refused_at Payload at → Unsound P payload at
       go true s e =
           let z : ◌≡◌ {A = ℕ} 7 0 =
-          ap (λ (a : Applied). (applied_numbers a).number) (sym e)
+          ap (λ (a : Result Sound RefusedAt). (applied_numbers a).number) (sym e)
           ∙ ap (λ (x : AppliedNumbers). x.number) (call.numbers ∙ (apply_done_is P base payload page (number true s)).0) in
           absurd (omega arith)
       go false s e =
           (unsound_iff P payload h at).0 (
             s,
-            ap (λ (a : Applied). (applied_numbers a).offset) (sym e)
+            ap (λ (a : Result Sound RefusedAt). (applied_numbers a).offset) (sym e)
                 ∙ ap (λ (x : AppliedNumbers). x.offset) (call.numbers ∙ (apply_not P base payload page 6 (number false s)).0),
           )

@@ -172,3 +172,15 @@ module _ (P : ℕ) (base page buffer : List ℕ) where
       → compare_buffer P base page buffer ≡ splice buffer 0 (coded 0 (diffs 0 (page_of P base) page))
   unfolding compare_buffer
   compare_written e = ap (λ (t : ℕ). cond (eqb t 1) (splice buffer 0 (coded 0 (diffs 0 (page_of P base) page))) buffer) e
+
+-- the page that a base stands for stands for itself
+pub present_again : (P : ℕ) (base : List ℕ) → page_of P base ≡ page_of P (page_of P base)
+present_again P base = go (eqb (length base) 0) refl
+  where
+    go : (t : Bool) → eqb (length base) 0 ≡ t → page_of P base ≡ page_of P (page_of P base)
+    go true e =
+        let z : page_of P base ≡ zeros P = base_none P base (eqb-true (length base) 0 e) in
+        z ∙ sym (zeros_base P) ∙ ap (λ (l : List ℕ). page_of P l) (sym z)
+    go false e =
+        let s : page_of P base ≡ base = base_some P base (eqb-false (length base) 0 e) in
+        ap (λ (l : List ℕ). page_of P l) (sym s)

@@ -8,14 +8,14 @@ use Rattle.layout.specs.declared.Refusal.TheVariants.{Payload}
 use Rattle.payload.specs.Entries.{stream, in_page, put, applied, payload_stream}
 use Rattle.stream.specs.Calls.{page_of, Apply}
 use Rattle.stream.specs.Edges.{absent, refuses_cut}
-use Rattle.stream.specs.declared.Applied.TheVariants.{Refused as AppliedRefused}
+use Rattle.layout.specs.Numbers.{refused_at}
 
 -- the page that it leaves when it refuses: the base, and the entries before the broken one
 unfoldable pub while_checking : ℕ → List ℕ → List ℕ → List ℕ
 while_checking P base payload = applied (page_of P base) (payload_stream P payload)
 
 -- at `00 07 00` it refuses with 7, as it should, and has changed byte 0
-pub applying_while_checking : Apply page_size [] (0 ∷ 7 ∷ 0 ∷ []) (zeros page_size) (AppliedRefused Payload 2)
+pub applying_while_checking : Apply page_size [] (0 ∷ 7 ∷ 0 ∷ []) (zeros page_size) (refused_at Payload 2)
     (while_checking page_size [] (0 ∷ 7 ∷ 0 ∷ [])) → ⊥
 unfolding while_checking zeros page_of stream in_page put applied
 applying_while_checking a =

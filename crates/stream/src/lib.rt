@@ -1,72 +1,64 @@
 // A page against its base: the differences as a stream of (jump, value) entries.
 #![tactic(auto)]
 
-ghost use Rattle.std.specs.Prelude.{◌≡◌, ◌≤◌, length as length_of};
-ghost use Rattle.layout.specs.Sizes.{page_size, room as room_of};
+ghost use Rattle.std.specs.Prelude.{◌≡◌, ◌≤◌, cond, eqb, take, length as length_of};
+ghost use Rattle.layout.specs.Sizes.{page_size, patch_kind, room as room_of};
 ghost use Rattle.layout.specs.Numbers.{kind_number};
 ghost use Rattle.payload.specs.Steps.{farthest, reach};
 ghost use Rattle.stream.specs.Steps.{Applies, Compares};
-ghost use Rattle.stream.specs.Calls.{pages_fit, kind_for, Apply, Compare};
-ghost use Rattle.stream.specs.declared.Compared.TheVariants.{Done as ComparedDone};
+ghost use Rattle.stream.specs.Calls.{page_of, pages_fit, kind_for, Apply, Compare};
 
-use layout::{Kind, Layout, Refusal};
-use payload::Checked;
+use layout::{Kind, Layout, Refusal, RefusedAt};
+use payload::Sound;
 
-// What Compare answers: the kind, the stream's length, the number of entries and the last differing position.
-#[derive(Clone, Copy)]
-pub enum Compared {
-    Done {
-        kind: Kind,
-        length: usize,
-        entries: usize,
-        last: i32,
-    },
-    Refused(Refusal),
+// What Compare answers: the kind, the stream's length, the number of entries and the last differing position, by the paper −1 where none differs.
+#[derive(Clone, Copy, PartialEq, Eq)]
+pub struct Compared {
+    pub kind: Kind,
+    pub length: usize,
+    pub entries: usize,
+    pub last: i32,
 }
 
-// What Apply answers: the number of entries it applied and the last position. With a payload that is not sound comes the offset at
-// which its first unsound entry starts; with any other refusal, 0.
-#[derive(Clone, Copy)]
-pub enum Applied {
-    Done { entries: usize, last: i32 },
-    Refused { refusal: Refusal, offset: usize },
+impl Compared {
+    // Of the buffer that Compare was lent, the payload to carry out: only a patch has one, and the bytes after it would be more entries.
+    pub fn payload<'a>(&self, buffer: &'a [u8]) -> &'a [u8]
+        ensures { result.now ≡ take (cond (eqb (kind_number self.now.kind) patch_kind) self.now.length 0) buffer.now }
+    {
+        let used = match self.kind {
+            Kind::Patch => self.length.min(buffer.len()),
+            Kind::Empty | Kind::Full => 0,
+        };
+        &buffer[..used]
+    }
+}
+
+// What a base of length 0 stands for.
+static ZEROS: [u8; Layout::PAGE] = [0; Layout::PAGE];
+
+// The page that a base stands for.
+pub fn present(base: &[u8]) -> &[u8]
+    ensures { result.now ≡ page_of page_size base.now }
+{
+    if base.is_empty() { &ZEROS } else { base }
 }
 
 // Whether a base and another page have the lengths that they may have where a page has this size.
 pub fn pages_fit(size: u32, base: &[u8], page: &[u8]) -> bool
     ensures { result ≡ pages_fit size base.now page.now }
 {
-    if page.len() != size as usize {
-        return false;
-    }
-    if base.len() == 0 {
-        return true;
-    }
-    base.len() == size as usize
+    let size = size as usize;
+    page.len() == size && (base.is_empty() || base.len() == size)
 }
 
 // What a stream of this length is: none, one that fits a slot, or too long.
 pub fn kind_for(length: usize) -> Kind
     ensures { kind_number result ≡ kind_for length }
 {
-    if length == 0 {
-        return Kind::Empty;
-    }
-    if Layout::ROOM < length {
-        return Kind::Full;
-    }
-    Kind::Patch
-}
-
-// The answer of a Compare that is not refused.
-fn answered(kind: Kind, length: usize, entries: usize, last: i32) -> Compared
-    ensures { result ≡ ComparedDone kind length entries last }
-{
-    Compared::Done {
-        kind: kind,
-        length: length,
-        entries: entries,
-        last: last,
+    match length {
+        0 => Kind::Empty,
+        1..=Layout::ROOM => Kind::Patch,
+        _ => Kind::Full,
     }
 }
 
@@ -78,68 +70,49 @@ fn compare_to(base: &[u8], page: &[u8], payload: &mut [u8]) -> Compared
     let mut room = [0u8; Layout::ROOM];
     let d = writer::stream_of(base, page, &mut room);
     let length = d.length;
-    match kind_for(length) {
-        Kind::Empty => answered(Kind::Empty, length, d.entries, d.last),
-        Kind::Full => answered(Kind::Full, length, d.entries, d.last),
-        Kind::Patch => {
-            span::copy(payload, &room[0..length]);
-            answered(Kind::Patch, length, d.entries, d.last)
-        }
+    let kind = kind_for(length);
+    if let Kind::Patch = kind {
+        span::copy(payload, &room[..length]);
+    }
+    Compared {
+        kind,
+        length,
+        entries: d.entries,
+        last: d.last,
     }
 }
 
 // Finds what a page differs in from its base.
-pub fn compare(base: &[u8], page: &[u8], payload: &mut [u8]) -> Compared
+pub fn compare(base: &[u8], page: &[u8], payload: &mut [u8]) -> Result<Compared, Refusal>
     ensures { Compare page_size base.now page.now payload.old result payload.new }
 {
     if !pages_fit(Layout::PAGE as u32, base, page) {
-        return Compared::Refused(Refusal::Page);
+        return Err(Refusal::Page);
     }
     if payload.len() < Layout::ROOM {
-        return Compared::Refused(Refusal::Buffer);
+        return Err(Refusal::Buffer);
     }
-    if base.len() == 0 {
-        let zeros = [0u8; Layout::PAGE];
-        return compare_to(&zeros, page, payload);
-    }
-    compare_to(base, page, payload)
+    Ok(compare_to(present(base), page, payload))
 }
 
 // Apply to a base that is there, copied as far as it and the page go. The whole payload is checked before the page's first byte is
 // written.
-pub fn apply_to(base: &[u8], payload: &[u8], page: &mut [u8]) -> Applied
+pub fn apply_to(base: &[u8], payload: &[u8], page: &mut [u8]) -> Result<Sound, RefusedAt>
     ensures { Applies (reach (length_of page.old)) base.now payload.now page.old result
         page.new }
 {
-    match payload::check(payload, page.len()) {
-        Checked::Unsound { offset } => Applied::Refused {
-            refusal: Refusal::Payload,
-            offset,
-        },
-        Checked::Sound { entries, last } => {
-            span::copy(page, base);
-            payload::overlay(page, payload);
-            Applied::Done {
-                entries: entries,
-                last: last,
-            }
-        }
-    }
+    let sound = payload::check(payload, page.len())?;
+    span::copy(page, base);
+    payload::overlay(page, payload);
+    Ok(sound)
 }
 
-// Lays a payload over its base into a page.
-pub fn apply(base: &[u8], payload: &[u8], page: &mut [u8]) -> Applied
+// Lays a payload over its base into a page. It answers the number of entries that it applied and the last position.
+pub fn apply(base: &[u8], payload: &[u8], page: &mut [u8]) -> Result<Sound, RefusedAt>
     ensures { Apply page_size base.now payload.now page.old result page.new }
 {
     if !pages_fit(Layout::PAGE as u32, base, page) {
-        return Applied::Refused {
-            refusal: Refusal::Page,
-            offset: 0,
-        };
+        return Err(Refusal::Page.into());
     }
-    if base.len() == 0 {
-        let zeros = [0u8; Layout::PAGE];
-        return apply_to(&zeros, payload, page);
-    }
-    apply_to(base, payload, page)
+    apply_to(present(base), payload, page)
 }

@@ -4,16 +4,15 @@ use native.Mathlib.Omega.{arith}
 use mathlib.Core.Path.{◌≡◌, sym, ap, ◌∙◌}
 use mathlib.Core.Bool.{Bool, true, cond}
 use mathlib.Core.List.{List}
+use Rattle.std.specs.Prelude.{Ok, Err}
 use lib.ListN.{length}
 use borrow.Rule.Slice.PartMut.{mid_of, put_mid}
 use Rattle.span.specs.Bytes.{zeros, splice}
 use Rattle.span.specs.Laws.{put_filled}
-use Rattle.layout.specs.Sizes.{segment, slot_at, page_at}
-use Rattle.layout.specs.Numbers.{refusal_number, fault_number}
+use Rattle.layout.specs.Sizes.{slot_at, page_at}
+use Rattle.layout.specs.Numbers.{refusal_number}
 use Rattle.layout.specs.NumberLaws.{refusal_some}
 use Rattle.layout.specs.declared.Refusal.{Refusal}
-use Rattle.layout.specs.declared.Fault.{Fault}
-use Rattle.layout.specs.declared.Fault.TheVariants.{Nothing, Found}
 use Rattle.layout.specs.FirstFault.{first_fault}
 use Rattle.layout.specs.Lengths.{blocks_in, pages_in}
 use Rattle.layout.specs.LengthLaws.{patch_fits_is}
@@ -21,8 +20,7 @@ use Rattle.store.specs.Block.{Places}
 use Rattle.store.specs.FrameLaws.{fewer_places, places}
 use Rattle.store.specs.Open.{open_numbers, opened_numbers}
 use Rattle.store.specs.OpenLaws.{Opening, opened_frame, opened_refused}
-use Rattle.store.specs.declared.Opened.{Opened}
-use Rattle.store.specs.declared.Opened.TheVariants.{Refused, Frame}
+use Rattle.store.specs.declared.frame.Frame.{Frame}
 use Rattle.sweeping.specs.Sweep.{zeroed_but, refers, sweep_outcome, sweep_refused}
 use Rattle.sweeping.specs.Parts.{slot_fault, marked}
 use Rattle.sweeping.specs.ZeroedLaws.{zeroed_more}
@@ -43,23 +41,20 @@ place_swept keeps P full now after b e f =
     f ∙ ap (λ (rest : List ℕ). cond (keeps b) rest (splice rest (page_at P b) (zeros P))) e ∙ sym (zeroed_more keeps P full b)
 
 -- what the opened frame tells
-module _ (P : ℕ) (patch full : List ℕ) (x : Opened) (told : opened_numbers x ≡ open_numbers P true true patch full) where
-  pub told_refused : (r : Refusal) → x ≡ Refused r → sweep_outcome P patch full ≡ sweep_refused (refusal_number r) full
-  told_refused r is =
-      sweep_frame P patch full (refusal_number r) (opened_refused P true true patch full r (sym (ap opened_numbers is) ∙ told)) (refusal_some r)
+module _ (P : ℕ) (patch full : List ℕ) where
+  pub told_refused : (r : Refusal) → opened_numbers (Err r) ≡ open_numbers P true true patch full
+      → sweep_outcome P patch full ≡ sweep_refused (refusal_number r) full
+  told_refused r told = sweep_frame P patch full (refusal_number r) (opened_refused P true true patch full r told) (refusal_some r)
 
-  module _ (size n m : ℕ) (is : x ≡ Frame size n m) where
-    frame : Opening P true true patch full size n m
-    frame = opened_frame P true true patch full size n m (sym (ap opened_numbers is) ∙ told)
+  module _ (f : Frame) (told : opened_numbers (Ok f) ≡ open_numbers P true true patch full) where
+    frame : Opening P true true patch full f.size f.n f.m
+    frame = opened_frame P true true patch full f told
 
-    fewer : m ≤ n
+    fewer : f.m ≤ f.n
     fewer = omega (arith, frame.blocks, frame.places, fewer_places P (blocks_in (length patch)) (length full) frame.framed.full_fit)
 
-    pub told_few : (m ≤ n) × (n ≤ segment)
-    told_few = (fewer, omega (arith, frame.blocks, frame.framed.few_blocks))
-
     -- every slot that a place is swept by is there, and so is every place
-    pub told_places : 0 < P → (slot_at m ≤ length patch) × (m ≡ pages_in size (length full)) × Places size full
+    pub told_places : 0 < P → (slot_at f.m ≤ length patch) × (f.m ≡ pages_in f.size (length full)) × Places f.size full
     told_places h =
         rw frame.own (
           omega (arith, fewer, frame.blocks, (patch_fits_is P (length patch) frame.framed.patch_fit).0),
@@ -68,19 +63,21 @@ module _ (P : ℕ) (patch full : List ℕ) (x : Opened) (told : opened_numbers x
         )
 
     -- and the first fault of all the slots decides
-    module _ (k : ℕ) (f : Fault) (fault : fault_number f ≡ (first_fault (slot_fault m patch) 0 k).number) (all : k ≡ n) where
-      slots : (first_fault (slot_fault (pages_in P (length full)) patch) 0 (blocks_in (length patch))).number ≡ fault_number f
-      slots =
-          ap (λ (j : ℕ). (first_fault (slot_fault j patch) 0 (blocks_in (length patch))).number) (sym frame.places)
-          ∙ ap (λ (j : ℕ). (first_fault (slot_fault m patch) 0 j).number) (sym (all ∙ frame.blocks)) ∙ sym fault
+    slots : (first_fault (slot_fault (pages_in P (length full)) patch) 0 (blocks_in (length patch))).number
+        ≡ (first_fault (slot_fault f.m patch) 0 f.n).number
+    slots =
+        ap (λ (j : ℕ). (first_fault (slot_fault j patch) 0 (blocks_in (length patch))).number) (sym frame.places)
+        ∙ ap (λ (j : ℕ). (first_fault (slot_fault f.m patch) 0 j).number) (sym frame.blocks)
 
-      pub told_faulty : (r : Refusal) → f ≡ Found r → sweep_outcome P patch full ≡ sweep_refused (refusal_number r) full
-      told_faulty r q = sweep_faulty P patch full frame.framed.none (refusal_number r) (slots ∙ ap fault_number q) (refusal_some r)
+    pub told_faulty : (r : Refusal) → refusal_number r ≡ (first_fault (slot_fault f.m patch) 0 f.n).number
+        → sweep_outcome P patch full ≡ sweep_refused (refusal_number r) full
+    told_faulty r e = sweep_faulty P patch full frame.framed.none (refusal_number r) (slots ∙ sym e) (refusal_some r)
 
-      pub told_swept : f ≡ Nothing → sweep_outcome P patch full ≡ record { number = 0; full = zeroed_but (marked patch) size m full }
-      told_swept q =
-          sweep_sound P patch full frame.framed.none (slots ∙ ap fault_number q)
-          ∙ ap (λ (l : List ℕ). record { number = 0; full = l })
-          (sym
-          (kept_marked m patch k size m full (sym fault ∙ ap fault_number q) (omega (arith, fewer))
-          ∙ (λ i. zeroed_but (refers patch) (frame.own i) (frame.places i) full)))
+    pub told_swept : 0 ≡ (first_fault (slot_fault f.m patch) 0 f.n).number
+        → sweep_outcome P patch full ≡ record { number = 0; full = zeroed_but (marked patch) f.size f.m full }
+    told_swept e =
+        sweep_sound P patch full frame.framed.none (slots ∙ sym e)
+        ∙ ap (λ (l : List ℕ). record { number = 0; full = l })
+        (sym
+        (kept_marked f.m patch f.n f.size f.m full (sym e) fewer
+        ∙ (λ i. zeroed_but (refers patch) (frame.own i) (frame.places i) full)))

@@ -1,8 +1,9 @@
 -- Sweep: "A sweep zeroes every place whose slot is not FULL_REF." No payload is looked at, and the patch area is only read.
-use Rattle.std.specs.Prelude.{ℕ, zero, suc, ◌≡◌, Bool, cond, List, [], ◌∷◌, ◌++◌, eqb, length}
+use Rattle.std.specs.Prelude.{ℕ, zero, suc, ◌≡◌, Bool, cond, List, [], ◌∷◌, ◌++◌, eqb, length, Result, ⊤}
 use Rattle.span.specs.Bytes.{zeros, splice}
 use Rattle.layout.specs.Sizes.{page_at, full_kind}
-use Rattle.layout.specs.Numbers.{refusal_number}
+use Rattle.layout.specs.Numbers.{answer_number}
+use Rattle.layout.specs.declared.Refusal.{Refusal}
 use Rattle.layout.specs.Refusals.{Row, first_of, decided}
 use Rattle.layout.specs.Groups.{Grouped, ordered, ◌▸◌}
 use Rattle.layout.specs.Groups as group
@@ -11,8 +12,6 @@ use Rattle.layout.specs.Lengths.{blocks_in, pages_in, length_rows}
 use Rattle.headers.specs.Headers.{header_rows}
 use Rattle.slots.specs.Slots.{slot_numbers}
 use Rattle.store.specs.Block.{slot_of, slot_rows, full_rows}
-use Rattle.sweeping.specs.declared.Swept.{Swept}
-use Rattle.sweeping.specs.declared.Swept.TheVariants.{Done, Refused}
 
 -- "2, headers"
 abbrev pub sweep_groups : ℕ → List ℕ → List ℕ → List Grouped
@@ -62,11 +61,6 @@ sweep_refused number full = record { number = number; full = full }
 unfoldable pub sweep_outcome : ℕ → List ℕ → List ℕ → SweepOutcome
 sweep_outcome P patch full = decided (first_of (sweep_rows P patch full)) (sweep_done P patch full) (λ k. sweep_refused k full)
 
--- the paper's number for each case of the answer
-abbrev pub swept_number : Swept → ℕ
-swept_number Done = 0
-swept_number (Refused r) = refusal_number r
-
-pub record Sweep (P : ℕ) (patch full : List ℕ) (answer : Swept) (full' : List ℕ) : Type 0 where
-  pub numbers : swept_number answer ≡ (sweep_outcome P patch full).number
+pub record Sweep (P : ℕ) (patch full : List ℕ) (answer : Result ⊤ Refusal) (full' : List ℕ) : Type 0 where
+  pub numbers : answer_number answer ≡ (sweep_outcome P patch full).number
   pub full_bytes : full' ≡ (sweep_outcome P patch full).full

@@ -52,7 +52,8 @@ pub kept_marked : (m : ℕ) (patch : List ℕ) (n P k : ℕ) (full : List ℕ) �
     → zeroed_but (marked patch) P k full ≡ zeroed_but (refers patch) P k full
 kept_marked m patch n P k full e h =
     zeroed_same (marked patch) (refers patch) P k full
-    (λ b l. ap (λ (x : ℕ). eqb x full_kind) (sym (kind_at_is patch b (fault_sound m patch b ((none_below (slot_fault m patch) n).0 e b (omega arith))))))
+    (λ b l. ap (λ (x : ℕ). eqb x full_kind)
+    (sym (kind_at_is patch b (fault_sound m patch b ((none_below (slot_fault m patch) n).0 e b (omega arith))))))
 
 -- The whole call
 

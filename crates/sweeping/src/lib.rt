@@ -3,60 +3,39 @@
 
 ghost use Rattle.std.specs.Prelude.{◌≤◌, ◌≡◌, length, cond, ◌+◌};
 ghost use Rattle.span.specs.Bytes.{zeros, splice};
-ghost use Rattle.layout.specs.Sizes.{page_size, segment, slot_size, slot_at, page_at};
-ghost use Rattle.layout.specs.Numbers.{fault_number};
+ghost use Rattle.layout.specs.Sizes.{page_size, slot_size, slot_at, page_at};
+ghost use Rattle.layout.specs.Numbers.{answer_number};
 ghost use Rattle.layout.specs.FirstFault.{first_fault};
 ghost use Rattle.layout.specs.Lengths.{pages_in};
 ghost use Rattle.store.specs.Block.{Places};
 ghost use Rattle.sweeping.specs.Sweep.{zeroed_but, Sweep};
 ghost use Rattle.sweeping.specs.Parts.{slot_fault, marked};
 
-use layout::{Fault, Layout, Refusal};
+use layout::{Layout, Refusal};
 use slots::SlotState;
-use store::Opened;
-
-// What Sweep answers.
-#[derive(Clone, Copy)]
-pub enum Swept {
-    Done,
-    Refused(Refusal),
-}
+use store::frame::{self, Frame};
 
 // What is wrong with one block's slot, beside m pages: it is not sound, or its page is not there. Its payload is not looked at.
-fn slot_fault(m: u32, patch: &[u8], block: u32) -> Fault
-    ensures { fault_number result ≡ slot_fault m patch.now block }
+fn check_slot(m: u32, patch: &[u8], block: u32) -> Result<(), Refusal>
+    ensures { answer_number result ≡ slot_fault m patch.now block }
 {
     let slot = span::part(patch, Layout::slot_at(block), Layout::SLOT);
-    match slots::slot_state(slot) {
-        SlotState::Unsound => Fault::Found(Refusal::Slot),
-        SlotState::Full => {
-            if m <= block {
-                return Fault::Found(Refusal::FullPage);
-            }
-            Fault::Nothing
-        }
-        SlotState::Patch(_) => Fault::Nothing,
-        SlotState::Empty => Fault::Nothing,
+    match slots::slot_state(slot)? {
+        SlotState::Empty | SlotState::Patch(_) => Ok(()),
+        SlotState::Full if block < m => Ok(()),
+        SlotState::Full => Err(Refusal::FullPage),
     }
 }
 
-// What is wrong first with n slots, in rising order.
-fn first_fault(m: u32, patch: &[u8], n: usize) -> Fault
-    requires { n ≤ segment }
-    ensures { fault_number result ≡ (first_fault (slot_fault m patch.now) 0 n).number }
+// What is wrong first with the slots, in rising order.
+#[tactic(auto, using(layout::specs::FirstFaultLaws::fault_here, layout::specs::FirstFaultLaws::fault_next, layout::specs::FirstFaultLaws::fault_end))]
+fn check_slots(frame: Frame, patch: &[u8]) -> Result<(), Refusal>
+    ensures { answer_number result ≡ (first_fault (slot_fault frame.m patch.now) 0 frame.n).number }
 {
-    let mut block = 0;
-    while block < n {
-        match slot_fault(m, patch, block as u32) {
-            Fault::Found(refusal) => {
-                return Fault::Found(refusal);
-            }
-            Fault::Nothing => {
-                block += 1;
-            }
-        }
+    for block in 0..frame.n {
+        check_slot(frame.m, patch, block)?;
     }
-    Fault::Nothing
+    Ok(())
 }
 
 // Whether a sound slot is FULL_REF, by its first byte alone.
@@ -83,32 +62,21 @@ fn sweep_place(size: u32, patch: &[u8], full: &mut [u8], block: u32)
 }
 
 // The same for the first m blocks, all of whose slots are sound.
-fn sweep_places(size: u32, m: u32, patch: &[u8], full: &mut [u8])
-    requires { (slot_at m ≤ length patch.now) × (m ≡ pages_in size (length full.old)) × Places size full.old }
-    ensures { full.new ≡ zeroed_but (marked patch.now) size m full.old }
+fn sweep_places(frame: Frame, patch: &[u8], full: &mut [u8])
+    requires { (slot_at frame.m ≤ length patch.now) × (frame.m ≡ pages_in frame.size (length full.old)) × Places frame.size full.old }
+    ensures { full.new ≡ zeroed_but (marked patch.now) frame.size frame.m full.old }
 {
-    let mut block = 0;
-    while block < m {
-        sweep_place(size, patch, full, block);
-        block += 1;
+    for block in 0..frame.m {
+        sweep_place(frame.size, patch, full, block);
     }
 }
 
 // Every slot is checked before the first place is changed.
-pub fn sweep(patch: &[u8], full: &mut [u8]) -> Swept
+pub fn sweep(patch: &[u8], full: &mut [u8]) -> Result<(), Refusal>
     ensures { Sweep page_size patch.now full.old result full.new }
 {
-    let page_size = Layout::PAGE as u32;
-    match store::frame::open(page_size, true, true, patch, full) {
-        Opened::Refused(refusal) => Swept::Refused(refusal),
-        Opened::Frame { size, n, m } => {
-            match first_fault(m, patch, n as usize) {
-                Fault::Found(refusal) => Swept::Refused(refusal),
-                Fault::Nothing => {
-                    sweep_places(size, m, patch, full);
-                    Swept::Done
-                }
-            }
-        }
-    }
+    let frame = frame::open(Layout::PAGE as u32, true, true, patch, full)?;
+    check_slots(frame, patch)?;
+    sweep_places(frame, patch, full);
+    Ok(())
 }

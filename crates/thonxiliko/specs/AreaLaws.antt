@@ -1,17 +1,19 @@
 -- The exported calls on areas and slots: from the answer beneath to the struct, and no second outcome.
-use Rattle.std.specs.Prelude.{ℕ, ◌≡◌, List}
+use Rattle.std.specs.Prelude.{ℕ, ◌≡◌, List, Result, ⊤}
 use Rattle.std.proofs.Common.{sym, ◌∙◌}
-use Rattle.store.specs.Format.{Format, formatted_number}
+use Rattle.layout.specs.Numbers.{answer_number}
+use Rattle.store.specs.Format.{Format}
 use Rattle.store.specs.Judge.{Judge, judged_numbers}
 use Rattle.reading.specs.Read.{Read, reading_numbers}
 use Rattle.carrying.specs.Puts.{Decision}
 use Rattle.carrying.specs.CarryOut.{CarryOut, written_numbers}
 use Rattle.building.specs.Build.{Build, built_numbers}
-use Rattle.store.specs.declared.Formatted.{Formatted}
+use Rattle.layout.specs.declared.Kind.{Kind}
+use Rattle.layout.specs.declared.Refusal.{Refusal}
+use Rattle.layout.specs.declared.RefusedAt.{RefusedAt}
 use Rattle.store.specs.declared.Judged.{Judged}
-use Rattle.reading.specs.declared.Reading.{Reading}
 use Rattle.carrying.specs.declared.Written.{Written}
-use Rattle.building.specs.declared.Built.{Built}
+use Rattle.building.specs.declared.RefusedIn.{RefusedIn}
 use Rattle.thonxiliko.specs.declared.thx_done.{thx_done}
 use Rattle.thonxiliko.specs.declared.thx_judged.{thx_judged}
 use Rattle.thonxiliko.specs.declared.thx_part.{thx_part}
@@ -23,23 +25,23 @@ use Rattle.thonxiliko.specs.Areas.{judged_members, part_members, read_members, w
 
 -- a struct that holds the numbers of the answer beneath is as good as that answer
 
-pub format_held : {P : ℕ} {patch full patch' full' : List ℕ} {a : Formatted} {r : thx_done}
-    → Format P patch full a patch' full' → r.number ≡ formatted_number a → ThxFormat P patch full r patch' full'
+pub format_held : {P : ℕ} {patch full patch' full' : List ℕ} {a : Result ⊤ Refusal} {r : thx_done}
+    → Format P patch full a patch' full' → r.number ≡ answer_number a → ThxFormat P patch full r patch' full'
 format_held f e = record { numbers = e ∙ f.numbers; patch_bytes = f.patch_bytes; full_bytes = f.full_bytes }
 
-pub judge_held : {slot : List ℕ} {a : Judged} {r : thx_judged} → Judge slot a → judged_members r ≡ judged_numbers a → ThxJudge slot r
+pub judge_held : {slot : List ℕ} {a : Result Judged Refusal} {r : thx_judged} → Judge slot a → judged_members r ≡ judged_numbers a → ThxJudge slot r
 judge_held f e = record { numbers = e ∙ f.numbers }
 
-pub read_held : {P b : ℕ} {patch full base page page' : List ℕ} {a : Reading} {r : thx_reading}
+pub read_held : {P b : ℕ} {patch full base page page' : List ℕ} {a : Result Kind RefusedAt} {r : thx_reading}
     → Read P patch full b base page a page' → read_members r ≡ reading_numbers a → ThxRead P patch full b base page r page'
 read_held f e = record { numbers = e ∙ f.numbers; bytes = f.bytes }
 
-pub carry_held : {P b stores : ℕ} {patch full patch' full' : List ℕ} {d : Decision} {a : Written} {r : thx_written}
+pub carry_held : {P b stores : ℕ} {patch full patch' full' : List ℕ} {d : Decision} {a : Result Written Refusal} {r : thx_written}
     → CarryOut P patch full b d stores a patch' full' → written_members r ≡ written_numbers a
     → ThxCarryOut P patch full b d stores r patch' full'
 carry_held f e = record { numbers = e ∙ f.numbers; patch_bytes = f.patch_bytes; full_bytes = f.full_bytes }
 
-pub build_held : {P : ℕ} {patch full map map' : List ℕ} {a : Built} {r : thx_built}
+pub build_held : {P : ℕ} {patch full map map' : List ℕ} {a : Result ⊤ RefusedIn} {r : thx_built}
     → Build P patch full map a map' → built_members r ≡ built_numbers a → ThxBuild P patch full map r map'
 build_held f e = record { numbers = e ∙ f.numbers; bytes = f.bytes }
 

@@ -1,28 +1,28 @@
 -- The exported calls that cut a table short: from the answer beneath to the struct, and no second outcome.
-use Rattle.std.specs.Prelude.{ℕ, ◌≡◌, List}
+use Rattle.std.specs.Prelude.{ℕ, ◌≡◌, List, Result, ⊤}
 use Rattle.std.proofs.Common.{sym, ◌∙◌}
-use Rattle.cutting.specs.Cut.{Cut, shortened_number}
+use Rattle.layout.specs.Numbers.{answer_number}
+use Rattle.layout.specs.declared.Refusal.{Refusal}
+use Rattle.cutting.specs.Cut.{Cut}
 use Rattle.cutting.specs.Mapped.{CutMapped}
 use Rattle.cutting.specs.Highest.{Highest, extent_numbers}
-use Rattle.cutting.specs.declared.Extent.{Extent}
-use Rattle.cutting.specs.declared.Shortened.{Shortened}
 use Rattle.thonxiliko.specs.declared.thx_done.{thx_done}
 use Rattle.thonxiliko.specs.declared.thx_extent.{thx_extent}
 use Rattle.thonxiliko.specs.Cuts.{ThxCut, ThxCutMapped, extent_members, ThxHighest}
 
 -- a struct that holds the numbers of the answer beneath is as good as that answer
 
-pub cut_held : {P K : ℕ} {patch full patch' full' : List ℕ} {a : Shortened} {r : thx_done}
-    → Cut P patch full K a patch' full' → r.number ≡ shortened_number a → ThxCut P patch full K r patch' full'
+pub cut_held : {P K : ℕ} {patch full patch' full' : List ℕ} {a : Result ⊤ Refusal} {r : thx_done}
+    → Cut P patch full K a patch' full' → r.number ≡ answer_number a → ThxCut P patch full K r patch' full'
 cut_held f e = record { numbers = e ∙ f.numbers; patch_bytes = f.patch_bytes; full_bytes = f.full_bytes }
 
-pub cut_mapped_held : {P K : ℕ} {patch full map patch' full' map' : List ℕ} {a : Shortened} {r : thx_done}
-    → CutMapped P patch full map K a patch' full' map' → r.number ≡ shortened_number a
+pub cut_mapped_held : {P K : ℕ} {patch full map patch' full' map' : List ℕ} {a : Result ⊤ Refusal} {r : thx_done}
+    → CutMapped P patch full map K a patch' full' map' → r.number ≡ answer_number a
     → ThxCutMapped P patch full map K r patch' full' map'
 cut_mapped_held f e =
     record { numbers = e ∙ f.numbers; patch_bytes = f.patch_bytes; full_bytes = f.full_bytes; map_bytes_is = f.map_bytes_is }
 
-pub highest_held : {P : ℕ} {patch : List ℕ} {a : Extent} {r : thx_extent} → Highest P patch a → extent_members r ≡ extent_numbers a
+pub highest_held : {P : ℕ} {patch : List ℕ} {a : Result ℕ Refusal} {r : thx_extent} → Highest P patch a → extent_members r ≡ extent_numbers a
     → ThxHighest P patch r
 highest_held f e = record { numbers = e ∙ f.numbers }
 

@@ -1,8 +1,9 @@
 -- The exported calls on a block map: from the answer beneath to the struct, and no second outcome.
-use Rattle.std.specs.Prelude.{ℕ, ◌≡◌, List}
+use Rattle.std.specs.Prelude.{ℕ, ◌≡◌, List, Result}
 use Rattle.std.proofs.Common.{sym, ◌∙◌}
 use Rattle.blockmap.specs.Calls.{looked_numbers, LookUp, tallied_numbers, Tally}
-use Rattle.blockmap.specs.declared.Looked.{Looked}
+use Rattle.layout.specs.declared.Kind.{Kind}
+use Rattle.layout.specs.declared.Refusal.{Refusal}
 use Rattle.blockmap.specs.declared.Tallied.{Tallied}
 use Rattle.thonxiliko.specs.declared.thx_pair.{thx_pair}
 use Rattle.thonxiliko.specs.declared.thx_tallied.{thx_tallied}
@@ -10,11 +11,11 @@ use Rattle.thonxiliko.specs.Maps.{pair_members, ThxLookUp, tallied_members, ThxT
 
 -- a struct that holds the numbers of the answer beneath is as good as that answer
 
-pub look_up_held : {P n b : ℕ} {map : List ℕ} {a : Looked} {r : thx_pair} → LookUp P map n b a → pair_members r ≡ looked_numbers a
+pub look_up_held : {P n b : ℕ} {map : List ℕ} {a : Result Kind Refusal} {r : thx_pair} → LookUp P map n b a → pair_members r ≡ looked_numbers a
     → ThxLookUp P map n b r
 look_up_held f e = record { numbers = e ∙ f.numbers }
 
-pub tally_held : {P n : ℕ} {map : List ℕ} {a : Tallied} {r : thx_tallied} → Tally P map n a → tallied_members r ≡ tallied_numbers a
+pub tally_held : {P n : ℕ} {map : List ℕ} {a : Result Tallied Refusal} {r : thx_tallied} → Tally P map n a → tallied_members r ≡ tallied_numbers a
     → ThxTally P map n r
 tally_held f e = record { numbers = e ∙ f.numbers }
 

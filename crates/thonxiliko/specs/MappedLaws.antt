@@ -1,12 +1,14 @@
 -- The exported calls on areas and a lent map: from the answer beneath to the struct, and no second outcome.
-use Rattle.std.specs.Prelude.{ℕ, ◌≡◌, List}
+use Rattle.std.specs.Prelude.{ℕ, ◌≡◌, List, Result}
 use Rattle.std.proofs.Common.{sym, ◌∙◌}
 use Rattle.reading.specs.Read.{reading_numbers}
 use Rattle.reading.specs.Mapped.{ReadMapped}
 use Rattle.carrying.specs.Puts.{Decision}
 use Rattle.carrying.specs.CarryOut.{written_numbers}
 use Rattle.carrying.specs.Mapped.{CarryOutMapped}
-use Rattle.reading.specs.declared.Reading.{Reading}
+use Rattle.layout.specs.declared.Kind.{Kind}
+use Rattle.layout.specs.declared.Refusal.{Refusal}
+use Rattle.layout.specs.declared.RefusedAt.{RefusedAt}
 use Rattle.carrying.specs.declared.Written.{Written}
 use Rattle.thonxiliko.specs.declared.thx_reading.{thx_reading}
 use Rattle.thonxiliko.specs.declared.thx_written.{thx_written}
@@ -15,13 +17,13 @@ use Rattle.thonxiliko.specs.Mapped.{ThxCarryOutMapped, ThxReadMapped}
 
 -- a struct that holds the numbers of the answer beneath is as good as that answer
 
-pub carry_mapped_held : {P b stores : ℕ} {patch full map patch' full' map' : List ℕ} {d : Decision} {a : Written} {r : thx_written}
+pub carry_mapped_held : {P b stores : ℕ} {patch full map patch' full' map' : List ℕ} {d : Decision} {a : Result Written Refusal} {r : thx_written}
     → CarryOutMapped P patch full map b d stores a patch' full' map' → written_members r ≡ written_numbers a
     → ThxCarryOutMapped P patch full map b d stores r patch' full' map'
 carry_mapped_held f e =
     record { numbers = e ∙ f.numbers; patch_bytes = f.patch_bytes; full_bytes = f.full_bytes; map_bytes_is = f.map_bytes_is }
 
-pub read_mapped_held : {P b : ℕ} {patch full map base page page' : List ℕ} {a : Reading} {r : thx_reading}
+pub read_mapped_held : {P b : ℕ} {patch full map base page page' : List ℕ} {a : Result Kind RefusedAt} {r : thx_reading}
     → ReadMapped P patch full map b base page a page' → read_members r ≡ reading_numbers a
     → ThxReadMapped P patch full map b base page r page'
 read_mapped_held f e = record { numbers = e ∙ f.numbers; bytes = f.bytes }

@@ -1,11 +1,13 @@
 -- The exported calls on pages and payloads: from the answer beneath to the struct, and no second outcome.
-use Rattle.std.specs.Prelude.{ℕ, ◌≡◌, List, ℤ}
+use Rattle.std.specs.Prelude.{ℕ, ◌≡◌, List, ℤ, Result}
 use Rattle.std.proofs.Common.{sym, ap, ◌∙◌}
 use Rattle.stream.specs.Calls.{compared_numbers, Compare, applied_numbers, Apply}
 use Rattle.entry_reader.specs.Turns.{turn_numbers, turn_at, Turned}
 use Rattle.entry_reader.specs.declared.Turn.{Turn}
 use Rattle.stream.specs.declared.Compared.{Compared}
-use Rattle.stream.specs.declared.Applied.{Applied}
+use Rattle.layout.specs.declared.Refusal.{Refusal}
+use Rattle.layout.specs.declared.RefusedAt.{RefusedAt}
+use Rattle.payload.specs.declared.Sound.{Sound}
 use Rattle.thonxiliko.specs.declared.thx_compared.{thx_compared}
 use Rattle.thonxiliko.specs.declared.thx_applied.{thx_applied}
 use Rattle.thonxiliko.specs.declared.thx_entry.{thx_entry}
@@ -13,11 +15,11 @@ use Rattle.thonxiliko.specs.Pages.{compared_members, ThxCompare, applied_members
 
 -- a struct that holds the numbers of the answer beneath is as good as that answer
 
-pub compare_held : {P : ℕ} {base page buffer after : List ℕ} {a : Compared} {r : thx_compared}
+pub compare_held : {P : ℕ} {base page buffer after : List ℕ} {a : Result Compared Refusal} {r : thx_compared}
     → Compare P base page buffer a after → compared_members r ≡ compared_numbers a → ThxCompare P base page buffer r after
 compare_held f e = record { numbers = e ∙ f.numbers; bytes = f.bytes }
 
-pub apply_held : {P : ℕ} {base payload page after : List ℕ} {a : Applied} {r : thx_applied}
+pub apply_held : {P : ℕ} {base payload page after : List ℕ} {a : Result Sound RefusedAt} {r : thx_applied}
     → Apply P base payload page a after → applied_members r ≡ applied_numbers a → ThxApply P base payload page r after
 apply_held f e = record { numbers = e ∙ f.numbers; bytes = f.bytes }
 

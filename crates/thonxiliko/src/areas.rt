@@ -3,39 +3,21 @@ ghost use Rattle.layout.specs.Sizes.{page_size};
 ghost use Rattle.thonxiliko.specs.Areas.{ThxFormat, ThxJudge, ThxShow, ThxRead, ThxCarryOut, ThxBuild};
 
 use crate::{thx_built, thx_done, thx_judged, thx_part, thx_reading, thx_written};
-use building::Built;
-use carrying::Written;
-use reading::Reading;
-use store::{Formatted, Judged};
 
+#[tactic(auto, using(crate::specs::AreaLaws::format_held))]
 #[unsafe(no_mangle)]
 pub extern "C" fn thx_format(patch: &mut [u8], full: &mut [u8]) -> thx_done
     ensures { ThxFormat page_size patch.old full.old result patch.new full.new }
 {
-    match store::format::format(patch, full) {
-        Formatted::Done => thx_done { number: 0 },
-        Formatted::Refused(refusal) => thx_done {
-            number: layout::number::refusal_number(refusal),
-        },
-    }
+    store::format::format(patch, full).into()
 }
 
+#[tactic(auto, using(crate::specs::AreaLaws::judge_held, crate::specs::Widths::judge_fits))]
 #[unsafe(no_mangle)]
 pub extern "C" fn thx_judge(slot: &[u8]) -> thx_judged
     ensures { ThxJudge slot.now result }
 {
-    match store::judge::judge(slot) {
-        Judged::Done { kind, length } => thx_judged {
-            number: 0,
-            kind: layout::number::kind_number(kind),
-            length: length as u32,
-        },
-        Judged::Refused(refusal) => thx_judged {
-            number: layout::number::refusal_number(refusal),
-            kind: 0,
-            length: 0,
-        },
-    }
+    thx_judged::of(store::judge::judge(slot))
 }
 
 // An exported function returns no reference, so this is the place of the part that Show hands out.
@@ -43,13 +25,10 @@ pub extern "C" fn thx_judge(slot: &[u8]) -> thx_judged
 pub extern "C" fn thx_show(patch: &[u8], block: u64) -> thx_part
     ensures { ThxShow page_size patch.now block result }
 {
-    let place = store::show::payload_place(patch, block as usize);
-    thx_part {
-        at: place.at as u64,
-        len: place.len as u64,
-    }
+    store::show::payload_place(patch, block as usize).into()
 }
 
+#[tactic(auto, using(crate::specs::AreaLaws::read_held))]
 #[unsafe(no_mangle)]
 pub extern "C" fn thx_read(
     patch: &[u8],
@@ -61,20 +40,10 @@ pub extern "C" fn thx_read(
     ensures { ThxRead page_size patch.now full.now block base.now page.old result
         page.new }
 {
-    match reading::read(patch, full, block as usize, base, page) {
-        Reading::Done { kind } => thx_reading {
-            number: 0,
-            kind: layout::number::kind_number(kind),
-            offset: 0,
-        },
-        Reading::Refused { refusal, offset } => thx_reading {
-            number: layout::number::refusal_number(refusal),
-            kind: 0,
-            offset: offset as u32,
-        },
-    }
+    thx_reading::of(reading::read(patch, full, block as usize, base, page))
 }
 
+#[tactic(auto, using(crate::specs::AreaLaws::carry_held))]
 #[unsafe(no_mangle)]
 pub extern "C" fn thx_carry_out(
     patch: &mut [u8],
@@ -88,7 +57,7 @@ pub extern "C" fn thx_carry_out(
     ensures { ThxCarryOut page_size patch.old full.old block
         (record { kind = kind; payload = payload.now; page = page.now }) stores result patch.new full.new }
 {
-    match carrying::carry_out(
+    thx_written::of(carrying::carry_out(
         patch,
         full,
         block as usize,
@@ -96,41 +65,13 @@ pub extern "C" fn thx_carry_out(
         payload,
         page,
         stores as usize,
-    ) {
-        Written::Done {
-            kind: stored,
-            length,
-        } => thx_written {
-            number: 0,
-            kind: layout::number::kind_number(stored),
-            length: length as u32,
-        },
-        Written::Refused(refusal) => thx_written {
-            number: layout::number::refusal_number(refusal),
-            kind: 0,
-            length: 0,
-        },
-    }
+    ))
 }
 
+#[tactic(auto, using(crate::specs::AreaLaws::build_held))]
 #[unsafe(no_mangle)]
 pub extern "C" fn thx_build(patch: &[u8], full: &[u8], map: &mut [u8]) -> thx_built
     ensures { ThxBuild page_size patch.now full.now map.old result map.new }
 {
-    match building::build(patch, full, map) {
-        Built::Done => thx_built {
-            number: 0,
-            block: 0,
-            offset: 0,
-        },
-        Built::Refused {
-            refusal,
-            block,
-            offset,
-        } => thx_built {
-            number: layout::number::refusal_number(refusal),
-            block: block as u64,
-            offset: offset as u32,
-        },
-    }
+    thx_built::of(building::build(patch, full, map))
 }

@@ -1,6 +1,7 @@
 // The C interface. Each exported function calls the proved call beneath it and gives its answer as the paper's numbers.
 #![tactic(auto)]
 
+mod answers;
 pub mod areas;
 pub mod cuts;
 pub mod map;

@@ -3,9 +3,8 @@ ghost use Rattle.layout.specs.Sizes.{page_size};
 ghost use Rattle.thonxiliko.specs.Mapped.{ThxCarryOutMapped, ThxReadMapped};
 
 use crate::{thx_reading, thx_written};
-use carrying::Written;
-use reading::Reading;
 
+#[tactic(auto, using(crate::specs::MappedLaws::carry_mapped_held))]
 #[unsafe(no_mangle)]
 pub extern "C" fn thx_carry_out_mapped(
     patch: &mut [u8],
@@ -21,7 +20,7 @@ pub extern "C" fn thx_carry_out_mapped(
         (record { kind = kind; payload = payload.now; page = page.now }) stores result patch.new full.new
         map.new }
 {
-    match carrying::mapped::carry_out_mapped(
+    thx_written::of(carrying::mapped::carry_out_mapped(
         patch,
         full,
         map,
@@ -30,23 +29,10 @@ pub extern "C" fn thx_carry_out_mapped(
         payload,
         page,
         stores as usize,
-    ) {
-        Written::Done {
-            kind: stored,
-            length,
-        } => thx_written {
-            number: 0,
-            kind: layout::number::kind_number(stored),
-            length: length as u32,
-        },
-        Written::Refused(refusal) => thx_written {
-            number: layout::number::refusal_number(refusal),
-            kind: 0,
-            length: 0,
-        },
-    }
+    ))
 }
 
+#[tactic(auto, using(crate::specs::MappedLaws::read_mapped_held))]
 #[unsafe(no_mangle)]
 pub extern "C" fn thx_read_mapped(
     patch: &[u8],
@@ -59,16 +45,5 @@ pub extern "C" fn thx_read_mapped(
     ensures { ThxReadMapped page_size patch.now full.now map.now block base.now
         page.old result page.new }
 {
-    match reading::mapped::read_mapped(patch, full, map, block as usize, base, page) {
-        Reading::Done { kind } => thx_reading {
-            number: 0,
-            kind: layout::number::kind_number(kind),
-            offset: 0,
-        },
-        Reading::Refused { refusal, offset } => thx_reading {
-            number: layout::number::refusal_number(refusal),
-            kind: 0,
-            offset: offset as u32,
-        },
-    }
+    thx_reading::of(reading::mapped::read_mapped(patch, full, map, block as usize, base, page))
 }

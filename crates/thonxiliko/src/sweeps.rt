@@ -3,16 +3,11 @@ ghost use Rattle.layout.specs.Sizes.{page_size};
 ghost use Rattle.thonxiliko.specs.Sweeps.{ThxSweep};
 
 use crate::thx_done;
-use sweeping::Swept;
 
+#[tactic(auto, using(crate::specs::SweepLaws::sweep_held))]
 #[unsafe(no_mangle)]
 pub extern "C" fn thx_sweep(patch: &[u8], full: &mut [u8]) -> thx_done
     ensures { ThxSweep page_size patch.now full.old result full.new }
 {
-    match sweeping::sweep(patch, full) {
-        Swept::Done => thx_done { number: 0 },
-        Swept::Refused(refusal) => thx_done {
-            number: layout::number::refusal_number(refusal),
-        },
-    }
+    sweeping::sweep(patch, full).into()
 }

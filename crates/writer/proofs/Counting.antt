@@ -1,5 +1,5 @@
 -- The numbers of the writer's stream: what one difference, and what several that stand close together, add to them, over plain lists.
-use Prim.Native.Nat.{ℕ, zero, suc, ◌+◌, ◌-◌, ◌*◌, ◌≤◌, ◌<◌}
+use Prim.Native.Nat.{ℕ, zero, suc, ◌+◌, ◌-◌, ◌*◌, ◌≤◌, ◌<◌, min}
 use native.Mathlib.Omega.{arith}
 use native.Mathlib.Decide.{dec_lt}
 use mathlib.Core.Path.{◌≡◌, refl, sym, ap, ◌∙◌, subst}
@@ -7,7 +7,8 @@ use mathlib.Core.Bool.{Bool, true, false, cond}
 use mathlib.Core.Logic.{◌⊎◌, inl, inr}
 use mathlib.Core.List.{List, [], ◌∷◌, ◌++◌}
 use lib.Dec.{eqb}
-use lib.ListN.{length, drop, get_or, length-append, drop_of_length-le}
+use lib.ListN.{length, take, drop, get_or, length-append, drop_of_length-le}
+use lib.Seq.{take-nil}
 use lib.IntN.{ℤ}
 use borrow.Author.Tests.{lt-ltb, le-ltb, eq-eqb, ne_eqb, eqb-true, eqb-false}
 use Rattle.differ.specs.Differ.{next_diff, Same, differs_at, diffs_in}
@@ -91,6 +92,16 @@ diffs_right q (x ∷ xs) = refl
 diffs_left : (q : ℕ) (ys : List ℕ) → diffs q [] ys ≡ []
 unfolding diffs
 diffs_left q ys = refl
+
+-- lists that are cut past the shorter one's end have the same differences
+pub diffs_cut : (n q : ℕ) (xs ys : List ℕ) → min (length xs) (length ys) ≤ n → diffs q (take n xs) (take n ys) ≡ diffs q xs ys
+unfolding diffs
+diffs_cut n q [] ys h = ap (λ (l : List ℕ). diffs q l (take n ys)) (take-nil n)
+diffs_cut n q (x ∷ xs) [] h = ap (λ (l : List ℕ). diffs q (take n (x ∷ xs)) l) (take-nil n) ∙ diffs_right q (take n (x ∷ xs))
+diffs_cut zero q (x ∷ xs) (y ∷ ys) h = absurd (omega arith)
+diffs_cut (suc n) q (x ∷ xs) (y ∷ ys) h =
+    ap (λ (ds : List Change). elim (eqb x y) as (λ _. List Change) [ true ↦ ds | false ↦ record { place = q; value = y } ∷ ds ])
+    (diffs_cut n (q + 1) xs ys (omega arith))
 
 module _ (base page : List ℕ) (from at : ℕ) (e : at ≡ next_diff base page from) where
   n : NextAt base page from at

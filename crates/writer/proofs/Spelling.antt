@@ -10,7 +10,7 @@ use lib.Count.{count_trailing_zeros}
 use lib.Seq.{sets, length-sets}
 use Rattle.span.specs.Bytes.{Put}
 use Rattle.differ.specs.Differ.{next_diff, Same, NextChunk}
-use Rattle.differ.specs.DifferLaws.{next_skip, next_at, chunk_on, chunk_within, chunk_ahead}
+use Rattle.differ.specs.DifferLaws.{NextAt, next_skip, next_at, next_here, chunk_on, chunk_within, chunk_ahead}
 use Rattle.writer.specs.Differences.{spelled}
 use Rattle.writer.specs.Steps.{before, width_of, Counted, Numbers, Differs, Stored, Reached, Spells}
 use Rattle.writer.specs.Words.{word_bytes, unlike, FirstIn}
@@ -57,6 +57,16 @@ module _ (base page : List ℕ) (from : ℕ) (s : Spelled) (w : Reached base pag
   module _ (at : ℕ) (e : at ≡ next_diff base page from) (l : at < length base) (m : at < length page) where
     next_is : at ≡ next_diff base page s.next
     next_is = e ∙ sym w.ahead
+
+    n : NextAt base page from at
+    n = subst (λ (k : ℕ). NextAt base page from k) (sym e) (next_at base page from)
+
+    pub differs_here : at ≡ next_diff base page at
+    differs_here = sym (next_here base page at n.differ)
+
+    -- all before it is counted
+    pub reached_here : Reached base page at s
+    reached_here = record { counted = w.counted; on = omega (arith, w.on, n.on); ahead = w.ahead ∙ sym e ∙ differs_here }
 
     -- a difference
     pub reached_next : (r : Spelled) → r.used ≡ s.used + width_of (at - s.next) → r.entries ≡ s.entries + 1 → r.next ≡ at + 1 → Reached base page (at + 1) r

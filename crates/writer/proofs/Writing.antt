@@ -10,14 +10,17 @@ use mathlib.Core.List.{List, [], ◌∷◌, ◌++◌, append_assoc, append-nil}
 use lib.ListN.{length, take, get_or, set, length-append, length-take}
 use lib.Seq.{sets, set_out, take-append-le, take_all, take-nil, length-sets}
 use borrow.Author.Tests.{lt-ltb, le-ltb}
-use Rattle.span.specs.Bytes.{splice, Put}
+use Rattle.std.proofs.lemmas.List.{take-take}
+use Rattle.span.specs.Bytes.{part, splice, Put}
 use Rattle.span.specs.Laws.{splice_more, splice_length, splice_none}
 use Rattle.differ.specs.Differ.{next_diff}
 use Rattle.layout.specs.Numbers.{le}
-use Rattle.writer.specs.Differences.{Change, spelled, coded, written}
-use Rattle.writer.specs.Steps.{rest, Stored, Numbers, Differs}
+use Rattle.payload.specs.Entries.{start}
+use Rattle.payload.specs.Steps.{farthest}
+use Rattle.writer.specs.Differences.{Change, diffs, spelled, coded, written, last_place}
+use Rattle.writer.specs.Steps.{near, shared, rest, Stored, Numbers, Differs}
 use Rattle.writer.specs.declared.Difference.{Difference}
-use Rattle.writer.proofs.Counting.{rest_ends, rest_more}
+use Rattle.writer.proofs.Counting.{diffs_cut, rest_ends, rest_more}
 
 -- One entry
 
@@ -136,3 +139,34 @@ module _ (base page room₀ room : List ℕ) (next used : ℕ) (w : Stored base 
         let r : rest base page next ≡ [] = rest_ends base page next at e k in
         let s : written base page ≡ w.spelt = w.stream ∙ ap (λ (ds : List Change). w.spelt ++ coded next ds) r ∙ append-nil w.spelt in
         record { numbers = n; bytes = w.bytes ∙ ap (λ (l : List ℕ). stored room₀ l) (sym s) }
+
+-- What both pages do not share within the writer's reach does not count
+
+module _ (base page : List ℕ) where
+  abbrev n : ℕ
+  n = shared base page
+
+  shared_diffs : diffs 0 (take n base) (take n page) ≡ diffs 0 base (near page)
+  unfolding part
+  shared_diffs =
+      ap (λ (ys : List ℕ). diffs 0 (take n base) ys) (sym (take-take n farthest page (omega arith)))
+      ∙ diffs_cut n 0 base (near page) (simp length-take (omega arith))
+
+  shared_written : written (take n base) (take n page) ≡ written base (near page)
+  unfolding written
+  shared_written = ap (λ (ds : List Change). coded 0 ds) shared_diffs
+
+  pub differs_cut : (b p room₀ room : List ℕ) (d : Difference) → b ≡ take n base → p ≡ take n page → Differs b p room₀ d room
+      → Differs base (near page) room₀ d room
+  differs_cut b p room₀ room d e f w =
+      let ds : diffs 0 b p ≡ diffs 0 base (near page) = (λ i. diffs 0 (e i) (f i)) ∙ shared_diffs in
+      let bytes : written b p ≡ written base (near page) = (λ i. written (e i) (f i)) ∙ shared_written in
+      record {
+        numbers =
+            record {
+              length = w.numbers.length ∙ ap (λ (l : List ℕ). length l) bytes;
+              entries = w.numbers.entries ∙ ap (λ (l : List Change). length l) ds;
+              last = w.numbers.last ∙ ap (λ (l : List Change). last_place start l) ds;
+            };
+        bytes = w.bytes ∙ ap (λ (l : List ℕ). splice room₀ 0 (take (length room₀) l)) bytes;
+      }

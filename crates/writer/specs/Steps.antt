@@ -1,5 +1,5 @@
 -- What the pieces of the writer owe their callers.
-use Rattle.std.specs.Prelude.{ℕ, ◌+◌, ◌-◌, ◌*◌, ◌≤◌, ◌≡◌, List, ◌++◌, drop, take, length as length_of}
+use Rattle.std.specs.Prelude.{ℕ, ◌+◌, ◌-◌, ◌*◌, ◌≤◌, ◌≡◌, List, ◌++◌, drop, take, min, length as length_of}
 use Rattle.span.specs.Bytes.{part, splice}
 use Rattle.writer.specs.Differences.{Change, diffs, spelled, coded, written, last_place}
 use Rattle.payload.specs.Entries.{start, short_entry}
@@ -15,6 +15,10 @@ pub use Rattle.payload.specs.Positions.{before}
 -- the part of a page that the writer looks at
 abbrev pub near : List ℕ → List ℕ
 near page = part 0 farthest page
+
+-- how many places both pages have, as far as an entry reaches
+abbrev pub shared : List ℕ → List ℕ → ℕ
+shared base page = min (min (length_of base) (length_of page)) farthest
 
 -- how many bytes the entry of a jump takes
 abbrev pub width_of : ℕ → ℕ

@@ -1,9 +1,11 @@
--- The laws of bytes as a number: joined, compared, and their lowest difference.
+-- The laws of bytes as a number: joined, loaded, compared, and their lowest difference.
 use Prim.Native.Nat.{ℕ, zero, suc, ◌+◌, ◌-◌, ◌*◌, ◌/◌, ◌%◌, ◌^◌, ◌≤◌, ◌<◌}
 use native.Mathlib.Omega.{arith}
 use Rattle.std.proofs.Common.{mul_assoc, mod-eq_of_lt, ◌∙◌, subst, pow-add, shr-shr}
 use Rattle.std.proofs.Math.Decide.{dec_lt}
-use Rattle.std.specs.Prelude.{◌≡◌, Bool, List, length}
+use Rattle.std.specs.Prelude.{◌≡◌, Bool, List, length, take, drop}
+use Rattle.std.specs.Int.{w64, from_le_bytes}
+use Rattle.std.proofs.lemmas.List.{get_or-take, get_or-drop}
 use Rattle.std.proofs.Math.Path.{refl, sym, ap}
 use Rattle.std.proofs.Math.Bool.{true, false}
 use Rattle.std.specs.Int.Bits.{bit_or, bit_xor, differ, or_shifted_r, xor_step, xor_block, xor_self, xor_lt, shifted_half, shifted_even, block_half, block_odd}
@@ -15,11 +17,8 @@ use Rattle.std.proofs.lemmas.Nat.{shl-shr}
 use borrow.Author.Tests.{eqb-true, eqb-false}
 use Rattle.differ.specs.Differ.{Same, next_diff}
 use Rattle.differ.specs.DifferLaws.{next_is}
-use Rattle.writer.specs.Words.{numeral, unlike, FirstIn}
-
--- every item is a byte
-abbrev pub Bytes : List ℕ → Type 0
-Bytes s = (i : ℕ) → get_or s i 0 < 256
+use Rattle.writer.specs.Words.{word_bytes, numeral, unlike, FirstIn}
+pub use Rattle.writer.specs.Words.{Bytes}
 
 -- Joined numbers
 
@@ -64,6 +63,26 @@ or_joined s w at j k low up e f h =
     ∙ or_shifted_r up (8 * j) low (subst (λ (n : ℕ). n < 2 ^ (8 * j)) (sym e) (below s w j at))
     ∙ (λ i. f i * 2 ^ (8 * j) + e i)
     ∙ sym (join s at j k)
+
+-- eight bytes that are loaded at one go
+pub loaded : (s bs : List ℕ) (at : ℕ) → bs ≡ take word_bytes (drop at s) → from_le_bytes w64 bs ≡ numeral s at word_bytes
+unfolding numeral
+loaded s bs at e =
+    omega (
+      arith,
+      byte 0 at (omega arith) (omega arith),
+      byte 1 (at + 1) (omega arith) (omega arith),
+      byte 2 (at + 1 + 1) (omega arith) (omega arith),
+      byte 3 (at + 1 + 1 + 1) (omega arith) (omega arith),
+      byte 4 (at + 1 + 1 + 1 + 1) (omega arith) (omega arith),
+      byte 5 (at + 1 + 1 + 1 + 1 + 1) (omega arith) (omega arith),
+      byte 6 (at + 1 + 1 + 1 + 1 + 1 + 1) (omega arith) (omega arith),
+      byte 7 (at + 1 + 1 + 1 + 1 + 1 + 1 + 1) (omega arith) (omega arith),
+    )
+  where
+    byte : (i j : ℕ) → i < word_bytes → at + i ≡ j → get_or bs i 0 ≡ get_or s j 0
+    byte i j h q =
+        ap (λ (l : List ℕ). get_or l i 0) e ∙ get_or-take word_bytes (drop at s) i 0 h ∙ get_or-drop at s i 0 ∙ ap (λ (k : ℕ). get_or s k 0) q
 
 -- The digits in which two numbers differ
 

@@ -3,6 +3,10 @@ use Rattle.std.specs.Prelude.{ℕ, zero, suc, ◌+◌, ◌-◌, ◌*◌, ◌/◌
 use Rattle.std.specs.Int.Bits.{bit_and, bit_xor}
 use Rattle.differ.specs.Differ.{Same}
 
+-- every item is a byte
+abbrev pub Bytes : List ℕ → Type 0
+Bytes s = (i : ℕ) → get_or s i 0 < 256
+
 -- how many bytes a word has
 abbrev pub word_bytes : ℕ
 word_bytes = 8

@@ -1,30 +1,14 @@
-// Bytes as a number, the first in its lowest bits: two, then four, then eight. The compiler makes one load of eight bytes of it.
+// Eight bytes as a number, the first in its lowest bits: the compiler makes one load of it.
 ghost use Rattle.std.specs.Prelude.{◌≡◌, ◌+◌, ◌≤◌, length as length_of};
 ghost use Rattle.writer.specs.Words.{word_bytes, numeral};
 
-fn wide(byte: u8) -> u64
-    ensures { result ≡ byte }
-{
-    byte as u64
-}
-
-fn two(s: &[u8], at: usize) -> u64
-    requires { at + 2 ≤ length_of s.now }
-    ensures { result ≡ numeral s.now at 2 }
-{
-    wide(s[at]) | (wide(s[at + 1]) << 8)
-}
-
-fn four(s: &[u8], at: usize) -> u64
-    requires { at + 4 ≤ length_of s.now }
-    ensures { result ≡ numeral s.now at 4 }
-{
-    two(s, at) | (two(s, at + 2) << 16)
-}
+// How many bytes are compared at one go where a chunk differs: as many as a register of every machine has.
+pub(crate) const WORD: usize = 8;
 
 pub(crate) fn word(s: &[u8], at: usize) -> u64
     requires { at + word_bytes ≤ length_of s.now }
     ensures { result ≡ numeral s.now at word_bytes }
 {
-    four(s, at) | (four(s, at + 4) << 32)
+    let bytes = <[u8; WORD]>::try_from(&s[at..at + WORD]).unwrap();
+    u64::from_le_bytes(bytes)
 }

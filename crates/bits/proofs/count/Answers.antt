@@ -1,68 +1,60 @@
-use Prim.Native.Nat.{◌+◌, ◌-◌, min}
+use Prim.Native.Nat.{ℕ, ◌≤◌, min}
 use native.Mathlib.Omega.{arith}
-use mathlib.Core.Path.{◌≡◌, refl}
-use lib.ListN.{length}
-use Rattle.bits.specs.Bits.{added, some_three}
-use Rattle.bits.specs.BitLaws.{counts_more, counts_past, counts_fit}
+use mathlib.Core.Path.{◌≡◌, sym, ap, subst, ◌∙◌}
+use lib.ListN.{length, take, length-take}
+use Rattle.std.specs.declared.slice.ChunksExact.{ChunksExact}
+use Rattle.std.specs.Slice.Iter.{chunks_exact_rest, chunks_exact_size}
+use Rattle.bits.specs.declared.TheConstants.{CHUNK}
+use Rattle.bits.specs.declared.Counted.{Counted}
+use Rattle.bits.specs.Bits.{together, Counts}
+use Rattle.bits.specs.BitLaws.{counts_past}
+use Rattle.bits.proofs.Chunks.{Reached, place, start, step, finish, sums_fit, of_map}
 use Rattle.bits.proofs.count.Goals as goal
 
-pub loop-at-init : goal.loop-at-init
-unfolding added some_three
-loop-at-init c = (omega arith, record { high = refl; low = refl; three = refl })
+pub loop-part-init : goal.loop-part-init
+loop-part-init c =
+    let cut = c.chunks_exact-chunks.ensures in
+    let same = c.into_iter-part-iterator.ensures.into_iter_gives in
+    let size : chunks_exact_size c.into_iter-part-iterator.result ≡ CHUNK = ap (λ (it : ChunksExact ℕ). chunks_exact_size it) same ∙ cut.size in
+    (omega arith, tt, start _ _ size (ap (λ (it : ChunksExact ℕ). chunks_exact_rest it) same ∙ cut.rest))
 
-pub chunk-next-requires : goal.chunk-next-requires
-chunk-next-requires c = (omega arith, omega arith)
+pub with-sum-requires : goal.with-sum-requires
+with-sum-requires c =
+    let n : ℕ = c.min-end.result in
+    let map = c.args.map.now in
+    let l = c.loop-part in
+    let r = step (take n map) l.part-iterator c.next.new.self c.in-Some.part l.sum c.chunk.result c.in-Some.ensures.steps l.invariant.2 c.chunk.ensures in
+    sums_fit map n (place (take n map) c.next.new.self) l.sum c.chunk.result (λ k. (c.type_inv.map k).fits)
+    (omega (arith, length-take n map)) (omega (arith, c.ranges.bytes.fits)) r.counts
 
-pub overflow_add-high : goal.overflow_add-high
-overflow_add-high c =
-    let l = c.loop-at in
-    let end = c.shorter-end in
-    let known = c.shared_slice_known-1.given in
-    let j = counts_more c.args.map.now l.at 32 _ _ l.invariant.1 c.chunk-next.ensures in
-    let most = counts_fit c.args.map.now (λ i. (known i).fits) 0 (l.at + 32) _ j in
-    record { fits = omega (arith, l.invariant.0, most.0, end.ensures, c.ranges.bytes.fits) }
+pub loop-part-preserved : goal.loop-part-preserved
+loop-part-preserved c =
+    let n : ℕ = c.min-end.result in
+    let map = c.args.map.now in
+    let l = c.loop-part in
+    let r = step (take n map) l.part-iterator c.next.new.self c.in-Some.part l.sum c.chunk.result c.in-Some.ensures.steps l.invariant.2 c.chunk.ensures in
+    let size : chunks_exact_size c.next.new.self ≡ CHUNK = r.size in
+    (omega arith, tt, subst (Reached (take n map) c.next.new.self) (sym c.with-sum.ensures) r)
 
-pub overflow_add-low : goal.overflow_add-low
-overflow_add-low c =
-    let l = c.loop-at in
-    let end = c.shorter-end in
-    let known = c.shared_slice_known-1.given in
-    let j = counts_more c.args.map.now l.at 32 _ _ l.invariant.1 c.chunk-next.ensures in
-    let most = counts_fit c.args.map.now (λ i. (known i).fits) 0 (l.at + 32) _ j in
-    record { fits = omega (arith, l.invariant.0, most.1, end.ensures, c.ranges.bytes.fits) }
-
-pub loop-at-preserved : goal.loop-at-preserved
-loop-at-preserved c =
-    let a = c.args in
-    let l = c.loop-at in
-    (omega arith, counts_more a.map.now l.at 32 _ _ l.invariant.1 c.chunk-next.ensures)
-
-pub chunk-rest-requires : goal.chunk-rest-requires
-chunk-rest-requires c = (omega arith, omega arith)
-
-pub overflow_add-result : goal.overflow_add-result
-overflow_add-result c =
-    let l = c.loop-at in
-    let end = c.shorter-end in
-    let known = c.shared_slice_known-1.given in
-    let j = counts_more c.args.map.now l.at (end.result - l.at) _ _ l.invariant.1 c.chunk-rest.ensures in
-    let most = counts_fit c.args.map.now (λ i. (known i).fits) 0 (l.at + (end.result - l.at)) _ j in
-    record { fits = omega (arith, l.invariant.0, most.0, end.ensures, c.ranges.bytes.fits) }
-
-pub overflow_add-result-2 : goal.overflow_add-result-2
-overflow_add-result-2 c =
-    let l = c.loop-at in
-    let end = c.shorter-end in
-    let known = c.shared_slice_known-1.given in
-    let j = counts_more c.args.map.now l.at (end.result - l.at) _ _ l.invariant.1 c.chunk-rest.ensures in
-    let most = counts_fit c.args.map.now (λ i. (known i).fits) 0 (l.at + (end.result - l.at)) _ j in
-    record { fits = omega (arith, l.invariant.0, most.1, end.ensures, c.ranges.bytes.fits) }
+pub with-requires : goal.with-requires
+with-requires c =
+    let n : ℕ = c.min-end.result in
+    let map = c.args.map.now in
+    let l = c.loop-part in
+    let r = finish (take n map) l.part-iterator c.remainder-rest.result.now l.sum c.chunk-2.result c.in-None.ensures.steps.1.0 l.invariant.2
+    (c.remainder-rest.ensures ∙ c.chunks_exact-chunks.ensures.remainder) c.chunk-2.ensures in
+    sums_fit map n (length (take n map)) l.sum c.chunk-2.result (λ k. (c.type_inv.map k).fits)
+    (omega (arith, length-take n map)) (omega (arith, c.ranges.bytes.fits)) r
 
 pub returns : goal.returns
 returns c =
-    let a = c.args in
-    let l = c.loop-at in
-    let end = c.shorter-end in
-    let all : l.at + (end.result - l.at) ≡ min (length a.map.now) a.bytes = omega (arith, l.invariant.0, end.ensures) in
-    let j = counts_more a.map.now l.at (end.result - l.at) _ _ l.invariant.1 c.chunk-rest.ensures in
-    counts_past a.map.now a.bytes _ (rw all at j)
+    let n : ℕ = c.min-end.result in
+    let map = c.args.map.now in
+    let l = c.loop-part in
+    let r = finish (take n map) l.part-iterator c.remainder-rest.result.now l.sum c.chunk-2.result c.in-None.ensures.steps.1.0 l.invariant.2
+    (c.remainder-rest.ensures ∙ c.chunks_exact-chunks.ensures.remainder) c.chunk-2.ensures in
+    let e : n ≡ min (length map) c.args.bytes = omega arith in
+    let h : n ≤ length map = omega arith in
+    counts_past map c.args.bytes c.with.result
+    (subst (λ (r : Counted). Counts map 0 (min (length map) c.args.bytes) r) (sym c.with.ensures)
+    (subst (λ (k : ℕ). Counts map 0 k (together l.sum c.chunk-2.result)) e (of_map map n (together l.sum c.chunk-2.result) r h)))

@@ -1,10 +1,8 @@
-use Prim.Native.Nat.{◌-◌, ◌≤◌}
-use Rattle.bits.specs.Bits.{Counts}
+use lib.ListN.{take}
+use Rattle.bits.proofs.Chunks.{Reached}
 use Rattle.bits.proofs.count.Given as goal
 
-abbrev pub invariant-loop-at : goal.invariant-loop-at
-invariant-loop-at l =
-    (l.at ≤ l.end) × Counts l.map 0 l.at (record { high = l.high; low = l.low; three = l.three })
-
-abbrev pub decreases-loop-at : goal.decreases-loop-at
-decreases-loop-at l = l.end - l.at
+abbrev pub invariant-loop-part : goal.invariant-loop-part
+invariant-loop-part l =
+    (goal.iterator-loop-part).can_next l.part-iterator ×
+    (goal.iterator-loop-part).is_finite l.part-iterator × Reached (take l.end l.map) l.part-iterator l.sum

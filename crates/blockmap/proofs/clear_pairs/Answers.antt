@@ -2,7 +2,7 @@ use Prim.Native.Nat.{ℕ, ◌+◌, ◌-◌, ◌/◌, ◌≤◌}
 use native.Mathlib.Omega.{arith}
 use mathlib.Core.Path.{◌≡◌, refl, ap, ◌∙◌}
 use lib.ListN.{length}
-use borrow.Author.Tests.{le-leb, lt-leb}
+use borrow.Author.Tests.{le-leb}
 use Rattle.span.specs.Laws.{put_filled}
 use Rattle.blockmap.specs.Pairs.{map_bytes}
 use Rattle.blockmap.specs.ClearLaws.{clear_length, cleared_by_bytes}
@@ -12,16 +12,6 @@ use Rattle.blockmap.proofs.clear_pairs.Goals.{After-slice_known-2-1, Else-map-ma
 -- a map of all these blocks
 long : (c : Else-map-map_bytes) → let a = c.args in map_bytes a.to ≤ length a.map.now
 long c = omega (arith, c.map_bytes.ensures, c.if-map-map_bytes.false)
-
-pub returns-then-map-map_bytes : goal.returns-then-map-map_bytes
-returns-then-map-map_bytes c =
-    let a = c.args in
-    rw (lt-leb (map_bytes a.to) (length a.map.now) (omega (arith, c.map_bytes.ensures, c.if-map-map_bytes.true)))
-
-pub returns-then-last-first : goal.returns-then-last-first
-returns-then-last-first c =
-    let a = c.args in
-    rw (le-leb (map_bytes a.to) (length a.map.now) (long (goal.at.returns-then-last-first c).Else-map-map_bytes)) c.clear_each.ensures
 
 reach : (c : After-slice_known-2-1)
     → let a = c.args in

@@ -6,18 +6,6 @@ use Rattle.differ.specs.Differ.{chunk, after_last, has_chunk, chunk_after}
 use Rattle.differ.specs.DifferLaws.{has_true, chunk_after_is}
 use Rattle.differ.proofs.after_chunk.Goals as goal
 
-pub overflow_add-at : goal.overflow_add-at
-overflow_add-at c =
-    let a = c.args in
-    let w = has_true a.a.now a.b.now a.at (sym c.has_chunk.ensures ∙ c.if-has_chunk.true) in
-    omega (arith, w.0)
-
-pub after_last-requires : goal.after_last-requires
-after_last-requires c =
-    let a = c.args in
-    let w = has_true a.a.now a.b.now a.at (sym c.has_chunk.ensures ∙ c.if-has_chunk.true) in
-    (omega arith, w.0, w.1)
-
 pub returns-then-has_chunk : goal.returns-then-has_chunk
 returns-then-has_chunk c =
     let a = c.args in
@@ -25,9 +13,9 @@ returns-then-has_chunk c =
     let q : a.at + chunk - a.at ≡ chunk = omega arith in
     c.after_last.ensures ∙ ap (after_last a.a.now a.b.now a.at) q ∙ sym (chunk_after_is a.a.now a.b.now a.at w.0 w.1)
 
-pub returns : goal.returns
+pub returns-else-has_chunk : goal.returns-else-has_chunk
 unfolding chunk_after
-returns c =
+returns-else-has_chunk c =
     let a = c.args in
     let e : has_chunk a.a.now a.b.now a.at ≡ false = sym c.has_chunk.ensures ∙ c.if-has_chunk.false in
     rw e refl

@@ -1,8 +1,7 @@
-use borrow.Author.Rules.{rules}
 use Rattle.differ.proofs.Turns.{same_none, same_next, skipped}
 use Prim.Native.Nat.{◌+◌}
 use native.Mathlib.Omega.{arith}
-use mathlib.Core.Path.{sym, ◌∙◌}
+use mathlib.Core.Path.{◌≡◌, sym, ◌∙◌}
 use Rattle.differ.specs.DifferLaws.{next_here}
 use Rattle.differ.proofs.next_byte.Goals as goal
 
@@ -10,20 +9,18 @@ pub returns-then-a-at : goal.returns-then-a-at
 returns-then-a-at c =
     let a = c.args in
     let l = c.loop-at in
-    sym (l.invariant.2 ∙ next_here a.a.now a.b.now l.at (λ h k e. c.if-a-at.true e))
+    sym (l.invariant ∙ next_here a.a.now a.b.now l.at (λ h k e. c.if-a-at.true e))
 
 pub loop-at-preserved : goal.loop-at-preserved
 loop-at-preserved c =
     let a = c.args in
-    let l = c.loop-at in (
-      search rules,
-      search rules,
-      skipped a.a.now a.b.now a.from l.at (l.at + 1) (omega arith) (omega arith) (omega arith) l.invariant.2
-          (same_next a.a.now a.b.now l.at l.at (same_none a.a.now a.b.now l.at l.at (omega arith)) c.if-a-at.false),
-    )
+    let l = c.loop-at in
+    skipped a.a.now a.b.now a.from l.at (l.at + 1) (omega arith) (omega arith) (omega arith) l.invariant
+    (same_next a.a.now a.b.now l.at l.at (same_none a.a.now a.b.now l.at l.at (omega arith)) c.if-a-at.false)
 
 pub returns : goal.returns
 returns c =
     let a = c.args in
     let l = c.loop-at in
-    sym (l.invariant.2 ∙ next_here a.a.now a.b.now l.at (λ h k e. omega arith))
+    let e : l.at ≡ a.end = omega arith in
+    sym (rw e at l.invariant ∙ next_here a.a.now a.b.now a.end (λ h k e. omega arith))

@@ -1,47 +1,33 @@
-use mathlib.Core.Path.{◌≡◌, ap, ◌∙◌}
+use mathlib.Core.Path.{◌≡◌, ap, ◌∙◌, subst}
+use lib.Dec.{leb}
+use lib.IntN.{ℤ, pos, ◌+ℤ◌}
+use Prim.Native.Nat.{ℕ}
+use mir.Syntax.{w32, w64}
 use mir.Val.{SFits, to_z, of_z}
 use mir.ValLaws.{to_z-of_z}
-use mir.Syntax.{w32, w64}
-use lib.IntN.{ℤ, pos, ◌+ℤ◌}
-use native.Mathlib.Omega.{arith}
-use Rattle.entry_reader.proofs.Positions.{below, past, inside}
-use Rattle.payload.proofs.Signed.{not_below, read_fits}
 use Rattle.payload.specs.Steps.{reach}
+use Rattle.entry_reader.proofs.Positions.{below, inside}
 use Rattle.entry_reader.proofs.stands.Goals as goal
+use Rattle.entry_reader.proofs.stands.Goals.{After-moved}
 
--- what the code reads back of the place after the position
-after_is : (p r : ℤ) → SFits w32 p → SFits w64 r → r ≡ to_z w32 (of_z w32 p) +ℤ pos 1 → to_z w64 (of_z w64 r) ≡ p +ℤ pos 1
-after_is p r f g e = to_z-of_z w64 r g ∙ e ∙ ap (λ (z : ℤ). z +ℤ pos 1) (to_z-of_z w32 p f)
+-- the place after the position, which the code reads back from its bits
+after_is : (c : After-moved) → c.moved.result ≡ c.args.position +ℤ pos 1
+after_is c = c.moved.ensures ∙ ap (λ (z : ℤ). z +ℤ pos 1) (to_z-of_z w32 c.args.position c.ranges.position)
 
-pub returns-then-after-lt0 : goal.returns-then-after-lt0
-returns-then-after-lt0 c =
-    let a = c.args in
-    let q : ℤ = c.moved-after.result in
-    below (to_z w64 (of_z w64 q)) (reach a.size) a.position
-    (after_is a.position q c.ranges.position (record { sfits = c.moved-after.type_inv }) c.moved-after.ensures)
-    c.if-after-lt0.true
+fits : (c : After-moved) → SFits w64 c.moved.result
+fits c = record { sfits = c.moved.type_inv }
 
-pub overflow_cast-next : goal.overflow_cast-next
-overflow_cast-next c =
-    let q : ℤ = c.moved-after.result in
-    let f : SFits w64 q = record { sfits = c.moved-after.type_inv } in
-    let r : ℤ = to_z w64 (of_z w64 q) in
-    (not_below r c.if-after-lt0.false, read_fits r c.if-after-lt0.false q (to_z-of_z w64 q f) f)
+after_read : (c : After-moved) → to_z w64 (of_z w64 c.moved.result) ≡ c.args.position +ℤ pos 1
+after_read c = to_z-of_z w64 c.moved.result (fits c) ∙ after_is c
 
-pub returns-then-next-gt-REACH : goal.returns-then-next-gt-REACH
-returns-then-next-gt-REACH c =
-    let a = c.args in
-    let q : ℤ = c.moved-after.result in
-    past (to_z w64 (of_z w64 q)) c.if-after-lt0.false a.size a.position
-    (after_is a.position q c.ranges.position (record { sfits = c.moved-after.type_inv })
-    c.moved-after.ensures)
-    (omega arith)
+pub returns-in_default : goal.returns-in_default
+returns-in_default c =
+    let g = (goal.at.returns-in_default c).After-moved in
+    below (reach c.args.size) (to_z w64 (of_z w64 c.moved.result)) c.args.position (after_read g) (subst (SFits w64) (after_is g) (fits g))
+    c.in_default.ensures
 
 pub returns : goal.returns
 returns c =
-    let a = c.args in
-    let q : ℤ = c.moved-after.result in
-    inside (to_z w64 (of_z w64 q)) c.if-after-lt0.false a.size a.position
-    (after_is a.position q c.ranges.position (record { sfits = c.moved-after.type_inv })
-    c.moved-after.ensures)
-    (omega arith)
+    let g = (goal.at.returns c).After-moved in
+    ap (λ (n : ℕ). leb c.in-Ok.next n) c.min.ensures
+    ∙ inside (reach c.args.size) (to_z w64 (of_z w64 c.moved.result)) c.args.position (after_read g) c.in-Ok.next c.in-Ok.ensures

@@ -1,9 +1,8 @@
-use Rattle.headers.specs.FreshLaws.{fresh_full_is}
-use Rattle.span.specs.Bytes.{zeros, splice}
-use lib.ListN.{length, take}
-use mathlib.Core.List.{List}
-use mathlib.Core.Path.{ap, ◌∙◌}
-use Prim.Native.Nat.{ℕ}
+use Rattle.std.proofs.Common.{ℕ, List, refl, sym, ap, ◌∙◌, ◌++◌, ◌-◌, length, take}
+use Rattle.span.specs.Bytes.{zeros}
+use Rattle.layout.specs.Sizes.{full_head}
+use Rattle.headers.specs.FreshLaws.{fresh_full_taken}
+use Rattle.headers.proofs.Images.{full_image}
 use Rattle.headers.proofs.begin_full.Goals as goal
 
 pub returns : goal.returns
@@ -11,5 +10,5 @@ returns c =
     let a = c.args in
     let n : ℕ = length a.full.now in
     c.begin.ensures
-    ∙ ap (λ (l : List ℕ). splice (zeros n) 0 (take n l)) c.full_fields-fields.ensures
-    ∙ fresh_full_is a.size n
+    ∙ ap (λ (l : List ℕ). take n (l ++ zeros (n - full_head))) (full_image _ refl refl refl refl a.size)
+    ∙ sym (fresh_full_taken a.size n)

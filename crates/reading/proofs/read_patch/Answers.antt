@@ -1,16 +1,15 @@
+use Rattle.layout.specs.Exits.{left_with}
 use Rattle.reading.proofs.Pages.{apply_reads, apply_refuses}
 use Rattle.reading.proofs.read_patch.Goals as goal
 
-pub returns-in-Refused : goal.returns-in-Refused
-returns-in-Refused c =
+pub returns-in_err-apply_to : goal.returns-in_err-apply_to
+returns-in_err-apply_to c =
     let a = c.args in
-    let p = c.apply_to in
-    apply_refuses a.base.now a.payload.now a.page.now p.new.page p.result c.requires.0 c.requires.1 p.ensures
-    c.in-Refused.refusal c.in-Refused.offset c.in-Refused.is
+    rw (left_with c.from_residual.ensures)
+    (apply_refuses a.base.now a.payload.now a.page.now c.apply_to.new.page c.requires.0 c.requires.1 c.in_err-apply_to.field-0.0
+    c.in_err-apply_to.ensures)
 
-pub returns-in-Done : goal.returns-in-Done
-returns-in-Done c =
+pub returns : goal.returns
+returns c =
     let a = c.args in
-    let p = c.apply_to in
-    apply_reads a.base.now a.payload.now a.page.now p.new.page p.result c.requires.0 c.requires.1 p.ensures
-    c.in-Done.entries c.in-Done.last c.in-Done.is
+    apply_reads a.base.now a.payload.now a.page.now c.apply_to.new.page c.requires.0 c.requires.1 c.in_ok-apply_to.field-0 c.in_ok-apply_to.ensures

@@ -1,10 +1,7 @@
-use Rattle.layout.specs.Sizes.{page_size}
-use Rattle.span.specs.Laws.{part_past}
-use Prim.Native.Nat.{◌*◌}
 use native.Mathlib.Omega.{arith}
-use mathlib.Core.Path.{sym}
+use mathlib.Core.Path.{◌∙◌}
+use Rattle.replay.proofs.Turns.{part_within}
 use Rattle.replay.proofs.nth_page.Goals as goal
 
-pub returns-then-pages-i : goal.returns-then-pages-i
-returns-then-pages-i c = sym (part_past (page_size * c.args.i) page_size c.args.pages.now
-    (omega (arith, c.if-pages-i.true)))
+pub returns : goal.returns
+returns c = rw c.saturating_mul.ensures at c.part.ensures.bytes ∙ part_within _ _ _ c.args.pages.now (omega (arith, c.well_formed))

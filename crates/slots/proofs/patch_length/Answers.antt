@@ -1,87 +1,47 @@
-use Rattle.slots.specs.Slots.{payload_length}
-use Rattle.slots.specs.SlotLaws.{length_at_is, patch_over, patch_value}
+use Rattle.std.proofs.Common.{ℕ, ◌+◌, ◌-◌, ◌*◌, List, Bool, true, false, cond, ◌&&◌, ◌≡◌, ◌∙◌, sym, ap, arith}
+use Rattle.std.proofs.Common.{get_or, eq-eqb, ne_eqb, Some, None, eqb, refl}
+use Rattle.std.specs.Bool.{then_some}
+use Rattle.std.proofs.Math.Bool.{and_assoc}
+use Rattle.slots.specs.Slots.{is_patch, payload_length}
+use Rattle.slots.specs.SlotLaws.{length_at_is, patch_over, patch_under, patch_test}
 use Rattle.layout.specs.Sizes.{room, payload_at}
 use Rattle.span.specs.Bytes.{zeros, part, same}
-use borrow.Author.Tests.{eq-eqb, ne_eqb}
-use lib.ListN.{get_or}
-use mathlib.Core.List.{List}
-use mathlib.Core.Bool.{true, false}
-use mathlib.Core.Path.{◌≡◌, sym, ap, ◌∙◌}
-use native.Mathlib.Omega.{arith}
-use Prim.Native.Nat.{ℕ, ◌+◌, ◌-◌, ◌*◌}
 use Rattle.slots.proofs.patch_length.Goals as goal
+use Rattle.slots.proofs.patch_length.Goals.{then-n-eq0-via-then-n-eq0, then-n-eq0-via-else-n-eq0+then-n-gt-ROOM}
+use Rattle.slots.proofs.patch_length.Goals.{then-slot-eq-PATCH_FLAGS, else-slot-eq-PATCH_FLAGS, then-zero_part, else-zero_part}
 
-pub overflow_cast-n : goal.overflow_cast-n
-overflow_cast-n c = omega (arith, c.type_inv.slot 2)
-
-pub overflow_cast-n-2 : goal.overflow_cast-n-2
-overflow_cast-n-2 c = omega (arith, c.type_inv.slot 3)
-
-pub overflow_mul-n : goal.overflow_mul-n
-overflow_mul-n c = omega (arith, c.type_inv.slot 3)
-
-pub overflow_add-n : goal.overflow_add-n
-overflow_add-n c = omega (arith, c.type_inv.slot 2, c.type_inv.slot 3)
-
-pub returns-then-n-gt-ROOM : goal.returns-then-n-gt-ROOM
-returns-then-n-gt-ROOM c =
+pub returns-then-n-eq0 : goal.returns-then-n-eq0
+returns-then-n-eq0 c =
     let s : List ℕ = c.args.slot.now in
     let n : payload_length s ≡ get_or s 2 0 + 256 * get_or s 3 0 = length_at_is s c.requires.0 in
-    rw (patch_over s (omega arith))
+    elim c.then-n-eq0.branch [
+      | then-n-eq0-via-then-n-eq0 w ↦ rw (patch_under s (omega arith))
+      | then-n-eq0-via-else-n-eq0+then-n-gt-ROOM w ↦ rw (patch_over s (omega arith))
+    ]
 
-pub returns-then-slot-ne-PATCH_FLAGS : goal.returns-then-slot-ne-PATCH_FLAGS
-returns-then-slot-ne-PATCH_FLAGS c =
-    let s : List ℕ = c.args.slot.now in
-    let known = c.type_inv.slot in
-    let n : payload_length s ≡ get_or s 2 0 + 256 * get_or s 3 0 = length_at_is s c.requires.0 in
-    rw (
-      patch_value s c.requires.0 c.requires.1 (omega (arith, known 2)) (omega (arith, known 3)) (omega arith),
-      ne_eqb (get_or s 1 0) 1 c.if-slot-ne-PATCH_FLAGS.true,
-    )
-
-pub returns-then-not-zero_part : goal.returns-then-not-zero_part
-returns-then-not-zero_part c =
-    let s : List ℕ = c.args.slot.now in
-    let known = c.type_inv.slot in
-    let n : payload_length s ≡ get_or s 2 0 + 256 * get_or s 3 0 = length_at_is s c.requires.0 in
-    let z = c.zero_part in
-    rw (
-      patch_value s c.requires.0 c.requires.1 (omega (arith, known 2)) (omega (arith, known 3)) (omega arith),
-      eq-eqb (get_or s 1 0) 1
-          c.if-slot-ne-PATCH_FLAGS.false,
-      (sym z.ensures ∙ c.if-not-zero_part.true),
-    )
-
-pub returns-then-not-zero_part-2 : goal.returns-then-not-zero_part-2
-returns-then-not-zero_part-2 c =
-    let s : List ℕ = c.args.slot.now in
-    let known = c.type_inv.slot in
-    let n : payload_length s ≡ get_or s 2 0 + 256 * get_or s 3 0 = length_at_is s c.requires.0 in
-    let z = c.zero_part in
-    let y = c.zero_part-2 in
-    let t : same (part (payload_at + payload_length s) (room - payload_length s) s) (zeros (room - payload_length s)) ≡ false =
-    ap (λ (k : ℕ). same (part (payload_at + k) (room - k) s) (zeros (room - k))) n ∙ (sym y.ensures ∙ c.if-not-zero_part-2.true) in
-    rw (
-      patch_value s c.requires.0 c.requires.1 (omega (arith, known 2)) (omega (arith, known 3)) (omega arith),
-      eq-eqb (get_or s 1 0) 1
-          c.if-slot-ne-PATCH_FLAGS.false,
-      (sym z.ensures ∙ c.if-not-zero_part.false),
-      t,
-    )
+told : (t : Bool) (n m : ℕ) → n ≡ m → then_some t n ≡ cond t (Some m) None
+told true n m e = ap Some e
+told false n m e = refl
 
 pub returns : goal.returns
 returns c =
     let s : List ℕ = c.args.slot.now in
+    let n : ℕ = c.from_le_bytes-size.result in
     let known = c.type_inv.slot in
-    let n : payload_length s ≡ get_or s 2 0 + 256 * get_or s 3 0 = length_at_is s c.requires.0 in
-    let z = c.zero_part in
-    let y = c.zero_part-2 in
-    let t : same (part (payload_at + payload_length s) (room - payload_length s) s) (zeros (room - payload_length s)) ≡ true =
-    ap (λ (k : ℕ). same (part (payload_at + k) (room - k) s) (zeros (room - k))) n ∙ (sym y.ensures ∙ c.if-not-zero_part-2.false) in
-    rw (
-      patch_value s c.requires.0 c.requires.1 (omega (arith, known 2)) (omega (arith, known 3)) (omega arith),
-      eq-eqb (get_or s 1 0) 1
-          c.if-slot-ne-PATCH_FLAGS.false,
-      (sym z.ensures ∙ c.if-not-zero_part.false),
-      t,
-    ) (sym n)
+    let size : payload_length s ≡ n = length_at_is s c.requires.0 ∙ omega (arith, c.from_le_bytes-size.ensures) in
+    let test : is_patch s
+    ≡ (eqb (get_or s 1 0) 1 && (same (part 4 4 s) (zeros 4) && same (part (payload_at + n) (room - n) s) (zeros (room - n)))) =
+    patch_test s n c.requires.0 c.requires.1 size (omega (arith, known 2)) (omega (arith, known 3)) (omega arith) (omega arith) in
+    let value : c.if-slot-eq-PATCH_FLAGS.value ≡ (eqb (get_or s 1 0) 1 && same (part 4 4 s) (zeros 4)) =
+    elim c.if-slot-eq-PATCH_FLAGS.branch [
+      | then-slot-eq-PATCH_FLAGS w ↦ rw (eq-eqb (get_or s 1 0) 1 w.if-slot-eq-PATCH_FLAGS.true) (w.value-is ∙ w.zero_part.ensures)
+      | else-slot-eq-PATCH_FLAGS w ↦
+          let e : eqb (get_or s 1 0) 1 ≡ false = ne_eqb (get_or s 1 0) 1 w.if-slot-eq-PATCH_FLAGS.false in
+          rw e (w.value-is ∙ e)
+    ] in
+    let sound : c.if-zero_part.sound ≡ (c.if-slot-eq-PATCH_FLAGS.value && same (part (payload_at + n) (room - n) s) (zeros (room - n))) =
+    elim c.if-zero_part.branch [
+      | then-zero_part w ↦ rw w.if-zero_part.true (w.sound-is ∙ w.zero_part-sound.ensures)
+      | else-zero_part w ↦ rw w.if-zero_part.false (w.sound-is ∙ w.if-zero_part.false)
+    ] in
+    rw (c.then_some.ensures, sound, value, and_assoc, test) (told _ n (payload_length s) (sym size))

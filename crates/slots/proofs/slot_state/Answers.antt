@@ -1,68 +1,30 @@
-use Rattle.slots.specs.SlotLaws.{slot_short, slot_patch, slot_other, plain_numbers, patch_none, patch_some}
+use Rattle.std.proofs.Common.{ℕ, List, ◌≡◌, ◌∙◌, sym, ap, arith, rules, length, get_or, None}
+use Rattle.std.specs.Option.{MatchOption, IsSomeAnd}
+use Rattle.layout.specs.Numbers.{kind_number}
 use Rattle.layout.specs.Sizes.{slot_size}
-use borrow.Author.Tests.{eq-eqb, ne_eqb}
-use lib.ListN.{length, get_or}
-use mathlib.Core.List.{List}
-use mathlib.Core.Path.{◌≡◌, sym, ◌∙◌}
-use Prim.Native.Nat.{ℕ}
+use Rattle.slots.specs.SlotLaws.{plain_numbers, plain_state, patch_state}
+use Rattle.slots.specs.declared.SlotState.TheVariants.{Empty, Patch, Full}
 use Rattle.slots.proofs.slot_state.Goals as goal
-
-pub returns-then-slot-ne-SLOT : goal.returns-then-slot-ne-SLOT
-returns-then-slot-ne-SLOT c = sym (slot_short c.args.slot.now c.if-slot-ne-SLOT.true)
-
-pub returns-then-n-eq0 : goal.returns-then-n-eq0
-returns-then-n-eq0 c =
-    let s : List ℕ = c.args.slot.now in
-    let l : length s ≡ slot_size = c.if-slot-ne-SLOT.false in
-    let p = c.patch_length-n in
-    sym (slot_patch s l c.if-kind-eq-PATCH_KIND.true ∙ patch_none s (sym p.ensures ∙ c.if-n-eq0.true))
-
-pub returns-then-kind-eq-PATCH_KIND : goal.returns-then-kind-eq-PATCH_KIND
-returns-then-kind-eq-PATCH_KIND c =
-    let s : List ℕ = c.args.slot.now in
-    let l : length s ≡ slot_size = c.if-slot-ne-SLOT.false in
-    let p = c.patch_length-n in
-    sym (slot_patch s l c.if-kind-eq-PATCH_KIND.true ∙ patch_some s p.result c.if-n-eq0.false (sym p.ensures))
-
-pub returns-then-not-zero_part : goal.returns-then-not-zero_part
-returns-then-not-zero_part c =
-    let s : List ℕ = c.args.slot.now in
-    let l : length s ≡ slot_size = c.if-slot-ne-SLOT.false in
-    let z = c.zero_part in
-    rw (slot_other s l c.if-kind-eq-PATCH_KIND.false, (sym z.ensures ∙ c.if-not-zero_part.true))
-
-pub returns-then-kind-eq-EMPTY_KIND : goal.returns-then-kind-eq-EMPTY_KIND
-unfolding plain_numbers
-returns-then-kind-eq-EMPTY_KIND c =
-    let s : List ℕ = c.args.slot.now in
-    let l : length s ≡ slot_size = c.if-slot-ne-SLOT.false in
-    let z = c.zero_part in
-    rw (slot_other s l c.if-kind-eq-PATCH_KIND.false, (sym z.ensures ∙ c.if-not-zero_part.false), eq-eqb (get_or s 0 0) 0 c.if-kind-eq-EMPTY_KIND.true)
-
-pub returns-then-kind-eq-FULL_KIND : goal.returns-then-kind-eq-FULL_KIND
-unfolding plain_numbers
-returns-then-kind-eq-FULL_KIND c =
-    let s : List ℕ = c.args.slot.now in
-    let l : length s ≡ slot_size = c.if-slot-ne-SLOT.false in
-    let z = c.zero_part in
-    rw (
-      slot_other s l c.if-kind-eq-PATCH_KIND.false,
-      (sym z.ensures ∙ c.if-not-zero_part.false),
-      ne_eqb (get_or s 0 0) 0
-          c.if-kind-eq-EMPTY_KIND.false,
-      eq-eqb (get_or s 0 0) 2 c.if-kind-eq-FULL_KIND.true,
-    )
+use Rattle.slots.proofs.slot_state.Goals.{in-Empty, in-Patch, in-Full}
 
 pub returns : goal.returns
 unfolding plain_numbers
 returns c =
     let s : List ℕ = c.args.slot.now in
     let l : length s ≡ slot_size = c.if-slot-ne-SLOT.false in
-    let z = c.zero_part in
-    rw (
-      slot_other s l c.if-kind-eq-PATCH_KIND.false,
-      (sym z.ensures ∙ c.if-not-zero_part.false),
-      ne_eqb (get_or s 0 0) 0
-          c.if-kind-eq-EMPTY_KIND.false,
-      ne_eqb (get_or s 0 0) 2 c.if-kind-eq-FULL_KIND.false,
-    )
+    let k : get_or s 0 0 ≡ kind_number c.in_ok-try_from.field-0 = sym c.from.ensures ∙ sym c.in_ok-try_from.ensures in
+    rw c.ok_or.ensures.value
+    (elim c.match-branch-2.branch [
+      | in-Empty w ↦
+          let e : get_or s 0 0 ≡ 0 = k ∙ ap kind_number w.in-Empty.is in
+          rw (w.state-is, w.then_some-state.ensures, w.rest_is_zero.ensures) (plain_state s l (λ q. omega arith) Empty (rw e))
+      | in-Patch w ↦
+          let m : MatchOption w.patch_length.result (w.map-state.result ≡ None) (λ n. IsSomeAnd w.map-state.result (λ p. p ≡ Patch n)) =
+          search rules in
+          rw w.state-is
+          (patch_state s l (k ∙ ap kind_number w.in-Patch.is) w.patch_length.result w.map-state.result w.patch_length.ensures m)
+      | in-Full w ↦
+          let e : get_or s 0 0 ≡ 2 = k ∙ ap kind_number w.in-Full.is in
+          rw (w.state-is, w.then_some-state-in-Full.ensures, w.rest_is_zero-in-Full.ensures)
+          (plain_state s l (λ q. omega arith) Full (rw e))
+    ])

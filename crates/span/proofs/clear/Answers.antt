@@ -6,8 +6,11 @@ use Rattle.span.specs.Bytes.{zeros}
 use Rattle.span.specs.Laws.{same_is}
 use Rattle.span.proofs.clear.Goals as goal
 
--- src/lib.rt:37:9
-pub returns-then-all_zero : goal.returns-then-all_zero
-returns-then-all_zero c =
+pub returns-then-not-all_zero : goal.returns-then-not-all_zero
+unfolding zeros
+returns-then-not-all_zero c = c.fill.ensures.after (λ y e. e)
+
+pub returns-else-not-all_zero : goal.returns-else-not-all_zero
+returns-else-not-all_zero c =
     let d : List ℕ = c.args.dst.now in
-    same_is d (zeros (length d)) (sym c.all_zero.ensures ∙ c.if-all_zero.true)
+    same_is d (zeros (length d)) (sym c.all_zero.ensures ∙ c.if-not-all_zero.false)

@@ -1,36 +1,23 @@
-use mir.ValLaws.{to_z-of_z}
-use mir.Val.{to_z, of_z}
-use mir.Syntax.{w32}
-use lib.IntN.{ℤ}
-use lib.ListN.{length}
-use Prim.Native.Nat.{ℕ}
-use mathlib.Core.Path.{subst}
-use Rattle.payload.specs.declared.Checked.{Checked}
+use Rattle.std.specs.Prelude.{length}
+use Rattle.layout.specs.Exits.{left_with}
 use Rattle.payload.specs.Steps.{reach}
-use Rattle.payload.specs.StepLaws.{Judges, SoundAs, judged}
+use Rattle.payload.specs.StepLaws.{judged}
 use Rattle.stream.proofs.Answers.{applies_unsound, applies_sound}
-use borrow.Author.Rules.{rules}
+use Rattle.std.specs.Prelude.{Ok, Err}
 use Rattle.stream.proofs.apply_to.Goals as goal
 
-pub returns-in-Unsound : goal.returns-in-Unsound
-returns-in-Unsound c =
+pub returns-in_err-sound : goal.returns-in_err-sound
+returns-in_err-sound c =
     let a = c.args in
-    let k : ℕ = reach (length a.page.now) in
-    applies_unsound k a.base.now a.payload.now a.page.now c.in-Unsound.offset
-    (subst (λ (r : Checked). Judges k a.payload.now r) c.in-Unsound.is
-    (judged k a.payload.now c.check.result c.check.ensures))
+    let k = reach (length a.page.now) in
+    rw (left_with c.from_residual.ensures)
+    (applies_unsound k a.base.now a.payload.now a.page.now c.in_err-sound.field-0.0.offset
+    (judged k a.payload.now (Err c.in_err-sound.field-0.0) c.in_err-sound.ensures))
 
-pub returns-in-Sound : goal.returns-in-Sound
-returns-in-Sound c =
+pub returns : goal.returns
+returns c =
     let a = c.args in
-    let k : ℕ = reach (length a.page.now) in
-    let e : ℕ = c.in-Sound.entries in
-    let l : ℤ = c.in-Sound.last in
-    let checked = c.check in
-    let s : SoundAs k a.payload.now e l = subst (λ (r : Checked). Judges k a.payload.now r)
-    c.in-Sound.is
-    (judged k a.payload.now checked.result checked.ensures) in
-    applies_sound a.base.now a.payload.now a.page.now c.copy.new.dst
-    c.overlay.new.page e l (to_z w32 (of_z w32 l))
-    (to_z-of_z w32 l (search rules)) s
-    c.copy.ensures c.overlay.ensures
+    let k = reach (length a.page.now) in
+    let s = c.in_ok-sound.sound in
+    applies_sound a.base.now a.payload.now a.page.now c.copy.new.dst c.overlay.new.page s
+    (judged k a.payload.now (Ok s) c.in_ok-sound.ensures) c.copy.ensures c.overlay.ensures

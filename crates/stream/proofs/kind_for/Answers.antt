@@ -1,11 +1,12 @@
 use Rattle.stream.specs.Laws.{kind_none, kind_large, kind_patch}
+use native.Mathlib.Omega.{arith}
 use Rattle.stream.proofs.kind_for.Goals as goal
 
-pub returns-then-length-eq0 : goal.returns-then-length-eq0
-returns-then-length-eq0 c = kind_none c.args.length c.if-length-eq0.true
+pub returns-in-0 : goal.returns-in-0
+returns-in-0 c = kind_none c.args.length c.in-0.is
 
-pub returns-then-length-gt-ROOM : goal.returns-then-length-gt-ROOM
-returns-then-length-gt-ROOM c = kind_large c.args.length c.if-length-gt-ROOM.true
+pub returns-in-1-to-504 : goal.returns-in-1-to-504
+returns-in-1-to-504 c = kind_patch c.args.length (λ q. omega (arith, c.in-1-to-504)) (omega (arith, c.in-1-to-504))
 
-pub returns : goal.returns
-returns c = kind_patch c.args.length c.if-length-eq0.false c.if-length-gt-ROOM.false
+pub returns-in_default : goal.returns-in_default
+returns-in_default c = kind_large c.args.length (omega (arith, c.in_default))

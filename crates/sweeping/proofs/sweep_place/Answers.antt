@@ -2,9 +2,6 @@ use mathlib.Core.Path.{sym, ◌∙◌}
 use Rattle.sweeping.proofs.SweepTold.{place_filled}
 use Rattle.sweeping.proofs.sweep_place.Goals as goal
 
-pub returns-then-is_full : goal.returns-then-is_full
-returns-then-is_full c = rw (sym c.is_full.ensures ∙ c.if-is_full.true)
-
 pub returns : goal.returns
 returns c =
     let a = c.args in

@@ -1,95 +1,41 @@
-use Rattle.carrying.specs.PutLaws.{nothing_stored, zeros_stored, page_stored}
+use Prim.Native.Nat.{◌+◌, ◌≤◌, ◌<◌}
+use native.Mathlib.Omega.{arith}
+use mathlib.Core.Path.{◌≡◌, ap}
+use Rattle.std.proofs.Common.{⊎_elim}
+use lib.ListN.{length}
 use Rattle.layout.specs.Lengths.{pages_in}
 use Rattle.layout.specs.Numbers.{kind_number}
 use Rattle.layout.specs.Sizes.{page_at}
-use lib.ListN.{length}
-use mathlib.Core.Path.{◌≡◌, sym, ap, ◌∙◌}
-use native.Mathlib.Omega.{arith}
-use Prim.Native.Nat.{ℕ, ◌+◌, ◌≤◌, ◌<◌}
+use Rattle.carrying.specs.PutLaws.{nothing_stored, zeros_stored, page_stored}
 use Rattle.carrying.proofs.stores.store_place.Goals as goal
+use Rattle.carrying.proofs.stores.store_place.Goals.{Else-frame-block}
 
-other_kind : {k j : ℕ} → k ≡ j → (j ≡ 2 → ⊥) → k ≡ 2 → ⊥
-other_kind e h q = h (sym e ∙ q)
+-- the block has a place, which lies in the full area
+below : (c : Else-frame-block) → let a = c.args in a.block < pages_in a.frame.size (length a.full.now)
+below c = omega (arith, c.requires.full_area.0, c.if-frame-block.false)
 
-pub returns-then-m-block : goal.returns-then-m-block
-returns-then-m-block c =
+within : (c : Else-frame-block) → let a = c.args in page_at a.frame.size a.block + a.frame.size ≤ length a.full.now
+within c = c.requires.full_area.1 c.args.block (below c)
+
+pub returns-then-frame-block : goal.returns-then-frame-block
+returns-then-frame-block c =
     let a = c.args in
-    nothing_stored a.size a.full.now a.block (kind_number a.kind) a.page.now (omega (arith, c.requires.full_area.0, c.if-m-block.true))
-
-pub overflow_add-end : goal.overflow_add-end
-overflow_add-end c =
-    let a = c.args in
-    let below : a.block < pages_in a.size (length a.full.now) = omega
-    (arith, c.requires.full_area.0, c.if-m-block.false) in
-    let fits : page_at a.size a.block + a.size ≤ length a.full.now = c.requires.full_area.1 a.block below in
-    let e : c.page_at-at.result ≡ page_at a.size a.block = c.page_at-at.ensures in
-    omega arith
-
-pub slice_bounds-fill-end : goal.slice_bounds-fill-end
-slice_bounds-fill-end c =
-    let a = c.args in
-    let below : a.block < pages_in a.size (length a.full.now) = omega
-    (arith, c.requires.full_area.0, c.if-m-block.false) in
-    let fits : page_at a.size a.block + a.size ≤ length a.full.now = c.requires.full_area.1 a.block below in
-    let e : c.page_at-at.result ≡ page_at a.size a.block = c.page_at-at.ensures in
-    omega arith
-
-pub slice_bounds-fill-end-in-Patch : goal.slice_bounds-fill-end-in-Patch
-slice_bounds-fill-end-in-Patch c =
-    let a = c.args in
-    let below : a.block < pages_in a.size (length a.full.now) = omega
-    (arith, c.requires.full_area.0, c.if-m-block.false) in
-    let fits : page_at a.size a.block + a.size ≤ length a.full.now = c.requires.full_area.1 a.block below in
-    let e : c.page_at-at.result ≡ page_at a.size a.block = c.page_at-at.ensures in
-    omega arith
-
-pub slice_bounds-copy-end : goal.slice_bounds-copy-end
-slice_bounds-copy-end c =
-    let a = c.args in
-    let below : a.block < pages_in a.size (length a.full.now) = omega
-    (arith, c.requires.full_area.0, c.if-m-block.false) in
-    let fits : page_at a.size a.block + a.size ≤ length a.full.now = c.requires.full_area.1 a.block below in
-    let e : c.page_at-at.result ≡ page_at a.size a.block = c.page_at-at.ensures in
-    omega arith
+    nothing_stored a.frame.size a.full.now a.block (kind_number a.stored.kind) a.stored.page.now
+    (omega (arith, c.requires.full_area.0, c.if-frame-block.true))
 
 pub returns-in-Empty : goal.returns-in-Empty
 returns-in-Empty c =
+    let g = (goal.at.returns-in-Empty c).Else-frame-block in
     let a = c.args in
-    let below : a.block < pages_in a.size (length a.full.now) = omega (
-      arith,
-      c.requires.full_area.0,
-      c.if-m-block.false,
-    ) in
-    let fits : page_at a.size a.block + a.size ≤ length a.full.now = c.requires.full_area.1 a.block below in
-    let e : c.page_at-at.result ≡ page_at a.size a.block = c.page_at-at.ensures in
-    zeros_stored a.size a.full.now a.block c.page_at-at.result a.page.now
-    c.fill.new.dst e below fits (kind_number a.kind)
-    (other_kind (ap kind_number c.in-Empty.is) (omega arith)) c.fill.ensures
-
-pub returns-in-Patch : goal.returns-in-Patch
-returns-in-Patch c =
-    let a = c.args in
-    let below : a.block < pages_in a.size (length a.full.now) = omega (
-      arith,
-      c.requires.full_area.0,
-      c.if-m-block.false,
-    ) in
-    let fits : page_at a.size a.block + a.size ≤ length a.full.now = c.requires.full_area.1 a.block below in
-    let e : c.page_at-at.result ≡ page_at a.size a.block = c.page_at-at.ensures in
-    zeros_stored a.size a.full.now a.block c.page_at-at.result a.page.now
-    c.fill-in-Patch.new.dst e below fits (kind_number a.kind)
-    (other_kind (ap kind_number c.in-Patch.is) (omega arith)) c.fill-in-Patch.ensures
+    let k = kind_number a.stored.kind in
+    let other : k ≡ 2 → ⊥ = ⊎_elim (λ e q. omega (arith, ap kind_number e, q)) (λ e q. omega (arith, ap kind_number e, q)) c.in-Empty.is in
+    zeros_stored a.frame.size a.full.now a.block c.page_at-at.result a.stored.page.now c.fill.new.dst c.page_at-at.ensures (below g) (within g) k
+    other c.fill.ensures
 
 pub returns-in-Full : goal.returns-in-Full
 returns-in-Full c =
+    let g = (goal.at.returns-in-Full c).Else-frame-block in
     let a = c.args in
-    let below : a.block < pages_in a.size (length a.full.now) = omega (
-      arith,
-      c.requires.full_area.0,
-      c.if-m-block.false,
-    ) in
-    let fits : page_at a.size a.block + a.size ≤ length a.full.now = c.requires.full_area.1 a.block below in
-    let e : c.page_at-at.result ≡ page_at a.size a.block = c.page_at-at.ensures in
-    page_stored a.size a.full.now a.block c.page_at-at.result a.page.now
-    c.copy.new.dst e below fits (kind_number a.kind) (ap kind_number c.in-Full.is)
-    (c.requires.page_length (ap kind_number c.in-Full.is)) c.copy.ensures
+    let e = ap kind_number c.in-Full.is in
+    page_stored a.frame.size a.full.now a.block c.page_at-at.result a.stored.page.now c.copy.new.dst c.page_at-at.ensures (below g) (within g)
+    (kind_number a.stored.kind) e (c.requires.page_lent e) c.copy.ensures

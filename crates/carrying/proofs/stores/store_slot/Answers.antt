@@ -5,6 +5,5 @@ use Rattle.carrying.proofs.stores.store_slot.Goals as goal
 pub returns : goal.returns
 returns c =
     let a = c.args in
-    slot_stored a.patch.now a.block c.slot_at-at.result (kind_number a.kind) a.payload.now
-    c.put_slot.new.slot c.slot_at-at.ensures c.requires.0 c.requires.1
-    c.put_slot.ensures
+    slot_stored a.patch.now a.block c.slot_at-at.result (kind_number a.stored.kind) a.stored.payload.now
+    c.put_slot.new.slot c.slot_at-at.ensures c.requires a.stored.few c.put_slot.ensures

@@ -3,11 +3,12 @@ use mathlib.Core.Path.{◌≡◌, sym, ap, ◌∙◌}
 use mathlib.Core.Bool.{Bool, true, cond}
 use lib.Dec.{leb}
 use lib.ListN.{length}
+use Rattle.layout.specs.Exits.{left_with}
 use Rattle.layout.specs.Sizes.{page_size}
 use Rattle.layout.specs.NumberLaws.{refusal_some}
 use Rattle.blockmap.specs.Pairs.{map_bytes}
 use Rattle.blockmap.specs.Pack.{clear_pairs}
-use Rattle.cutting.specs.Cut.{CutOutcome, cut_by, shortened_number}
+use Rattle.cutting.specs.Cut.{CutOutcome, cut_by}
 use Rattle.cutting.specs.Mapped.{cut_mapped_outcome}
 use Rattle.cutting.specs.Parts.{told_rows}
 use Rattle.cutting.specs.CutLaws.{cut_told, map_done, map_not}
@@ -26,32 +27,31 @@ told c =
     (ap (λ (k : ℕ). leb k (length a.map.now))
     (c.map_bytes-needed.ensures ∙ ap map_bytes c.blocks-n.ensures))
 
-pub returns-in-Refused : goal.returns-in-Refused
-returns-in-Refused c =
+pub returns-in_err-cut_with : goal.returns-in_err-cut_with
+returns-in_err-cut_with c =
     let a = c.args in
-    let w = c.cut_with.ensures in
-    let e = told (goal.at.returns-in-Refused c).After-cut_with in
-    let numbers = sym (ap shortened_number c.in-Refused.is) ∙ w.numbers ∙ ap (λ (o : CutOutcome). o.number) e in
-    record {
+    let w = c.in_err-cut_with.ensures in
+    let e = told (goal.at.returns-in_err-cut_with c).After-cut_with in
+    let numbers = w.numbers ∙ ap (λ (o : CutOutcome). o.number) e in
+    rw (left_with c.from_residual.ensures) (record {
       numbers = numbers;
       patch_bytes = w.patch_bytes ∙ ap (λ (o : CutOutcome). o.patch) e;
       full_bytes = w.full_bytes ∙ ap (λ (o : CutOutcome). o.full) e;
       map_bytes_is =
           sym
-          (map_not page_size a.patch.now a.full.now a.map.now a.k (λ z. refusal_some c.in-Refused.refusal (numbers ∙ z)));
-    }
+          (map_not page_size a.patch.now a.full.now a.map.now a.k (λ z. refusal_some c.in_err-cut_with.field-0.0 (numbers ∙ z)));
+    })
 
-pub returns-in-Done : goal.returns-in-Done
-returns-in-Done c =
+pub returns : goal.returns
+returns c =
     let a = c.args in
     let n = c.blocks-n in
-    let w = c.cut_with.ensures in
-    let e = told (goal.at.returns-in-Done c).After-cut_with in
-    let done = sym (ap shortened_number c.in-Done.is) ∙ w.numbers in
-    let numbers = done ∙ ap (λ (o : CutOutcome). o.number) e in
+    let w = c.in_ok-cut_with.ensures in
+    let e = told (goal.at.returns c).After-cut_with in
+    let numbers = w.numbers ∙ ap (λ (o : CutOutcome). o.number) e in
     let fits : leb (map_bytes n.result) (length a.map.now) ≡ true =
     ap (λ (k : ℕ). leb k (length a.map.now)) (sym c.map_bytes-needed.ensures)
-    ∙ told_fits page_size _ a.patch.now a.full.now a.k (sym done) in
+    ∙ told_fits page_size _ a.patch.now a.full.now a.k (sym w.numbers) in
     record {
       numbers = numbers;
       patch_bytes = w.patch_bytes ∙ ap (λ (o : CutOutcome). o.patch) e;

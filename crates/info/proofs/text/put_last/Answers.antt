@@ -1,31 +1,17 @@
-use Rattle.info.specs.Signed.{not_below, read_fits}
-use Rattle.info.proofs.Words.{last_none, last_some}
-use mir.ValLaws.{to_z-of_z}
-use mir.Val.{to_z, of_z}
-use mir.Syntax.{w32}
 use lib.IntN.{ℤ}
-use native.Mathlib.Omega.{arith}
+use mir.Syntax.{w32}
+use mir.Val.{to_z, of_z}
+use mir.ValLaws.{to_z-of_z}
+use Rattle.info.proofs.Words.{last_none, last_some}
 use Rattle.info.proofs.text.put_last.Goals as goal
 
-pub returns-then-last-lt0 : goal.returns-then-last-lt0
-returns-then-last-lt0 c =
-    let put = c.put_word in
-    let l : ℤ = c.args.last in record {
-      bytes = last_none (to_z w32 (of_z w32 l)) l (to_z-of_z w32 l c.ranges.last) c.if-last-lt0.true put.ensures;
-      short = omega (arith, put.ensures.next);
-    }
-
-pub overflow_cast-last : goal.overflow_cast-last
-overflow_cast-last c =
+pub returns-in-Ok-clause-bytes : goal.returns-in-Ok-clause-bytes
+returns-in-Ok-clause-bytes c =
     let l : ℤ = c.args.last in
-    let r : ℤ = to_z w32 (of_z w32 l) in
-    let left = c.if-last-lt0.false in
-    (not_below r left, read_fits r l (to_z-of_z w32 l c.ranges.last) c.ranges.last left)
+    let told = c.in-Ok.ensures in
+    last_some (to_z w32 (of_z w32 l)) l c.in-Ok.n (to_z-of_z w32 l c.ranges.last) told.0 told.1 c.put_line.ensures.bytes
 
-pub returns : goal.returns
-returns c =
-    let put = c.put_line in
-    let l : ℤ = c.args.last in record {
-      bytes = last_some (to_z w32 (of_z w32 l)) l (to_z-of_z w32 l c.ranges.last) c.if-last-lt0.false put.ensures.bytes;
-      short = omega (arith, put.ensures.short);
-    }
+pub returns-in-Err-clause-bytes : goal.returns-in-Err-clause-bytes
+returns-in-Err-clause-bytes c =
+    let l : ℤ = c.args.last in
+    last_none (to_z w32 (of_z w32 l)) l (to_z-of_z w32 l c.ranges.last) c.ranges.last c.in-Err.ensures c.put_word.ensures

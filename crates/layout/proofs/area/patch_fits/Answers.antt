@@ -5,7 +5,6 @@ use mathlib.Core.Bool.{Bool, true, false, ◌&&◌, and-true, and-false}
 use lib.Dec.{eqb, leb}
 use borrow.Author.Tests.{ne_eqb, le-leb, lt-leb}
 use Rattle.layout.specs.Sizes.{slot_at, blocks_at_most}
-use Rattle.layout.specs.LengthLaws.{most_blocks}
 use Rattle.layout.specs.Lengths.{patch_fits, blocks_in}
 use Rattle.layout.proofs.area.patch_fits.Goals as goal
 
@@ -23,9 +22,6 @@ returns-then-most_blocks-n c =
     let f : leb (blocks_in l) (blocks_at_most a.size) ≡ false =
     lt-leb (blocks_in l) (blocks_at_most a.size) (omega (arith, c.most_blocks.ensures, c.blocks-n.ensures)) in
     sym (ap (λ (t : Bool). eqb l (slot_at (blocks_in l)) && t) f ∙ and-false (eqb l (slot_at (blocks_in l))))
-
-pub overflow_cast-n : goal.overflow_cast-n
-overflow_cast-n c = omega (arith, most_blocks c.args.size, c.most_blocks.ensures)
 
 pub returns : goal.returns
 unfolding patch_fits

@@ -1,11 +1,14 @@
+use mathlib.Core.Path.{ap, ◌∙◌}
 use mir.ValLaws.{to_z-of_z}
 use mir.Val.{to_z, of_z}
 use mir.Syntax.{w32}
+use lib.IntN.{ℤ, pos, ◌+ℤ◌}
 use lib.ListN.{get_or}
-use Prim.Native.Nat.{◌+◌}
+use Prim.Native.Nat.{ℕ, ◌+◌}
 use native.Mathlib.Omega.{arith}
-use Rattle.payload.specs.Steps.{reach}
-use Rattle.payload.proofs.Reading.{Opened, at_end, cut, opened_short, opened_long, lands}
+use Rattle.payload.specs.Entries.{in_page}
+use Rattle.payload.specs.Steps.{reach, landing}
+use Rattle.payload.proofs.Reading.{Opened, at_end, cut, opened_short, opened_long, broken_long, lands}
 use Rattle.payload.proofs.entry.step.Goals as goal
 
 pub returns-then-payload-place : goal.returns-then-payload-place
@@ -18,45 +21,27 @@ returns-then-payload-place-lt-SHORT_WIDTH c =
     let a = c.args in
     cut a.payload.now a.place (reach a.size) a.position (omega arith) c.if-payload-place-lt-SHORT_WIDTH.true
 
-pub overflow_cast-first : goal.overflow_cast-first
-overflow_cast-first c =
-    let a = c.args in
-    omega (arith, c.type_inv.payload a.place)
-
-pub landed-requires : goal.landed-requires
-landed-requires c =
-    let a = c.args in
-    omega (arith, c.type_inv.payload a.place)
-
 pub returns-then-first : goal.returns-then-first
 returns-then-first c =
     let a = c.args in
-    let b = c.type_inv.payload a.place in
-    let j = get_or a.payload.now a.place 0 in
-    let o : Opened a.payload.now a.place j 2 =
-    opened_short a.payload.now a.place (omega arith) (omega (arith, b)) c.if-first.true in
-    lands a.payload.now a.place j 2 (a.place + 1) o (omega arith) (reach a.size) a.position (to_z w32 (of_z w32 a.position))
-    c.landed.result (omega (arith, b))
+    let s = a.payload.now in
+    let p : ℤ = to_z w32 (of_z w32 a.position) in
+    let o : Opened s a.place (get_or s a.place 0) 2 = opened_short s a.place (omega arith) c.if-first.true in
+    lands s a.place (get_or s a.place 0) 2 (a.place + 1) o (omega arith) (reach a.size) a.position p c.landed.result
     (to_z-of_z w32 a.position c.ranges.position)
-    c.landed.ensures
+    (c.landed.ensures
+    ∙ ap (λ (j : ℕ). landing (in_page (reach a.size) (p +ℤ pos (j + 1))) (p +ℤ pos (j + 1)) (get_or s (a.place + 1) 0) (a.place + 2)) c.from.ensures)
 
-pub returns-then-jump-ge-REACH : goal.returns-then-jump-ge-REACH
-returns-then-jump-ge-REACH c =
+pub returns-in_default : goal.returns-in_default
+returns-in_default c =
     let a = c.args in
-    let o : Opened a.payload.now a.place c.long_jump-jump.result 4 =
-    opened_long a.payload.now a.place c.long_jump-jump.result (omega arith) c.if-first.false c.long_jump-jump.ensures in
-    o.broken (reach a.size) a.position c.if-jump-ge-REACH.true
-
-pub bounds-payload-place-2 : goal.bounds-payload-place-2
-bounds-payload-place-2 c = omega (arith, c.long_jump-jump.ensures.within c.if-jump-ge-REACH.false)
+    broken_long a.payload.now a.place (omega arith) c.if-first.false c.in_default.ensures (reach a.size) a.position
 
 pub returns : goal.returns
 returns c =
     let a = c.args in
-    let j = c.long_jump-jump.result in
-    let o : Opened a.payload.now a.place j 4 =
-    opened_long a.payload.now a.place j (omega arith) c.if-first.false c.long_jump-jump.ensures in
-    lands a.payload.now a.place j 4 (a.place + 3) o (omega arith) (reach a.size) a.position (to_z w32 (of_z w32 a.position))
-    c.landed-2.result c.if-jump-ge-REACH.false
-    (to_z-of_z w32 a.position c.ranges.position)
-    c.landed-2.ensures
+    let s = a.payload.now in
+    let j : ℕ = c.in-Some.jump in
+    let o : Opened s a.place j 4 = opened_long s a.place (omega arith) c.if-first.false j c.in-Some.ensures in
+    lands s a.place j 4 (a.place + 3) o (omega arith) (reach a.size) a.position (to_z w32 (of_z w32 a.position)) c.landed-2.result
+    (to_z-of_z w32 a.position c.ranges.position) c.landed-2.ensures

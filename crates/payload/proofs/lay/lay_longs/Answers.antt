@@ -1,65 +1,44 @@
-use Prim.Native.Nat.{ℕ, ◌+◌, ◌-◌}
-use mathlib.Core.List.{List}
+use Prim.Native.Nat.{ℕ, ◌+◌}
 use native.Mathlib.Omega.{arith}
-use lib.ListN.{get_or}
-use Rattle.payload.proofs.Reading.{Opened, opened_long, enters, leaves}
-use Rattle.payload.proofs.Turns.{lays_none, lays_more, over_broken, over_few}
+use mathlib.Core.Bool.{Bool, true, false}
+use mathlib.Core.Path.{◌≡◌, refl}
+use lib.Dec.{ltb}
+use lib.ListN.{length, get_or, set}
+use borrow.Author.Tests.{ltb-true, ltb-false}
+use Rattle.payload.specs.Steps.{Over}
+use Rattle.payload.proofs.Reading.{opened_long, broken_long, enters, leaves}
+use Rattle.payload.proofs.Turns.{lays_at, lays_more, over_broken}
 use Rattle.payload.proofs.lay.lay_longs.Goals as goal
 
-pub loop-place-init : goal.loop-place-init
-loop-place-init c =
+pub loop-reached-preserved : goal.loop-reached-preserved
+loop-reached-preserved c =
     let a = c.args in
-    lays_none a.end a.payload.now a.page.now a.from a.after c.requires.1
+    let l = c.loop-reached in
+    let s = a.payload.now in
+    let n : ℕ = length a.page.now in
+    let k : ℕ = l.reached.place in
+    let j : ℕ = c.jump_or_out.result in
+    let o = opened_long s k (omega arith) c.if-payload-reached.false j (c.jump_or_out.ensures.jump (omega arith)) in
+    lays_at n s a.page.now a.from (set l.page (l.reached.next + j) (get_or s (k + 3) 0)) (k + 4) (l.reached.next + j + 1)
+    (lays_more n s a.page.now a.from l.page k l.reached.next l.invariant (l.reached.next + j) (get_or s (k + 3) 0) (k + 4)
+    (enters s k j 4 (k + 3) o (omega arith) n l.reached.next (omega arith)))
+    c.new-reached.result c.new-reached.ensures.place c.new-reached.ensures.next
 
-pub overflow_add-at : goal.overflow_add-at
-overflow_add-at c = omega (arith, c.long_jump.ensures.few)
-
-pub overflow_add-page : goal.overflow_add-page
-overflow_add-page c = omega (arith, c.long_jump.ensures.within (omega arith))
-
-pub bounds-payload-place-in-loop-place : goal.bounds-payload-place-in-loop-place
-bounds-payload-place-in-loop-place c = omega (arith, c.long_jump.ensures.within (omega arith))
-
-pub bounds-page-at : goal.bounds-page-at
-bounds-page-at c = omega arith
-
-pub overflow_add-place : goal.overflow_add-place
-overflow_add-place c = omega (arith, c.long_jump.ensures.within (omega arith))
-
-pub loop-place-smaller : goal.loop-place-smaller
-loop-place-smaller c = omega (arith, c.long_jump.ensures.within (omega arith))
-
-pub loop-place-preserved : goal.loop-place-preserved
-loop-place-preserved c =
-    let a = c.args in
-    let l = c.loop-place in
-    let s : List ℕ = a.payload.now in
-    let long = c.long_jump in
-    let j : ℕ = long.result in
-    let o : Opened s (l.place - 1) j 4 = opened_long s (l.place - 1) j (omega arith) c.if-payload-place.false long.ensures in
-    lays_more a.end s a.page.now a.from a.after l.page (record { place = l.place; next = l.next }) l.invariant (omega arith) (l.next + j)
-    (get_or s (l.place + 2) 0) (l.place - 1 + 4) (l.place + 4)
-    (enters s (l.place - 1) j 4 (l.place + 2) o (omega arith) a.end l.next (omega arith) (omega arith))
-    (omega arith) (omega arith) (omega arith)
-
-pub returns-after-loop-place : goal.returns-after-loop-place
-returns-after-loop-place c =
-    let a = c.args in
-    let l = c.loop-place in
-    (l.invariant, λ _. over_few a.end a.payload.now (record { place = l.place; next = l.next }) (omega arith))
-
-pub returns-then-payload-place : goal.returns-then-payload-place
-returns-then-payload-place c = (c.loop-place.invariant, λ d. absurd (c.if-payload-place.true d))
-
-pub returns-then-end-at : goal.returns-then-end-at
-returns-then-end-at c =
-    let a = c.args in
-    let l = c.loop-place in
-    let s : List ℕ = a.payload.now in
-    let long = c.long_jump in
-    let j : ℕ = long.result in (
+pub returns-then-page-at : goal.returns-then-page-at
+returns-then-page-at c =
+    let l = c.loop-reached in
+    let s = c.args.payload.now in
+    let n : ℕ = length c.args.page.now in
+    let k : ℕ = l.reached.place in
+    let j : ℕ = c.jump_or_out.result in
+    let f = c.jump_or_out.ensures in (
       l.invariant,
-      λ d. over_broken a.end s (record { place = l.place; next = l.next })
-          (leaves s (l.place - 1) j 4 (l.place + 2) (opened_long s (l.place - 1) j (omega arith) d long.ensures) (omega arith) a.end l.next
-          (omega arith)),
+      λ d.
+          let over : (t : Bool) → ltb j 65536 ≡ t → Over n s l.reached = λ t.
+          elim t as (λ t. ltb j 65536 ≡ t → Over n s l.reached) [
+            | true ↦ λ e. over_broken n s l.reached
+                (leaves s k j 4 (k + 3) (opened_long s k (omega arith) d j (f.jump (ltb-true j 65536 e))) (omega arith) n l.reached.next (omega arith))
+            | false ↦ λ e. over_broken n s l.reached (broken_long s k (omega arith) d (f.out (ltb-false j 65536 e)) n _)
+          ] in
+          over (ltb j 65536) refl,
     )

@@ -3,8 +3,8 @@ use lib.ListN.{length}
 use Rattle.payload.specs.Steps.{Lays}
 use Rattle.payload.proofs.lay.lay_longs.Given as goal
 
-abbrev pub invariant-loop-place : goal.invariant-loop-place
-invariant-loop-place l = Lays l.end l.payload l.initial.page l.from l.after l.page (record { place = l.place; next = l.next })
+abbrev pub invariant-loop-reached : goal.invariant-loop-reached
+invariant-loop-reached l = Lays (length l.initial.page) l.payload l.initial.page l.fn.from l.page l.reached
 
-abbrev pub decreases-loop-place : goal.decreases-loop-place
-decreases-loop-place l = length l.payload - l.place
+abbrev pub decreases-loop-reached : goal.decreases-loop-reached
+decreases-loop-reached l = length l.payload - l.reached.place

@@ -1,64 +1,38 @@
-use Prim.Native.Nat.{ℕ, ◌+◌, ◌-◌}
-use mathlib.Core.List.{List}
+use Prim.Native.Nat.{ℕ, ◌+◌}
 use native.Mathlib.Omega.{arith}
-use lib.ListN.{get_or}
-use Rattle.payload.proofs.Reading.{Opened, opened_short, enters, leaves}
-use Rattle.payload.proofs.Turns.{lays_none, lays_more, over_broken, over_few}
+use lib.ListN.{length, get_or, set}
+use Rattle.payload.proofs.Reading.{opened_short, enters, leaves}
+use Rattle.payload.proofs.Turns.{lays_at, lays_more, over_broken, over_few}
 use Rattle.payload.proofs.lay.lay_shorts.Goals as goal
-use Rattle.payload.proofs.lay.lay_shorts.Goals.{Else-first}
 
-pub loop-place-init : goal.loop-place-init
-loop-place-init c = lays_none c.args.end c.args.payload.now c.args.page.now c.args.from c.args.after c.requires.1
-
-pub overflow_cast-at : goal.overflow_cast-at
-overflow_cast-at c = omega (arith, c.type_inv.payload (c.loop-place.place - 1))
-
--- the entry whose value stands at `place`
-opened : (c : Else-first)
-    → let s = c.args.payload.now in
-    let k = c.loop-place.place in
-    Opened s (k - 1) (get_or s (k - 1) 0) 2
-opened c =
-    let k = c.loop-place.place in
-    opened_short c.args.payload.now (k - 1) (omega arith)
-    (omega (arith, c.type_inv.payload (k - 1))) c.if-first.false
-
-pub overflow_add-at : goal.overflow_add-at
-overflow_add-at c = omega (arith, c.type_inv.payload (c.loop-place.place - 1))
-
-pub overflow_add-place : goal.overflow_add-place
-overflow_add-place c = omega arith
-
-pub loop-place-smaller : goal.loop-place-smaller
-loop-place-smaller c = omega arith
-
-pub loop-place-preserved : goal.loop-place-preserved
-loop-place-preserved c =
+pub loop-reached-preserved : goal.loop-reached-preserved
+loop-reached-preserved c =
     let a = c.args in
-    let l = c.loop-place in
-    let s : List ℕ = a.payload.now in
-    let j : ℕ = get_or s (l.place - 1) 0 in
-    lays_more a.end s a.page.now a.from a.after l.page (record { place = l.place; next = l.next }) l.invariant (omega arith) (l.next + j)
-    (get_or s l.place 0) (l.place - 1 + 2) (l.place + 2)
-    (enters s (l.place - 1) j 2 l.place (opened (goal.at.loop-place-preserved c).Else-first) (omega arith) a.end l.next (omega arith) (omega arith))
-    (omega arith) (omega arith) (omega arith)
+    let l = c.loop-reached in
+    let s = a.payload.now in
+    let n : ℕ = length a.page.now in
+    let k : ℕ = l.reached.place in
+    let j : ℕ = get_or s k 0 in
+    let o = opened_short s k (omega arith) c.if-first.false in
+    rw c.from.ensures
+    (lays_at n s a.page.now a.from (set l.page (l.reached.next + j) (get_or s (k + 1) 0)) (k + 2) (l.reached.next + j + 1)
+    (lays_more n s a.page.now a.from l.page k l.reached.next l.invariant (l.reached.next + j) (get_or s (k + 1) 0) (k + 2)
+    (enters s k j 2 (k + 1) o (omega arith) n l.reached.next (omega (arith, c.from.ensures))))
+    c.new-reached.result c.new-reached.ensures.place (omega (arith, c.from.ensures, c.new-reached.ensures.next)))
 
-pub returns-after-loop-place : goal.returns-after-loop-place
-returns-after-loop-place c =
-    let a = c.args in
-    let l = c.loop-place in
-    (l.invariant, λ _. over_few a.end a.payload.now (record { place = l.place; next = l.next }) (omega arith))
+pub returns-after-loop-reached : goal.returns-after-loop-reached
+returns-after-loop-reached c =
+    let l = c.loop-reached in
+    (l.invariant, λ _. over_few (length c.args.page.now) c.args.payload.now l.reached (omega arith))
 
-pub returns-then-first : goal.returns-then-first
-returns-then-first c = (c.loop-place.invariant, λ d. absurd (d c.if-first.true))
-
-pub returns-then-end-at : goal.returns-then-end-at
-returns-then-end-at c =
-    let a = c.args in
-    let l = c.loop-place in
-    let s : List ℕ = a.payload.now in
-    let j : ℕ = get_or s (l.place - 1) 0 in (
+pub returns-then-page-at : goal.returns-then-page-at
+returns-then-page-at c =
+    let l = c.loop-reached in
+    let s = c.args.payload.now in
+    let n : ℕ = length c.args.page.now in
+    let k : ℕ = l.reached.place in
+    let j : ℕ = get_or s k 0 in (
       l.invariant,
-      λ _. over_broken a.end s (record { place = l.place; next = l.next })
-          (leaves s (l.place - 1) j 2 l.place (opened (goal.at.returns-then-end-at c).Else-first) (omega arith) a.end l.next (omega arith)),
+      λ d. over_broken n s l.reached
+          (leaves s k j 2 (k + 1) (opened_short s k (omega arith) d) (omega arith) n l.reached.next (omega (arith, c.from.ensures))),
     )

@@ -1,11 +1,10 @@
-use Prim.Native.Nat.{◌+◌, ◌-◌, ◌≤◌}
+use Prim.Native.Nat.{◌-◌}
 use lib.ListN.{length}
-use Rattle.payload.specs.Steps.{LaysTo}
+use Rattle.payload.specs.Steps.{Lays}
 use Rattle.payload.proofs.lay.lay_together.Given as goal
 
-abbrev pub invariant-loop-from : goal.invariant-loop-from
-invariant-loop-from l =
-    (l.place - 1 ≤ length l.payload) × LaysTo l.end l.payload l.initial.page l.from l.after l.page l.place l.next
+abbrev pub invariant-loop-next : goal.invariant-loop-next
+invariant-loop-next l = Lays (length l.initial.page) l.payload l.initial.page l.fn.from l.page l.reached
 
-abbrev pub decreases-loop-from : goal.decreases-loop-from
-decreases-loop-from l = length l.payload + 1 - l.place
+abbrev pub decreases-loop-next : goal.decreases-loop-next
+decreases-loop-next l = length l.payload - l.reached.place

@@ -1,125 +1,81 @@
-use Rattle.reading.proofs.ByMap.{Lain, lain_refused, lain_frame, Found, pair_refused, pair_found, found_read}
+use Rattle.std.specs.Prelude.{ℕ, ◌≡◌, List, length}
+use Rattle.std.proofs.Common.{arith, sym, ap, ◌∙◌}
+use Rattle.layout.specs.Exits.{left_with}
+use Rattle.layout.specs.Sizes.{page_size}
+use Rattle.layout.specs.Numbers.{refusal_number}
+use Rattle.layout.specs.NumberLaws.{refusal_some}
+use Rattle.stream.specs.Calls.{page_of}
+use Rattle.stream.specs.Laws.{present_length, present_again}
 use Rattle.reading.specs.Read.{read_refused}
 use Rattle.reading.specs.Mapped.{read_mapped_outcome}
 use Rattle.reading.specs.MappedLaws.{mapped_frame, mapped_looked}
-use Rattle.store.specs.FrameLaws.{places}
-use Rattle.span.specs.Bytes.{zeros}
-use Rattle.stream.specs.Laws.{base_none, zeros_base}
-use Rattle.layout.specs.Lengths.{blocks_in}
-use Rattle.layout.specs.Numbers.{kind_number, refusal_number}
-use Rattle.layout.specs.NumberLaws.{refusal_some}
-use Rattle.layout.specs.Sizes.{page_size}
-use lib.ListN.{length}
-use mathlib.Core.Path.{◌≡◌, refl, sym, ◌∙◌}
-use native.Mathlib.Omega.{arith}
-use Prim.Native.Nat.{◌<◌}
+use Rattle.reading.proofs.ByMap.{Lain, lain_refused, lain_frame, Found, pair_refused, pair_found, found_read}
 use Rattle.reading.proofs.mapped.read_mapped.Goals as goal
-use Rattle.reading.proofs.mapped.read_mapped.Goals.{In-Done, In-Frame}
+use Rattle.reading.proofs.mapped.read_mapped.Goals.{In_ok-areas, In_ok-kind}
 
 -- where the frame is opened, it has these numbers
-opened : (c : In-Frame)
+opened : (c : In_ok-areas)
     → let a = c.args in
-    Lain page_size a.patch.now a.full.now a.map.now a.base.now a.page.now
-    c.in-Frame.size c.in-Frame.n c.in-Frame.m
+    let f = c.in_ok-areas.areas.frame in
+    Lain page_size a.patch.now a.full.now a.map.now a.base.now a.page.now f.size f.n f.m
 opened c =
     let a = c.args in
-    let n = c.blocks-2 in
-    let k = c.map_bytes-needed in
-    let p = c.pages_fit-fit in
-    let f = c.open in
-    lain_frame page_size a.patch.now a.full.now a.map.now a.base.now a.page.now n.result k.result p.result f.result
-    n.ensures k.ensures p.ensures f.ensures c.in-Frame.size c.in-Frame.n c.in-Frame.m
-    c.in-Frame.is
+    lain_frame page_size a.patch.now a.full.now a.map.now a.base.now a.page.now c.blocks-2.result c.map_bytes-needed.result c.pages_fit-fit.result
+    c.blocks-2.ensures c.map_bytes-needed.ensures c.pages_fit-fit.ensures c.in_ok-areas.areas.frame c.in_ok-areas.ensures.numbers
 
 -- and where the block's pair is found
-found : (c : In-Done)
+found : (c : In_ok-kind)
     → let a = c.args in
-    Lain page_size a.patch.now a.full.now a.map.now a.base.now a.page.now c.in-Frame.size c.in-Frame.n c.in-Frame.m
-    → Found page_size a.patch.now a.full.now a.map.now a.block a.base.now a.page.now c.in-Frame.size c.in-Frame.n c.in-Frame.m
-    c.in-Done.pair
+    let f = c.in_ok-areas.areas.frame in
+    Lain page_size a.patch.now a.full.now a.map.now a.base.now a.page.now f.size f.n f.m
+    → Found page_size a.patch.now a.full.now a.map.now a.block a.base.now a.page.now f.size f.n f.m c.in_ok-kind.kind
 found c o =
     let a = c.args in
-    let l = c.look_up in
-    pair_found page_size a.patch.now a.full.now a.map.now a.block a.base.now a.page.now c.in-Frame.size c.in-Frame.n c.in-Frame.m
-    o l.result l.ensures c.in-Done.pair c.in-Done.is
+    let f = c.in_ok-areas.areas.frame in
+    pair_found page_size a.patch.now a.full.now a.map.now a.block a.base.now a.page.now f.size f.n f.m o c.in_ok-kind.kind c.in_ok-kind.ensures
+
+pub returns-in_err-areas : goal.returns-in_err-areas
+returns-in_err-areas c =
+    let a = c.args in
+    let r = c.in_err-areas.field-0.0 in
+    let told = lain_refused page_size a.patch.now a.full.now a.map.now a.base.now a.page.now c.blocks-2.result c.map_bytes-needed.result
+    c.pages_fit-fit.result c.blocks-2.ensures c.map_bytes-needed.ensures c.pages_fit-fit.ensures r c.in_err-areas.ensures.numbers in
+    let e : read_mapped_outcome page_size a.patch.now a.full.now a.map.now a.block a.base.now a.page.now
+    ≡ read_refused (refusal_number r) 0 a.page.now =
+    mapped_frame page_size a.patch.now a.full.now a.map.now a.block a.base.now a.page.now (refusal_number r) told (refusal_some r) in
+    rw (left_with c.from_residual.ensures) (record { numbers = rw e; bytes = rw e })
+
+pub returns-in_err-kind : goal.returns-in_err-kind
+returns-in_err-kind c =
+    let a = c.args in
+    let f = c.in_ok-areas.areas.frame in
+    let o = opened (goal.at.returns-in_err-kind c).In_ok-areas in
+    let r = c.in_err-kind.field-0.0 in
+    let told = pair_refused page_size a.patch.now a.full.now a.map.now a.block a.base.now a.page.now f.size f.n f.m o r c.in_err-kind.ensures in
+    let e : read_mapped_outcome page_size a.patch.now a.full.now a.map.now a.block a.base.now a.page.now
+    ≡ read_refused (refusal_number r) 0 a.page.now =
+    mapped_looked page_size a.patch.now a.full.now a.map.now a.block a.base.now a.page.now o.lent.none (refusal_number r) told (refusal_some r) in
+    rw (left_with c.from_residual-in_err-kind.ensures) (record { numbers = rw e; bytes = rw e })
 
 pub overflow_cast-block : goal.overflow_cast-block
 overflow_cast-block c =
     let g = goal.at.overflow_cast-block c in
-    omega (arith, (found g.In-Done (opened g.In-Frame)).below)
+    omega (arith, (found g.In_ok-kind (opened g.In_ok-areas)).below)
 
 pub read_as-requires : goal.read_as-requires
 read_as-requires c =
-    let g = goal.at.read_as-requires c in
     let a = c.args in
-    let o = (found g.In-Done (opened g.In-Frame)).lent in
-    let some : 0 < c.in-Frame.size = omega (arith, o.own) in record {
-      page_lengths = (sym o.own, o.page_size_is, (some, omega (arith, o.own)));
-      full_area = (o.places, places _ (blocks_in (length a.patch.now)) a.full.now some o.full_fit);
-    }
+    let o = (opened (goal.at.read_as-requires c).In_ok-areas).lent in
+    (ap length c.present.ensures ∙ present_length page_size a.base.now a.page.now o.fits ∙ sym o.own, o.page_size_is)
 
-pub returns-then-base-eq0 : goal.returns-then-base-eq0
-unfolding zeros
-returns-then-base-eq0 c =
-    let g = goal.at.returns-then-base-eq0 c in
+pub returns : goal.returns
+returns c =
+    let g = goal.at.returns c in
     let a = c.args in
-    let k = c.kind_of-kind in
+    let f = c.in_ok-areas.areas.frame in
+    let lent = c.in_ok-areas.ensures.lent in
     let r = c.read_as in
-    found_read page_size a.patch.now a.full.now a.map.now a.block a.base.now (zeros page_size) a.page.now
-    c.in-Frame.size c.in-Frame.n c.in-Frame.m c.in-Done.pair (kind_number k.result) r.result
-    r.new.page (found g.In-Done (opened g.In-Frame)) k.ensures
-    (base_none page_size a.base.now c.if-base-eq0.true ∙ sym (zeros_base page_size)) r.ensures
-
-pub overflow_cast-block-in-Done : goal.overflow_cast-block-in-Done
-overflow_cast-block-in-Done c =
-    let g = goal.at.overflow_cast-block-in-Done c in
-    omega (arith, (found g.In-Done (opened g.In-Frame)).below)
-
-pub read_as-requires-in-Done : goal.read_as-requires-in-Done
-read_as-requires-in-Done c =
-    let g = goal.at.read_as-requires-in-Done c in
-    let a = c.args in
-    let o = (found g.In-Done (opened g.In-Frame)).lent in
-    let some : 0 < c.in-Frame.size = omega (arith, o.own) in record {
-      page_lengths = (o.base_size c.if-base-eq0.false, o.page_size_is, (some, omega (arith, o.own)));
-      full_area = (o.places, places _ (blocks_in (length a.patch.now)) a.full.now some o.full_fit);
-    }
-
-pub returns-in-Refused : goal.returns-in-Refused
-returns-in-Refused c =
-    let a = c.args in
-    let r = c.in-Refused.refusal in
-    let n = c.blocks-2 in
-    let k = c.map_bytes-needed in
-    let p = c.pages_fit-fit in
-    let f = c.open in
-    let told = lain_refused page_size a.patch.now a.full.now a.map.now a.base.now a.page.now n.result k.result p.result f.result
-    n.ensures k.ensures p.ensures f.ensures r c.in-Refused.is in
-    let e : read_mapped_outcome page_size a.patch.now a.full.now a.map.now a.block a.base.now a.page.now
-    ≡ read_refused (refusal_number r) 0 a.page.now =
-    mapped_frame page_size a.patch.now a.full.now a.map.now a.block a.base.now a.page.now (refusal_number r) told (refusal_some r) in
-    record { numbers = rw e; bytes = rw e }
-
-pub returns-in-Refused-look_up : goal.returns-in-Refused-look_up
-returns-in-Refused-look_up c =
-    let a = c.args in
-    let o = opened (goal.at.returns-in-Refused-look_up c).In-Frame in
-    let l = c.look_up in
-    let r = c.in-Refused-look_up.refusal in
-    let told = pair_refused page_size a.patch.now a.full.now a.map.now a.block a.base.now a.page.now c.in-Frame.size c.in-Frame.n
-    c.in-Frame.m o l.result l.ensures r c.in-Refused-look_up.is in
-    let e : read_mapped_outcome page_size a.patch.now a.full.now a.map.now a.block a.base.now a.page.now
-    ≡ read_refused (refusal_number r) 0 a.page.now =
-    mapped_looked page_size a.patch.now a.full.now a.map.now a.block a.base.now a.page.now o.lent.none
-    (refusal_number r) told (refusal_some r) in
-    record { numbers = rw e; bytes = rw e }
-
-pub returns-else-base-eq0 : goal.returns-else-base-eq0
-returns-else-base-eq0 c =
-    let g = goal.at.returns-else-base-eq0 c in
-    let a = c.args in
-    let k = c.kind_of-kind in
-    let r = c.read_as-in-Done in
-    found_read page_size a.patch.now a.full.now a.map.now a.block a.base.now a.base.now a.page.now
-    c.in-Frame.size c.in-Frame.n c.in-Frame.m c.in-Done.pair (kind_number k.result) r.result
-    r.new.page (found g.In-Done (opened g.In-Frame)) k.ensures refl r.ensures
+    found_read page_size a.patch.now a.full.now a.map.now a.block a.base.now c.present.result.now a.page.now f.size f.n f.m
+    c.in_ok-kind.kind r.result r.new.page (found g.In_ok-kind (opened g.In_ok-areas))
+    (present_again page_size a.base.now ∙ ap (λ (l : List ℕ). page_of page_size l) (sym c.present.ensures))
+    (rw (lent.0, lent.1) at r.ensures)

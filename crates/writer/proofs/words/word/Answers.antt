@@ -1,13 +1,13 @@
-use Prim.Native.Nat.{ℕ, ◌+◌}
+use Prim.Native.Nat.{ℕ, ◌+◌, ◌-◌}
 use native.Mathlib.Omega.{arith}
-use mathlib.Core.List.{List}
-use Rattle.writer.specs.WordLaws.{Bytes, below, or_joined}
+use mathlib.Core.Path.{◌≡◌, ap, ◌∙◌}
+use lib.ListN.{take, drop}
+use Rattle.writer.specs.WordLaws.{loaded}
 use Rattle.writer.proofs.words.word.Goals as goal
 
 pub returns : goal.returns
 returns c =
     let a = c.args in
-    let s : List ℕ = a.s.now in
-    let w : Bytes s = λ i. (c.type_inv.s i).fits in
-    or_joined s w a.at 4 4 c.four.result c.four-2.result c.four.ensures c.four-2.ensures
-    (omega (arith, c.four-2.ensures, below s w 4 (a.at + 4)))
+    let whole = rw c.unwrap-bytes.ensures at c.try_from.ensures.1 in
+    let q : a.at + 8 - a.at ≡ 8 = omega arith in
+    c.from_le_bytes.ensures ∙ loaded a.s.now c.unwrap-bytes.result a.at (whole.same ∙ ap (λ (n : ℕ). take n (drop a.at a.s.now)) q)

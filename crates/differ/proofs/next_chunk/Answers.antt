@@ -1,9 +1,0 @@
-use native.Mathlib.Omega.{arith}
-use Rattle.differ.specs.Differ.{chunk}
-use Rattle.differ.proofs.Turns.{stepped_past}
-use Rattle.differ.proofs.next_chunk.Goals as goal
-
-pub returns-then-end-from : goal.returns-then-end-from
-returns-then-end-from c =
-    let a = c.args in
-    stepped_past chunk a.a.now a.b.now a.from (omega arith) (omega (arith, c.shorter-end.ensures, c.if-end-from.true))

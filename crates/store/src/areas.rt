@@ -1,0 +1,62 @@
+// Two areas that a call has opened to look at: every slot and every place lies in them.
+ghost use Rattle.std.specs.Prelude.{◌≡◌, true, length};
+ghost use Rattle.layout.specs.Lengths.{blocks_in, pages_in, patch_fits, full_fits};
+ghost use Rattle.store.specs.Block.{Sized};
+
+use crate::frame::{self, Frame};
+use layout::{Layout, Refusal};
+
+#[derive(Clone, Copy)]
+pub struct Areas<'a> {
+    pub patch: &'a [u8],
+    pub full: &'a [u8],
+    pub frame: Frame,
+    pub ghost sized: { Sized frame.size },
+    pub ghost blocks: { frame.n ≡ blocks_in (length patch.now) },
+    pub ghost places: { frame.m ≡ pages_in frame.size (length full.now) },
+    pub ghost patch_fit: { patch_fits frame.size (length patch.now) ≡ true },
+    pub ghost full_fit: { full_fits frame.size (blocks_in (length patch.now)) (length full.now) ≡ true },
+}
+
+impl<'a> Areas<'a> {
+    ghost use Rattle.std.specs.Prelude.{◌≡◌, ◌<◌, ◌≤◌, length, IfSome, IfNone, IfOk};
+    ghost use Rattle.layout.specs.Sizes.{page_size};
+    ghost use Rattle.store.specs.Block.{slot_of, place_of};
+    ghost use Rattle.store.specs.Open.{open_numbers};
+    ghost use Rattle.store.specs.Opened.{areas_numbers};
+
+    // Opens both areas, told whether the call's pages and its buffer have the lengths that they must have.
+    pub fn open(
+        pages_fit: bool,
+        buffer_fits: bool,
+        patch: &'a [u8],
+        full: &'a [u8],
+    ) -> Result<Areas<'a>, Refusal>
+        ensures numbers { areas_numbers result ≡ open_numbers page_size pages_fit buffer_fits patch.now full.now }
+        ensures lent { IfOk result (λ areas. (areas.patch ≡ patch.entry) × (areas.full ≡ full.entry)) }
+    {
+        let size = Layout::PAGE as u32;
+        let frame = frame::open(size, pages_fit, buffer_fits, patch, full)?;
+        Ok(Areas { patch, full, frame })
+    }
+
+    // A block's slot.
+    pub fn slot(self, block: u32) -> &'a [u8]
+        ensures { result.now ≡ slot_of self.entry.patch.now block }
+    {
+        span::part(self.patch, Layout::slot_at(block), Layout::SLOT)
+    }
+
+    // A block's place in the full area; one not below m has none.
+    pub fn place(self, block: u32) -> Option<&'a [u8]>
+        ensures some { IfSome result (λ place. (block < self.entry.frame.m)
+            × (place.now ≡ place_of self.entry.frame.size self.entry.full.now block) × (length place.now ≡ self.entry.frame.size)) }
+        ensures none { IfNone result (self.entry.frame.m ≤ block) }
+    {
+        let Frame { size, m, .. } = self.frame;
+        if m <= block {
+            return None;
+        }
+        Some(span::part(self.full, Layout::page_at(size, block), size as usize))
+    }
+}
