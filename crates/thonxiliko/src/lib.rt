@@ -48,7 +48,7 @@ pub struct thx_entry {
     pub value: u32,
 }
 
-// What Judge answers.
+// What Judge answers. `thx_written` has the same members: in C each call's answer goes by its own name.
 #[repr(C)]
 #[derive(Clone, Copy)]
 pub struct thx_judged {

@@ -20,7 +20,8 @@ pub struct Difference {
     pub last: i32,
 }
 
-// What is known after some differences: how many bytes and entries they take, and the place after the last of them.
+// What is known after some differences: how many bytes and entries they take, and the place after the last of them. That it is so of two pages stays a
+// clause of the pieces that have both: as a field it would need the pages here.
 #[derive(Clone, Copy, Default)]
 struct Spelled {
     used: usize,
