@@ -6,14 +6,13 @@ ghost use Rattle.cutting.specs.Parts.{slot_extent, scan_numbers};
 
 use layout::{Layout, Refusal};
 use slots::SlotState;
-use store::frame;
+use store::{block, frame};
 
 // How far the slots reach with this one, those below it reaching to `before`; refused where it is not sound.
 fn reaching(patch: &[u8], block: u32, before: usize) -> Result<usize, Refusal>
     ensures { extent_numbers result ≡ slot_extent patch.now block before }
 {
-    let slot = span::part(patch, Layout::slot_at(block), Layout::SLOT);
-    match slots::slot_state(slot)? {
+    match block::state(patch, block)? {
         SlotState::Empty => Ok(before),
         SlotState::Patch(_) | SlotState::Full => Ok(block as usize + 1),
     }

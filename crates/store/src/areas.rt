@@ -3,6 +3,7 @@ ghost use Rattle.std.specs.Prelude.{◌≡◌, true, length};
 ghost use Rattle.layout.specs.Lengths.{blocks_in, pages_in, patch_fits, full_fits};
 ghost use Rattle.store.specs.Block.{Sized};
 
+use crate::block;
 use crate::frame::{self, Frame};
 use layout::{Layout, Refusal};
 
@@ -44,7 +45,7 @@ impl<'a> Areas<'a> {
     pub fn slot(self, block: u32) -> &'a [u8]
         ensures { result.now ≡ slot_of self.entry.patch.now block }
     {
-        span::part(self.patch, Layout::slot_at(block), Layout::SLOT)
+        block::slot(self.patch, block)
     }
 
     // A block's place in the full area; one not below m has none.

@@ -3,6 +3,7 @@
 #![tactic(auto)]
 
 pub mod areas;
+pub mod block;
 pub mod format;
 pub mod frame;
 pub mod judge;

@@ -3,7 +3,7 @@ ghost use Rattle.std.specs.Prelude.{◌≡◌};
 ghost use Rattle.layout.specs.Sizes.{page_size};
 ghost use Rattle.store.specs.Show.{found_place, show_place, Show};
 
-use crate::{Place, frame};
+use crate::{Place, block, frame};
 use layout::{Layout, Refusal};
 
 // Where the payload of a block lies in the patch area. The frame is opened with no full area: Show looks at the patch area alone.
@@ -15,7 +15,7 @@ fn find_payload(patch: &[u8], block: usize) -> Result<Place, Refusal>
         return Err(Refusal::Block);
     }
     let at = Layout::slot_at(block as u32);
-    let Some(len) = slots::payload_length(span::part(patch, at, Layout::SLOT)) else {
+    let Some(len) = slots::payload_length(block::slot(patch, block as u32)) else {
         return Err(Refusal::Slot);
     };
     Ok(Place {

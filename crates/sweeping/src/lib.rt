@@ -13,14 +13,14 @@ ghost use Rattle.sweeping.specs.Parts.{slot_fault, marked};
 
 use layout::{Layout, Refusal};
 use slots::SlotState;
+use store::block;
 use store::frame::{self, Frame};
 
 // What is wrong with one block's slot, beside m pages: it is not sound, or its page is not there. Its payload is not looked at.
 fn check_slot(m: u32, patch: &[u8], block: u32) -> Result<(), Refusal>
     ensures { answer_number result ≡ slot_fault m patch.now block }
 {
-    let slot = span::part(patch, Layout::slot_at(block), Layout::SLOT);
-    match slots::slot_state(slot)? {
+    match block::state(patch, block)? {
         SlotState::Empty | SlotState::Patch(_) => Ok(()),
         SlotState::Full if block < m => Ok(()),
         SlotState::Full => Err(Refusal::FullPage),

@@ -1,8 +1,7 @@
 use Rattle.std.specs.Prelude.{ℕ, ◌≡◌, ◌+◌, true, List, length, cond, Some, None}
 use Rattle.std.proofs.Common.{arith, sym, ap, ◌∙◌}
 use Rattle.layout.specs.Exits.{left_with}
-use Rattle.span.specs.Bytes.{part}
-use Rattle.layout.specs.Sizes.{page_size, slot_size, payload_at}
+use Rattle.layout.specs.Sizes.{page_size, payload_at}
 use Rattle.layout.specs.Refusals.{first_of}
 use Rattle.layout.specs.Lengths.{blocks_in, patch_fits}
 use Rattle.headers.specs.Headers.{patch_head_rows}
@@ -27,12 +26,8 @@ opened c = opened_alone page_size c.args.patch.now c.in_ok-opened.opened c.in_ok
 told : (c : After-payload_length)
     → let s : List ℕ = slot_of c.args.patch.now c.args.block in
     c.payload_length.result ≡ cond (is_patch s) (Some (payload_length s)) None
-unfolding slot_of
 told c =
-    let a = c.args in
-    let same_slot : c.part.result.now ≡ slot_of a.patch.now a.block = c.part.ensures.bytes
-    ∙ ap (λ (k : ℕ). part k slot_size a.patch.now) c.slot_at-at.ensures in
-    c.payload_length.ensures ∙ ap (λ (l : List ℕ). cond (is_patch l) (Some (payload_length l)) None) same_slot
+    c.payload_length.ensures ∙ ap (λ (l : List ℕ). cond (is_patch l) (Some (payload_length l)) None) c.slot.ensures
 
 pub returns-in_err-opened : goal.returns-in_err-opened
 returns-in_err-opened c =
