@@ -147,7 +147,7 @@ pub fn build(patch: &[u8], full: &[u8], map: &mut [u8]) -> Result<(), RefusedIn>
     ensures { Build page_size patch.now full.now map.old result map.new }
 {
     let needed = blockmap::map_bytes(layout::area::blocks(patch.len()));
-    let areas = Areas::open(true, needed <= map.len(), patch, full)?;
+    let areas = Areas::open(Layout::PAGE as u32, true, needed <= map.len(), patch, full)?;
     check_blocks(areas)?;
     write_map(areas, map);
     Ok(())

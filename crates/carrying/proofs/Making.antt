@@ -1,46 +1,120 @@
 -- How the code makes as many stores as it is told, over plain lists and numbers.
-use Prim.Native.Nat.{ℕ, ◌≤◌, ◌<◌}
+use Prim.Native.Nat.{ℕ, ◌+◌, ◌≤◌}
 use native.Mathlib.Omega.{arith}
-use mathlib.Core.Path.{◌≡◌, refl, sym, ap, ◌∙◌}
+use mathlib.Core.Path.{◌≡◌, refl, sym, ap, subst, ◌∙◌}
+use mathlib.Core.Bool.{Bool, true, false, not, cond}
 use mathlib.Core.List.{List, [], ◌∷◌}
-use lib.ListN.{take}
-use Rattle.layout.specs.Sizes.{full_kind}
-use Rattle.carrying.specs.Puts.{Decision, Areas, Put, slot, place, put_slot, put_place, put, puts, order, carried}
-use Rattle.carrying.specs.CarryLaws.{carried_is}
-use Rattle.carrying.specs.Parts.{Made}
-use Rattle.carrying.specs.Told.{first_page, first_slot, both_told}
+use lib.Dec.{eqb, ltb}
+use Rattle.std.proofs.Common.{eqb-true, ltb-true}
+use lib.ListN.{length, take}
+use lib.Seq.{take_all}
+use Rattle.span.specs.Bytes.{zeros, splice}
+use Rattle.span.specs.Laws.{splice_is, splice_in, splice_length, zeros_length}
+use Rattle.layout.specs.Sizes.{full_kind, room, slot_size, slot_at, page_at}
+use Rattle.layout.specs.Lengths.{pages_in}
+use Rattle.slots.specs.Slots.{slot_image}
+use Rattle.slots.specs.SlotLaws.{slot_image_length}
+use Rattle.store.specs.Block.{Places}
+use Rattle.carrying.specs.Puts.{Decision, slot, place, put_slot, put_place, put, puts, order}
+use Rattle.carrying.specs.Parts.{SlotWithin, PageLent, Due, Made}
 
-module _ (P b : ℕ) (d : Decision) (patch full : List ℕ) (stores : ℕ) where
+-- places are there by the area's length
+pub places_kept : (P : ℕ) (full full' : List ℕ) → length full' ≡ length full → Places P full → Places P full'
+places_kept P full full' e p = rw e p
+
+module _ (P b : ℕ) (d : Decision) (patch full : List ℕ) where
+  -- one store
+  pub place_made : (t : Bool) (full' : List ℕ) → t ≡ true → full' ≡ put_place P full b d.kind d.page
+      → Made P b d (cond t place slot ∷ []) patch full patch full'
+  unfolding puts put
+  place_made t full' e h = rw e (record { patch_bytes = refl; full_bytes = h })
+
+  pub slot_made : (t : Bool) (patch' : List ℕ) → t ≡ false → patch' ≡ put_slot patch b d.kind d.payload
+      → Made P b d (cond t place slot ∷ []) patch full patch' full
+  unfolding puts put
+  slot_made t patch' e h = rw e (record { patch_bytes = h; full_bytes = refl })
+
   -- none
-  pub none_made : stores ≡ 0 → Made P b d (take stores (order d.kind)) patch full patch full
+  pub none_told : (stores : ℕ) → stores ≡ 0 → Made P b d (take stores (order d.kind)) patch full patch full
   unfolding puts
-  none_made e = rw e (record { patch_bytes = refl; full_bytes = refl })
+  none_told stores e = rw e (record { patch_bytes = refl; full_bytes = refl })
 
-  -- the first
-  module _ (some : stores ≡ 0 → ⊥) (one : stores ≤ 1) where
-    the_first : (xs : List Put) → take 1 (order d.kind) ≡ xs → take stores (order d.kind) ≡ xs
-    the_first xs e =
-        let n : stores ≡ 1 = omega arith in
-        ap (λ (k : ℕ). take k (order d.kind)) n ∙ e
+  module _ (t : Bool) (first : t ≡ eqb d.kind full_kind) (p f : List ℕ) (made : Made P b d (cond t place slot ∷ []) patch full p f) where
+    order_is : order d.kind ≡ cond t (place ∷ slot ∷ []) (slot ∷ place ∷ [])
+    unfolding order
+    order_is = rw first
 
-    pub place_made : (full' : List ℕ) → d.kind ≡ full_kind → full' ≡ put_place P full b d.kind d.page
-        → Made P b d (take stores (order d.kind)) patch full patch full'
-    unfolding puts put
-    place_made full' e h = rw (the_first (place ∷ []) (first_page d.kind e)) (record { patch_bytes = refl; full_bytes = h })
+    -- the first
+    pub one_told : (stores : ℕ) → stores ≡ 1 → Made P b d (take stores (order d.kind)) patch full p f
+    one_told stores e = rw (e, order_is) (go t made)
+      where
+        go : (t : Bool) → Made P b d (cond t place slot ∷ []) patch full p f
+            → Made P b d (take 1 (cond t (place ∷ slot ∷ []) (slot ∷ place ∷ []))) patch full p f
+        go true m = m
+        go false m = m
 
-    pub slot_made : (patch' : List ℕ) → (d.kind ≡ full_kind → ⊥) → patch' ≡ put_slot patch b d.kind d.payload
-        → Made P b d (take stores (order d.kind)) patch full patch' full
-    unfolding puts put
-    slot_made patch' e h = rw (the_first (slot ∷ []) (first_slot d.kind e)) (record { patch_bytes = h; full_bytes = refl })
+    -- both
+    pub both_told : (stores : ℕ) → (stores ≡ 0 → ⊥) → (stores ≡ 1 → ⊥) → (p' f' : List ℕ)
+        → Made P b d (cond (not t) place slot ∷ []) p f p' f' → Made P b d (take stores (order d.kind)) patch full p' f'
+    unfolding puts
+    both_told stores some many p' f' more = rw (order_is) (go t made more)
+      where
+        go : (t : Bool) → Made P b d (cond t place slot ∷ []) patch full p f → Made P b d (cond (not t) place slot ∷ []) p f p' f'
+            → Made P b d (take stores (cond t (place ∷ slot ∷ []) (slot ∷ place ∷ []))) patch full p' f'
+        go true m n = rw (take_all stores (place ∷ slot ∷ []) (omega arith)) (record {
+          patch_bytes = n.patch_bytes ∙ λ i. (put P b d slot (record { patch = m.patch_bytes i; full = m.full_bytes i })).patch;
+          full_bytes = n.full_bytes ∙ λ i. (put P b d slot (record { patch = m.patch_bytes i; full = m.full_bytes i })).full;
+        })
+        go false m n = rw (take_all stores (slot ∷ place ∷ []) (omega arith)) (record {
+          patch_bytes = n.patch_bytes ∙ λ i. (put P b d place (record { patch = m.patch_bytes i; full = m.full_bytes i })).patch;
+          full_bytes = n.full_bytes ∙ λ i. (put P b d place (record { patch = m.patch_bytes i; full = m.full_bytes i })).full;
+        })
 
-  -- both, in either order
-  pub both_made : 1 < stores → (patch' full' : List ℕ) → patch' ≡ put_slot patch b d.kind d.payload
-      → full' ≡ put_place P full b d.kind d.page → Made P b d (take stores (order d.kind)) patch full patch' full'
-  unfolding carried
-  both_made many patch' full' p f =
-      let s : Areas = record { patch = patch; full = full } in
-      let e = ap (λ (xs : List Put). puts P b d xs s) (both_told d.kind stores many) ∙ carried_is P b d s in
-      record {
-        patch_bytes = p ∙ sym (ap (λ (a : Areas). a.patch) e);
-        full_bytes = f ∙ sym (ap (λ (a : Areas). a.full) e);
-      }
+-- to lay the same again changes nothing
+splice_again : (xs : List ℕ) (at : ℕ) (ys : List ℕ) → at + length ys ≤ length xs → splice xs at ys ≡ splice (splice xs at ys) at ys
+splice_again xs at ys h =
+    splice_is (splice xs at ys) at ys (splice xs at ys) (omega (arith, splice_length xs at ys h)) refl (λ i k. refl)
+    (λ j k. splice_in xs at ys (omega arith) j k) (λ i k m. refl)
+
+module _ (P b : ℕ) (d : Decision) (patch full : List ℕ) where
+  slot_again : (p : List ℕ) → SlotWithin patch b → length d.payload ≤ room → p ≡ put_slot patch b d.kind d.payload
+      → p ≡ put_slot p b d.kind d.payload
+  unfolding put_slot
+  slot_again p h few e =
+      let l : length (slot_image d.kind d.payload) ≡ slot_size = slot_image_length d.kind d.payload few in
+      subst (λ (x : List ℕ). x ≡ splice x (slot_at b) (slot_image d.kind d.payload)) (sym e)
+      (splice_again patch (slot_at b) (slot_image d.kind d.payload) (omega (arith, h, l)))
+
+  stored_length : PageLent P d → (k : Bool) → eqb d.kind full_kind ≡ k → length (cond k d.page (zeros P)) ≡ P
+  stored_length page true e = page (eqb-true d.kind full_kind e)
+  stored_length page false e = zeros_length P
+
+  -- what the place is to hold
+  abbrev held : List ℕ
+  held = cond (eqb d.kind full_kind) d.page (zeros P)
+
+  place_again : (f : List ℕ) → Places P full → PageLent P d → f ≡ put_place P full b d.kind d.page → f ≡ put_place P f b d.kind d.page
+  unfolding put_place
+  place_again f there page e =
+      subst (λ (x : List ℕ). x ≡ put_place P x b d.kind d.page) (sym e) (go (ltb b (pages_in P (length full))) refl)
+    where
+      go : (t : Bool) → ltb b (pages_in P (length full)) ≡ t
+          → put_place P full b d.kind d.page ≡ put_place P (put_place P full b d.kind d.page) b d.kind d.page
+      go true q =
+          let h : page_at P b + length held ≤ length full =
+          omega (arith, there b (ltb-true b (pages_in P (length full)) q), stored_length page (eqb d.kind full_kind) refl) in
+          let l : ltb b (pages_in P (length (splice full (page_at P b) held))) ≡ true =
+          ap (λ (n : ℕ). ltb b (pages_in P n)) (splice_length full (page_at P b) held h) ∙ q in
+          rw q (rw l (splice_again full (page_at P b) held h))
+      go false q = rw q (rw q refl)
+
+  -- the first store is due
+  pub due_first : (t : Bool) → t ≡ eqb d.kind full_kind → Due P b d t patch full
+  due_first t e = λ n. absurd (n e)
+
+  -- and after it the other
+  pub due_after : (t : Bool) (p f : List ℕ) → SlotWithin patch b → length d.payload ≤ room → Places P full → PageLent P d
+      → Made P b d (cond t place slot ∷ []) patch full p f → Due P b d (not t) p f
+  unfolding puts put
+  due_after true p f h few there page m = λ n. record { patch_bytes = refl; full_bytes = place_again f there page m.full_bytes }
+  due_after false p f h few there page m = λ n. record { patch_bytes = slot_again p h few m.patch_bytes; full_bytes = refl }

@@ -12,7 +12,7 @@ use Rattle.store.specs.Block.{Places, Sized}
 use Rattle.carrying.specs.declared.Written.{Written}
 use Rattle.carrying.specs.declared.decision.Asked.{Asked}
 use Rattle.carrying.specs.declared.decision.Stored.{Stored}
-use Rattle.carrying.specs.Puts.{Decision, Put, puts}
+use Rattle.carrying.specs.Puts.{Decision, Put, slot, place, puts}
 use Rattle.carrying.specs.CarryOut.{CarryOutcome, carry_done, carry_refused, carry_by, written_numbers, carry_numbers}
 
 -- 9, told whether the call's buffer is long enough
@@ -99,3 +99,8 @@ pub record Lent (P m : ℕ) (patch full : List ℕ) (b : ℕ) (d : Decision) : T
 pub record Made (P b : ℕ) (d : Decision) (xs : List Put) (patch full patch' full' : List ℕ) : Type 0 where
   pub patch_bytes : patch' ≡ (puts P b d xs (record { patch = patch; full = full })).patch
   pub full_bytes : full' ≡ (puts P b d xs (record { patch = patch; full = full })).full
+
+-- A store that is not the first of its decision's comes after that one: to make the first again would change nothing. So no path makes them the
+-- other way round, told one or all, though the bytes at the end would not tell.
+abbrev pub Due : ℕ → ℕ → Decision → Bool → List ℕ → List ℕ → Type 0
+Due P b d of_place patch full = (of_place ≡ eqb d.kind full_kind → ⊥) → Made P b d (cond of_place slot place ∷ []) patch full patch full

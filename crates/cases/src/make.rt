@@ -1,14 +1,20 @@
 // A buffer made from its description: `LENGTH ITEM ..`, all bytes 0 but for the items. An item is `AT:HEX`, bytes laid at a place,
 // `FROM-TO:HH`, one value from one place to another, `P` or `F`, the sound header of a patch or of a full area.
-ghost use Rattle.std.specs.Prelude.{◌≡◌, ◌<◌, ◌≤◌, length, get_or};
-ghost use Rattle.arrayvec.specs.ArrayVec.{array_vec_len};
+ghost use Rattle.std.specs.Prelude.{◌≡◌, ◌<◌, ◌≤◌, ◌⊎◌, length, get_or, min};
 
 use crate::fields::{number, piece};
-use arrayvec::ArrayVec;
 use layout::Layout;
 
 // Room for a byte more than a page has.
 pub const ROOM: usize = Layout::PAGE + 1;
+
+// A buffer, and how many of its bytes are described. No `ArrayVec`, whose statements would have to be trusted besides; and whoever has a slice of any
+// length can have one made in it.
+#[derive(Clone, Copy)]
+pub struct Made {
+    pub bytes: [u8; ROOM],
+    pub length: usize,
+}
 
 // The value of a hexadecimal digit. Any other byte has a value too, which the library's reading of digits would refuse.
 fn nibble(digit: u8) -> u8
@@ -70,23 +76,23 @@ pub fn make(dst: &mut [u8], description: &[u8]) -> usize
     number(piece(description, 0, b' ')).min(dst.len())
 }
 
-// A buffer of its own, as long as it is described.
-pub fn buffer<const N: usize>(description: &[u8]) -> ArrayVec<u8, N>
-    ensures { array_vec_len result ≤ N }
-{
-    let mut bytes = [0u8; N];
-    let length = make(&mut bytes, description);
-    let mut made = ArrayVec::from(bytes);
-    made.truncate(length);
-    made
-}
-
-// The same over an old one, which `=` leaves as it is, and so does a line that has no such field.
-pub fn make_or_keep<const N: usize>(kept: &mut ArrayVec<u8, N>, description: &[u8])
-    ensures { get_or description.now 0 61 ≡ 61 → kept.new.items ≡ kept.old.items }
+// The same, but `=` leaves the buffer and its length as they are, and so does a line that has no such field, or one that begins with a zero byte.
+pub fn make_or_keep(dst: &mut [u8], description: &[u8], kept: usize) -> usize
+    ensures room { result ≤ length dst.old }
+    ensures kept { (get_or description.now 0 61 ≡ 61) ⊎ (get_or description.now 0 61 ≡ 0)
+        → (dst.new ≡ dst.old) × (result ≡ min kept (length dst.old)) }
 {
     match description.first() {
-        None | Some(b'=') => {}
-        Some(_) => *kept = buffer(description),
+        None | Some(0 | b'=') => kept.min(dst.len()),
+        Some(_) => make(dst, description),
     }
+}
+
+// A buffer of its own.
+pub fn buffer(description: &[u8]) -> Made
+    ensures { result.length ≤ length result.bytes }
+{
+    let mut bytes = [0; ROOM];
+    let length = make(&mut bytes, description);
+    Made { bytes, length }
 }

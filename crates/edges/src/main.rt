@@ -7,7 +7,7 @@ mod answers;
 
 use cases::delta::delta;
 use cases::fields::field;
-use cases::make::{ROOM, buffer};
+use cases::make::buffer;
 use cases::{fields, say};
 use layout::Layout;
 
@@ -55,27 +55,29 @@ fn tally(line: &[u8], map: &[u8]) {
 
 // compare | name | base | page | buffer
 fn compare(line: &[u8], base: &[u8]) {
-    let page = buffer::<ROOM>(field(line, 3));
-    let was = buffer::<ROOM>(field(line, 4));
-    let mut lent = buffer::<ROOM>(field(line, 4));
-    answers::compared(stream::compare(base, page.as_slice(), lent.as_mut_slice()));
-    delta(b"buffer", was.as_slice(), lent.as_slice());
+    let page = buffer(field(line, 3));
+    let was = buffer(field(line, 4));
+    let mut room = was.bytes;
+    let lent = &mut room[..was.length];
+    answers::compared(stream::compare(base, span::part(&page.bytes, 0, page.length), lent));
+    delta(b"buffer", &was.bytes, &room);
 }
 
 // apply | name | base | payload | page
 fn apply(line: &[u8], base: &[u8]) {
-    let payload = buffer::<ROOM>(field(line, 3));
-    let was = buffer::<ROOM>(field(line, 4));
-    let mut lent = buffer::<ROOM>(field(line, 4));
-    answers::applied(stream::apply(base, payload.as_slice(), lent.as_mut_slice()));
-    delta(b"page", was.as_slice(), lent.as_slice());
+    let payload = buffer(field(line, 3));
+    let was = buffer(field(line, 4));
+    let mut page = was.bytes;
+    let lent = &mut page[..was.length];
+    answers::applied(stream::apply(base, span::part(&payload.bytes, 0, payload.length), lent));
+    delta(b"page", &was.bytes, &page);
 }
 
 // One case.
 fn run(line: &[u8]) {
     let call = say::case(line);
-    let first = buffer::<ROOM>(field(line, 2));
-    let part = first.as_slice();
+    let first = buffer(field(line, 2));
+    let part = span::part(&first.bytes, 0, first.length);
     match call {
         COMPARE => compare(line, part),
         APPLY => apply(line, part),

@@ -5,12 +5,11 @@
 
 mod answers;
 
-use arrayvec::ArrayVec;
 use carrying::Written;
 use carrying::mapped::carry_out_mapped;
 use cases::delta::delta;
 use cases::fields::field;
-use cases::make::{ROOM, buffer, make_or_keep};
+use cases::make::{buffer, make_or_keep};
 use cases::{fields, say};
 use layout::{Kind, Layout, Refusal, RefusedAt};
 use reading::mapped::read_mapped;
@@ -79,19 +78,21 @@ fn read<F: FnOnce(usize, &[u8], &mut [u8]) -> Result<Kind, RefusedAt>>(line: &[u
     requires { F.IsAlwaysCallable call }
 {
     let block = fields::number(field(line, 4));
-    let base = buffer::<ROOM>(field(line, 5));
-    let was = buffer::<ROOM>(field(line, 6));
-    let mut page = buffer::<ROOM>(field(line, 6));
-    answers::reading(call(block, base.as_slice(), page.as_mut_slice()));
-    delta(b"page", was.as_slice(), page.as_slice());
+    let base = buffer(field(line, 5));
+    let was = buffer(field(line, 6));
+    let mut page = was.bytes;
+    let lent = &mut page[..was.length];
+    answers::reading(call(block, span::part(&base.bytes, 0, base.length), lent));
+    delta(b"page", &was.bytes, &page);
 }
 
 // build | name | patch | full | map
 fn build(line: &[u8], patch: &[u8], full: &[u8]) {
-    let was = buffer::<ROOM>(field(line, 4));
-    let mut map = buffer::<ROOM>(field(line, 4));
-    answers::built(building::build(patch, full, map.as_mut_slice()));
-    delta(b"map", was.as_slice(), map.as_slice());
+    let was = buffer(field(line, 4));
+    let mut map = was.bytes;
+    let lent = &mut map[..was.length];
+    answers::built(building::build(patch, full, lent));
+    delta(b"map", &was.bytes, &map);
 }
 
 // How many stores a line tells: its last field, after the map and the kind.
@@ -109,12 +110,12 @@ where
     F: FnOnce(usize, u32, &[u8], &[u8], usize) -> Result<Written, Refusal>,
     requires { F.IsAlwaysCallable call }
 {
-    let base = buffer::<ROOM>(field(line, 5));
-    let page = buffer::<ROOM>(field(line, 6));
-    let modified = page.as_slice();
+    let base = buffer(field(line, 5));
+    let page = buffer(field(line, 6));
+    let modified = span::part(&page.bytes, 0, page.length);
     let mut bytes = [0xeeu8; Layout::ROOM];
     let room: &mut [u8] = &mut bytes;
-    let decided = stream::compare(base.as_slice(), modified, room);
+    let decided = stream::compare(span::part(&base.bytes, 0, base.length), modified, room);
     answers::compared(decided);
     let Ok(found) = decided else {
         return;
@@ -131,11 +132,13 @@ where
     F: FnOnce(usize, u32, &[u8], &[u8], usize) -> Result<Written, Refusal>,
     requires { F.IsAlwaysCallable call }
 {
-    let payload = buffer::<ROOM>(field(line, 5));
-    let page = buffer::<ROOM>(field(line, 6));
+    let payload = buffer(field(line, 5));
+    let page = buffer(field(line, 6));
     let kind = (fields::number(field(line, 8)) % 4294967296) as u32;
     let block = fields::number(field(line, 4));
-    answers::written(call(block, kind, payload.as_slice(), page.as_slice(), told(line)));
+    let used = span::part(&payload.bytes, 0, payload.length);
+    let full = span::part(&page.bytes, 0, page.length);
+    answers::written(call(block, kind, used, full, told(line)));
 }
 
 // The calls that change the areas: format and zero | name | patch | full, cut | name | patch | full | k, trim with three more, of which the
@@ -211,20 +214,18 @@ fn run(line: &[u8], patch: &mut [u8], full: &mut [u8], map: &mut [u8]) {
 
 // A map is the last field of the lines that lend one; the other lines leave it.
 fn run_all(text: &[u8]) {
-    let mut patch = ArrayVec::<u8, PATCH_ROOM>::new();
-    let mut full = ArrayVec::<u8, FULL_ROOM>::new();
-    let mut map = ArrayVec::<u8, MAP_ROOM>::new();
+    let mut patch = [0u8; PATCH_ROOM];
+    let mut full = [0u8; FULL_ROOM];
+    let mut map = [0u8; MAP_ROOM];
+    let mut n = 0;
+    let mut m = 0;
+    let mut k = 0;
     for part in text.split_inclusive(|byte| *byte == b'\n') {
         let line = fields::line_at(part, 0);
-        make_or_keep(&mut patch, field(line, 2));
-        make_or_keep(&mut full, field(line, 3));
-        make_or_keep(&mut map, field(line, 7));
-        run(
-            line,
-            patch.as_mut_slice(),
-            full.as_mut_slice(),
-            map.as_mut_slice(),
-        );
+        n = make_or_keep(&mut patch, field(line, 2), n);
+        m = make_or_keep(&mut full, field(line, 3), m);
+        k = make_or_keep(&mut map, field(line, 7), k);
+        run(line, &mut patch[..n], &mut full[..m], &mut map[..k]);
     }
 }
 

@@ -43,13 +43,15 @@ pub fn inspect(bytes: &[u8]) -> Result<Info, Refusal>
         SlotState::Full => Ok(bare(Kind::Full)),
         SlotState::Patch(length) => {
             let payload = span::part(bytes, Layout::PAYLOAD_AT, length);
-            let sound = payload::check(payload, Layout::PAGE)?;
-            Ok(Info {
-                kind: Kind::Patch,
-                length,
-                entries: sound.entries,
-                last: sound.last,
-            })
+            match payload::check(payload, Layout::PAGE) {
+                Ok(sound) => Ok(Info {
+                    kind: Kind::Patch,
+                    length,
+                    entries: sound.entries,
+                    last: sound.last,
+                }),
+                Err(_) => Err(Refusal::Payload),
+            }
         }
     }
 }

@@ -14,9 +14,9 @@ ghost use Rattle.layout.specs.Sizes.{slot_size, slot_size_at, version_at};
 // What a slot holds, and what a comparison finds, with the paper's numbers.
 #[derive(Clone, Copy, PartialEq, Eq)]
 pub enum Kind {
-    Empty = 0,
-    Patch = 1,
-    Full = 2,
+    Empty = Layout::EMPTY_KIND as isize,
+    Patch = Layout::PATCH_KIND as isize,
+    Full = Layout::FULL_KIND as isize,
 }
 
 // Why a call refuses, with the paper's numbers.

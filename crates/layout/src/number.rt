@@ -2,7 +2,7 @@
 ghost use Rattle.std.specs.Prelude.{◌≡◌};
 ghost use Rattle.layout.specs.Numbers.{kind_number, refusal_number, IsKind, IsRefusedAt};
 
-use crate::{Kind, Refusal, RefusedAt};
+use crate::{Kind, Layout, Refusal, RefusedAt};
 
 // The paper's number for a kind.
 impl From<Kind> for u32 {
@@ -20,10 +20,10 @@ impl TryFrom<u32> for Kind {
     ghost try_from_gives = { IsKind };
 
     fn try_from(number: u32) -> Result<Kind, Refusal> {
-        match number {
-            0 => Ok(Kind::Empty),
-            1 => Ok(Kind::Patch),
-            2 => Ok(Kind::Full),
+        match u8::try_from(number) {
+            Ok(Layout::EMPTY_KIND) => Ok(Kind::Empty),
+            Ok(Layout::PATCH_KIND) => Ok(Kind::Patch),
+            Ok(Layout::FULL_KIND) => Ok(Kind::Full),
             _ => Err(Refusal::Slot),
         }
     }

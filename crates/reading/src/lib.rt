@@ -63,10 +63,16 @@ pub fn read(
     ensures { Read page_size patch.now full.now block base.now page.old result
         page.new }
 {
-    let fit = stream::pages_fit(Layout::PAGE as u32, base, page);
-    let areas = Areas::open(fit, true, patch, full)?;
+    let size = Layout::PAGE as u32;
+    let fit = stream::pages_fit(size, base, page);
+    let areas = Areas::open(size, fit, true, patch, full)?;
     if areas.frame.n as usize <= block {
         return Err(Refusal::Block.into());
     }
-    read_block(areas, block as u32, stream::present(base), page)
+    let block = block as u32;
+    if base.is_empty() {
+        let zeros = [0u8; Layout::PAGE];
+        return read_block(areas, block, &zeros, page);
+    }
+    read_block(areas, block, base, page)
 }

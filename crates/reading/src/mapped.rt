@@ -55,9 +55,15 @@ pub fn read_mapped(
     ensures { ReadMapped page_size patch.now full.now map.now block base.now
         page.old result page.new }
 {
-    let fit = stream::pages_fit(Layout::PAGE as u32, base, page);
+    let size = Layout::PAGE as u32;
+    let fit = stream::pages_fit(size, base, page);
     let needed = blockmap::map_bytes(layout::area::blocks(patch.len()));
-    let areas = Areas::open(fit, needed <= map.len(), patch, full)?;
+    let areas = Areas::open(size, fit, needed <= map.len(), patch, full)?;
     let kind = blockmap::look_up(map, areas.frame.n as usize, block)?;
-    read_as(kind, areas, block as u32, stream::present(base), page)
+    let block = block as u32;
+    if base.is_empty() {
+        let zeros = [0u8; Layout::PAGE];
+        return read_as(kind, areas, block, &zeros, page);
+    }
+    read_as(kind, areas, block, base, page)
 }

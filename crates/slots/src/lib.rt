@@ -17,13 +17,21 @@ pub enum SlotState {
     Full,
 }
 
+// The payload's length that a slot's bytes give, whatever they are.
+fn stored_length(slot: &[u8]) -> usize
+    requires { length slot.now ≡ slot_size }
+    ensures { result ≡ payload_length slot.now }
+{
+    let size = u16::from_le_bytes([slot[Layout::LENGTH_AT], slot[Layout::LENGTH_AT + 1]]);
+    size as usize
+}
+
 // The payload's length of a sound PATCH slot: of 512 bytes of kind 1.
 fn patch_length(slot: &[u8]) -> Option<usize>
     requires { (length slot.now ≡ slot_size) × (get_or slot.now 0 0 ≡ 1) }
     ensures { result ≡ cond (is_patch slot.now) (Some (payload_length slot.now)) None }
 {
-    let size = u16::from_le_bytes([slot[Layout::LENGTH_AT], slot[Layout::LENGTH_AT + 1]]);
-    let n = size as usize;
+    let n = stored_length(slot);
     if n == 0 || Layout::ROOM < n {
         return None;
     }

@@ -1,5 +1,5 @@
 -- The test for zeros: the bits of a stretch, and the stretches that a list is cut into.
-use Prim.Native.Nat.{ℕ, ◌-◌, ◌≤◌}
+use Prim.Native.Nat.{ℕ, ◌-◌, ◌%◌, ◌≤◌}
 use native.Mathlib.Omega.{arith}
 use mathlib.Core.Path.{◌≡◌, refl, sym, ap, subst, ◌∙◌}
 use mathlib.Core.Bool.{Bool, true, false, ◌&&◌, and-true, and_assoc}
@@ -138,3 +138,11 @@ module _ {F : Type 0} (g : Mut F (Bor (List ℕ) × Unit {0}) Bool) (f : F)
           ∙ blank_append x.now (chunks_exact_rest u)
           ∙ ap (λ (v : Bool). v && blank (chunks_exact_rest u)) (sym (bits_blank x.now) ∙ b)
           ∙ sym (ap (λ (v : Bool). v && blank (tail (chunks_exact_size s) (chunks_exact_rest t))) m.0)
+
+-- so a list whose whole stretches are zeros is told by an end that goes back to the last of them
+pub by_end : (k n : ℕ) (l : List ℕ) (r : Bool) → blank l ≡ (r && blank (tail n l)) → r ≡ true → k ≤ length l - length l % n → (end : List ℕ) → end ≡ drop k l
+    → eqb (fold bit_or 0 end) 0 ≡ blank l
+by_end k n l r all whole far end same =
+    bits_blank end
+    ∙ ap (λ (x : List ℕ). blank x) same
+    ∙ sym (longer_end k (length l - length l % n) l far (all ∙ ap (λ (t : Bool). t && blank (tail n l)) whole))

@@ -2,9 +2,10 @@
 // caller. The compiler turns each into wide instructions: no loop leaves early at a byte.
 #![tactic(auto)]
 
-ghost use Rattle.std.specs.Prelude.{◌≡◌, ◌+◌, length, set, take};
+ghost use Rattle.std.specs.Prelude.{◌≡◌, ◌+◌, ◌≤◌, ◌&&◌, length, set, take};
 ghost use Rattle.std.specs.List.{fold};
 ghost use Rattle.std.specs.Int.Bits.{bit_or};
+ghost use Rattle.span.specs.Stretches.{tail};
 ghost use Rattle.span.specs.Bytes.{zeros, splice, emptied, part as part_of, part_from, same as same_bytes};
 
 // How many bytes are cleared at one go, or left if they are zero: what a file system gives room to at least.
@@ -12,6 +13,11 @@ const HOLE: usize = 4 * 1024;
 
 // How many bytes a test for zeros looks at before it may end: many registers' worth, and few of a page that is not zero.
 const STRETCH: usize = 256;
+
+// The same where a slice has fewer bytes than that, and where it has fewer than a piece.
+const PIECE: usize = 32;
+
+const WORD: usize = 8;
 
 // Stores a byte, if there is room for it.
 // By index: of a byte that `get_mut` lends no proof knows what the slice ends as.
@@ -53,12 +59,20 @@ pub fn fill_from(dst: &mut [u8], at: usize)
     fill(&mut dst[start..]);
 }
 
+// The bytes of src, as many as dst has.
+fn copy_whole(dst: &mut [u8], src: &[u8])
+    requires { length src.now ≡ length dst.old }
+    ensures { dst.new ≡ src.now }
+{
+    dst.copy_from_slice(src);
+}
+
 // The bytes of src, as many as dst has room for, from dst's start on.
 pub fn copy(dst: &mut [u8], src: &[u8])
     ensures { dst.new ≡ splice dst.old 0 (take (length dst.old) src.now) }
 {
     let n = dst.len().min(src.len());
-    dst[..n].copy_from_slice(&src[..n]);
+    copy_whole(&mut dst[..n], &src[..n]);
 }
 
 // The bits that are set in some byte. No byte ends it, so many are read at once.
@@ -68,18 +82,40 @@ fn bits_in(s: &[u8]) -> u8
     s.iter().fold(0, |seen: u8, byte: &u8| seen | *byte)
 }
 
+// Whether the whole parts of this width from the start on are zero: as many bytes as there are but for fewer than a part. A call reads a part at one go.
+fn parts_zero<const WIDTH: usize>(s: &[u8]) -> bool
+    requires { 1 ≤ WIDTH }
+    ensures { same_bytes s.now (zeros (length s.now)) ≡ (result && same_bytes (tail WIDTH s.now) (zeros (length (tail WIDTH s.now)))) }
+{
+    s.chunks_exact(WIDTH).all(|bytes| bits_in(bytes) == 0)
+}
+
+// The same of fewer bytes than a piece has.
+fn few_zero(s: &[u8]) -> bool
+    ensures { result ≡ same_bytes s.now (zeros (length s.now)) }
+{
+    let Some(end) = s.last_chunk::<WORD>() else {
+        return bits_in(s) == 0;
+    };
+    parts_zero::<WORD>(s) && bits_in(end) == 0
+}
+
 // Whether every byte is zero.
-// Whole stretches: `chunks`, whose parts may be shorter, took 2.2 times as long. A rest is read as the whole stretch that ends with it: by
-// itself, a scan of slots took up to 1.7 times as long.
+// A rest is read with the whole stretch, or the piece, that ends with it: by itself, a scan of slots took up to 1.7 times as long. Pieces where there
+// is no stretch, and for a rest that is no longer: without them, a scan of PATCH slots took up to 1.3 times as long.
 pub fn all_zero(s: &[u8]) -> bool
     ensures { result ≡ same_bytes s.now (zeros (length s.now)) }
 {
-    let Some(last) = s.last_chunk::<STRETCH>() else {
-        return bits_in(s) == 0;
+    let Some(piece) = s.last_chunk::<PIECE>() else {
+        return few_zero(s);
     };
-    let mut stretches = s.chunks_exact(STRETCH);
-    let whole = stretches.remainder().is_empty();
-    stretches.all(|stretch| bits_in(stretch) == 0) && (whole || bits_in(last) == 0)
+    let Some(stretch) = s.last_chunk::<STRETCH>() else {
+        return parts_zero::<PIECE>(s) && bits_in(piece) == 0;
+    };
+    if s.len() % STRETCH <= PIECE {
+        return parts_zero::<STRETCH>(s) && bits_in(piece) == 0;
+    }
+    parts_zero::<STRETCH>(s) && bits_in(stretch) == 0
 }
 
 // The n bytes of s from `at` on, or as many of them as s has.

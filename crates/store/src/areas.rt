@@ -6,6 +6,7 @@ ghost use Rattle.store.specs.Block.{Sized};
 use crate::block;
 use crate::frame::{self, Frame};
 use layout::{Layout, Refusal};
+use payload::Code;
 
 #[derive(Clone, Copy)]
 pub struct Areas<'a> {
@@ -20,23 +21,28 @@ pub struct Areas<'a> {
 }
 
 impl<'a> Areas<'a> {
-    ghost use Rattle.std.specs.Prelude.{◌≡◌, ◌<◌, ◌≤◌, length, IfSome, IfNone, IfOk};
-    ghost use Rattle.layout.specs.Sizes.{page_size};
+    ghost use Rattle.std.specs.Prelude.{◌≡◌, ◌<◌, ◌≤◌, length, IfSome, IfNone, IfOk, Err};
     ghost use Rattle.store.specs.Block.{slot_of, place_of};
+    ghost use Rattle.layout.specs.declared.Refusal.TheVariants.{Length};
     ghost use Rattle.store.specs.Open.{open_numbers};
     ghost use Rattle.store.specs.Opened.{areas_numbers};
 
-    // Opens both areas, told whether the call's pages and its buffer have the lengths that they must have.
+    // Opens both areas of pages of this size, told whether the call's pages and its buffer have the lengths that they must have. No page has another
+    // size than one that entries reach: then no length fits.
     pub fn open(
+        size: u32,
         pages_fit: bool,
         buffer_fits: bool,
         patch: &'a [u8],
         full: &'a [u8],
     ) -> Result<Areas<'a>, Refusal>
-        ensures numbers { areas_numbers result ≡ open_numbers page_size pages_fit buffer_fits patch.now full.now }
+        ensures numbers { Sized size → areas_numbers result ≡ open_numbers size pages_fit buffer_fits patch.now full.now }
+        ensures other { (Sized size → ⊥) → result ≡ Err Length }
         ensures lent { IfOk result (λ areas. (areas.patch ≡ patch.entry) × (areas.full ≡ full.entry)) }
     {
-        let size = Layout::PAGE as u32;
+        if size == 0 || Code::REACH < size as usize {
+            return Err(Refusal::Length);
+        }
         let frame = frame::open(size, pages_fit, buffer_fits, patch, full)?;
         Ok(Areas { patch, full, frame })
     }

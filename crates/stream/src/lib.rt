@@ -6,7 +6,7 @@ ghost use Rattle.layout.specs.Sizes.{page_size, patch_kind, room as room_of};
 ghost use Rattle.layout.specs.Numbers.{kind_number};
 ghost use Rattle.payload.specs.Steps.{farthest, reach};
 ghost use Rattle.stream.specs.Steps.{Applies, Compares};
-ghost use Rattle.stream.specs.Calls.{page_of, pages_fit, kind_for, Apply, Compare};
+ghost use Rattle.stream.specs.Calls.{pages_fit, kind_for, Apply, Compare};
 
 use layout::{Kind, Layout, Refusal, RefusedAt};
 use payload::Sound;
@@ -31,16 +31,6 @@ impl Compared {
         };
         &buffer[..used]
     }
-}
-
-// What a base of length 0 stands for.
-static ZEROS: [u8; Layout::PAGE] = [0; Layout::PAGE];
-
-// The page that a base stands for.
-pub fn present(base: &[u8]) -> &[u8]
-    ensures { result.now ≡ page_of page_size base.now }
-{
-    if base.is_empty() { &ZEROS } else { base }
 }
 
 // Whether a base and another page have the lengths that they may have where a page has this size.
@@ -92,7 +82,11 @@ pub fn compare(base: &[u8], page: &[u8], payload: &mut [u8]) -> Result<Compared,
     if payload.len() < Layout::ROOM {
         return Err(Refusal::Buffer);
     }
-    Ok(compare_to(present(base), page, payload))
+    if base.is_empty() {
+        let zeros = [0u8; Layout::PAGE];
+        return Ok(compare_to(&zeros, page, payload));
+    }
+    Ok(compare_to(base, page, payload))
 }
 
 // Apply to a base that is there, copied as far as it and the page go. The whole payload is checked before the page's first byte is
@@ -114,5 +108,9 @@ pub fn apply(base: &[u8], payload: &[u8], page: &mut [u8]) -> Result<Sound, Refu
     if !pages_fit(Layout::PAGE as u32, base, page) {
         return Err(Refusal::Page.into());
     }
-    apply_to(present(base), payload, page)
+    if base.is_empty() {
+        let zeros = [0u8; Layout::PAGE];
+        return apply_to(&zeros, payload, page);
+    }
+    apply_to(base, payload, page)
 }

@@ -1,5 +1,5 @@
 use Rattle.std.specs.Prelude.{ℕ, ◌≡◌, List, length, Err}
-use Rattle.std.proofs.Common.{sym, ap, ◌∙◌}
+use Rattle.std.proofs.Common.{arith, sym, ap, ◌∙◌}
 use Rattle.layout.specs.Exits.{left_with}
 use Rattle.span.specs.Bytes.{splice}
 use Rattle.layout.specs.Sizes.{page_size}
@@ -24,7 +24,7 @@ opened : (c : In_ok-areas)
 opened c =
     let a = c.args in
     lent_frame page_size a.patch.now a.full.now a.map.now c.blocks-2.result c.map_bytes-needed.result c.blocks-2.ensures c.map_bytes-needed.ensures
-    c.in_ok-areas.areas.frame c.in_ok-areas.ensures.numbers
+    c.in_ok-areas.areas.frame (c.in_ok-areas.ensures.numbers (omega arith, omega arith))
 
 -- and the first fault that was told is that of the call's own size and n
 fault_is : (P : ℕ) (patch full : List ℕ) (size n : ℕ) (x : BuildNumbers) → size ≡ P → n ≡ blocks_in (length patch)
@@ -42,7 +42,7 @@ returns-in_err-areas c =
     let a = c.args in
     let r = c.in_err-areas.field-0.0 in
     let told = lent_refused page_size a.patch.now a.full.now a.map.now c.blocks-2.result c.map_bytes-needed.result
-    c.blocks-2.ensures c.map_bytes-needed.ensures r c.in_err-areas.ensures.numbers in
+    c.blocks-2.ensures c.map_bytes-needed.ensures r (c.in_err-areas.ensures.numbers (omega arith, omega arith)) in
     let e : build_outcome page_size a.patch.now a.full.now a.map.now ≡ build_refused (refusal_number r) 0 0 a.map.now =
     build_refused_is page_size a.patch.now a.full.now a.map.now (refusal_number r) told (refusal_some r) in
     rw (left_with c.from_residual.ensures) (record { numbers = rw e; bytes = rw e })

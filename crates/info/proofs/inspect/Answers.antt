@@ -33,27 +33,26 @@ returns-in-Full c =
     let is = sym c.in_ok-slot_state.ensures ∙ ap (λ s. state_numbers (Ok s)) c.in-Full.is in
     rw c.bare-in-Full.ensures (record { numbers = sym (info_bare page_size bytes c.if-bytes-ne-SLOT.false 2 is refl) })
 
-pub returns-in_err-sound-in-Patch : goal.returns-in_err-sound-in-Patch
-returns-in_err-sound-in-Patch c =
+pub returns-in-Err : goal.returns-in-Err
+returns-in-Err c =
     let bytes = c.args.bytes.now in
     let is = sym c.in_ok-slot_state.ensures ∙ ap (λ s. state_numbers (Ok s)) c.in-Patch.is in
-    rw (left_with c.from_residual-in_err-sound-in-Patch.ensures)
-    (record {
+    record {
       numbers =
           sym
           (broken_told page_size bytes c.part-payload.result.now c.in-Patch.length c.if-bytes-ne-SLOT.false is
-          c.part-payload.ensures.bytes c.in_err-sound-in-Patch.field-0.0 c.in_err-sound-in-Patch.ensures);
-    })
+          c.part-payload.ensures.bytes c.in-Err.field-0 c.in-Err.ensures);
+    }
 
-pub returns-in_ok-sound-in-Patch : goal.returns-in_ok-sound-in-Patch
-returns-in_ok-sound-in-Patch c =
+pub returns-in-Ok : goal.returns-in-Ok
+returns-in-Ok c =
     let bytes = c.args.bytes.now in
     let is = sym c.in_ok-slot_state.ensures ∙ ap (λ s. state_numbers (Ok s)) c.in-Patch.is in
-    let s = c.in_ok-sound-in-Patch.sound in
+    let s = c.in-Ok.sound in
     let fits : SFits w32 s.last = search rules in
     record {
       numbers =
           sym
           (patch_told page_size bytes c.part-payload.result.now c.in-Patch.length c.if-bytes-ne-SLOT.false is
-          c.part-payload.ensures.bytes s (to_z w32 (of_z w32 s.last)) c.in_ok-sound-in-Patch.ensures (to_z-of_z w32 s.last fits));
+          c.part-payload.ensures.bytes s (to_z w32 (of_z w32 s.last)) c.in-Ok.ensures (to_z-of_z w32 s.last fits));
     }

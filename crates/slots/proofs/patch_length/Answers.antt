@@ -1,9 +1,9 @@
-use Rattle.std.proofs.Common.{ℕ, ◌+◌, ◌-◌, ◌*◌, List, Bool, true, false, cond, ◌&&◌, ◌≡◌, ◌∙◌, sym, ap, arith}
+use Rattle.std.proofs.Common.{ℕ, ◌+◌, ◌-◌, List, Bool, true, false, cond, ◌&&◌, ◌≡◌, ◌∙◌, sym, ap, arith}
 use Rattle.std.proofs.Common.{get_or, eq-eqb, ne_eqb, Some, None, eqb, refl}
 use Rattle.std.specs.Bool.{then_some}
 use Rattle.std.proofs.Math.Bool.{and_assoc}
 use Rattle.slots.specs.Slots.{is_patch, payload_length}
-use Rattle.slots.specs.SlotLaws.{length_at_is, patch_over, patch_under, patch_test}
+use Rattle.slots.specs.SlotLaws.{patch_over, patch_under, patch_test}
 use Rattle.layout.specs.Sizes.{room, payload_at}
 use Rattle.span.specs.Bytes.{zeros, part, same}
 use Rattle.slots.proofs.patch_length.Goals as goal
@@ -13,10 +13,10 @@ use Rattle.slots.proofs.patch_length.Goals.{then-slot-eq-PATCH_FLAGS, else-slot-
 pub returns-then-n-eq0 : goal.returns-then-n-eq0
 returns-then-n-eq0 c =
     let s : List ℕ = c.args.slot.now in
-    let n : payload_length s ≡ get_or s 2 0 + 256 * get_or s 3 0 = length_at_is s c.requires.0 in
+    let n = c.stored_length-n.ensures in
     elim c.then-n-eq0.branch [
-      | then-n-eq0-via-then-n-eq0 w ↦ rw (patch_under s (omega arith))
-      | then-n-eq0-via-else-n-eq0+then-n-gt-ROOM w ↦ rw (patch_over s (omega arith))
+      | then-n-eq0-via-then-n-eq0 w ↦ rw (patch_under s (omega (arith, n)))
+      | then-n-eq0-via-else-n-eq0+then-n-gt-ROOM w ↦ rw (patch_over s (omega (arith, n)))
     ]
 
 told : (t : Bool) (n m : ℕ) → n ≡ m → then_some t n ≡ cond t (Some m) None
@@ -26,9 +26,9 @@ told false n m e = refl
 pub returns : goal.returns
 returns c =
     let s : List ℕ = c.args.slot.now in
-    let n : ℕ = c.from_le_bytes-size.result in
+    let n : ℕ = c.stored_length-n.result in
     let known = c.type_inv.slot in
-    let size : payload_length s ≡ n = length_at_is s c.requires.0 ∙ omega (arith, c.from_le_bytes-size.ensures) in
+    let size : payload_length s ≡ n = sym c.stored_length-n.ensures in
     let test : is_patch s
     ≡ (eqb (get_or s 1 0) 1 && (same (part 4 4 s) (zeros 4) && same (part (payload_at + n) (room - n) s) (zeros (room - n)))) =
     patch_test s n c.requires.0 c.requires.1 size (omega (arith, known 2)) (omega (arith, known 3)) (omega arith) (omega arith) in

@@ -1,45 +1,27 @@
-use Prim.Native.Nat.{ℕ, ◌-◌, ◌%◌}
+use Prim.Native.Nat.{ℕ, ◌-◌}
 use native.Mathlib.Omega.{arith}
-use mathlib.Core.Path.{◌≡◌, sym, ap, ◌∙◌}
-use mathlib.Core.Bool.{Bool, ◌&&◌}
-use mathlib.Core.List.{List}
+use mathlib.Core.Path.{ap, ◌∙◌}
 use lib.Dec.{eqb}
 use lib.ListN.{length}
-use borrow.Author.Rules.{rules}
-use Rattle.span.specs.declared.TheConstants.{STRETCH}
-use Rattle.span.specs.Stretches.{tail}
-use borrow.Author.Tests.{eqb-true}
-use Rattle.span.proofs.Zeros.{blank, blank_none, bits_blank, all_blank, longer_end}
+use Rattle.span.proofs.Zeros.{by_end}
 use Rattle.span.proofs.all_zero.Goals as goal
 
-pub returns-in_default : goal.returns-in_default
-returns-in_default c = ap (λ (b : ℕ). eqb b 0) c.bits_in.ensures ∙ bits_blank c.args.s.now
-
-pub returns-then-whole : goal.returns-then-whole
-returns-then-whole c =
+pub returns-then-parts_zero : goal.returns-then-parts_zero
+returns-then-parts_zero c =
     let s = c.args.s.now in
-    let cut = c.chunks_exact-stretches.ensures in
-    let all = all_blank _ _ (λ x q k. search rules) (λ x q k. search rules) _ _ _ STRETCH s cut.size cut.rest c.all.ensures.ran in
-    let rest : length (tail STRETCH s) ≡ 0 =
-    ap (λ (l : List ℕ). length l) (sym (c.remainder.ensures ∙ cut.remainder)) ∙ eqb-true _ 0 (sym c.is_empty-whole.ensures ∙ c.if-whole.true) in
-    c.if-whole.true
-    ∙ sym (all ∙ ap (λ (t : Bool). t && blank (tail STRETCH s)) c.if-all.true ∙ blank_none (tail STRETCH s) rest)
+    ap (λ (b : ℕ). eqb b 0) c.bits_in.ensures
+    ∙ by_end (length s - 32) 32 s _ c.parts_zero.ensures c.if-parts_zero.true (omega arith) c.in-Some.piece.now c.in-Some.ensures.cases.1.same
 
-pub returns-else-whole : goal.returns-else-whole
-returns-else-whole c =
+pub returns-then-parts_zero-2 : goal.returns-then-parts_zero-2
+returns-then-parts_zero-2 c =
     let s = c.args.s.now in
-    let cut = c.chunks_exact-stretches.ensures in
-    let all = all_blank _ _ (λ x q k. search rules) (λ x q k. search rules) _ _ _ STRETCH s cut.size cut.rest c.all.ensures.ran in
-    let end = c.in-Some.ensures in
-    let e : blank s ≡ blank (tail STRETCH s) = all ∙ ap (λ (t : Bool). t && blank (tail STRETCH s)) c.if-all.true in
-    ap (λ (b : ℕ). eqb b 0) c.bits_in-else-whole.ensures
-    ∙ bits_blank c.in-Some.last.now
-    ∙ ap (λ (l : List ℕ). blank l) end.cases.1.same
-    ∙ sym (longer_end (length s - 256) (length s - length s % 256) s (omega arith) e)
+    ap (λ (b : ℕ). eqb b 0) c.bits_in-then-parts_zero-2.ensures
+    ∙ by_end (length s - 32) 256 s _ c.parts_zero-then-s-le-PIECE.ensures c.if-parts_zero-2.true (omega (arith, c.if-s-le-PIECE.true))
+    c.in-Some.piece.now c.in-Some.ensures.cases.1.same
 
-pub returns-else-all : goal.returns-else-all
-returns-else-all c =
+pub returns-then-parts_zero-3 : goal.returns-then-parts_zero-3
+returns-then-parts_zero-3 c =
     let s = c.args.s.now in
-    let cut = c.chunks_exact-stretches.ensures in
-    let all = all_blank _ _ (λ x q k. search rules) (λ x q k. search rules) _ _ _ STRETCH s cut.size cut.rest c.all.ensures.ran in
-    c.if-all.false ∙ sym (all ∙ ap (λ (t : Bool). t && blank (tail STRETCH s)) c.if-all.false)
+    ap (λ (b : ℕ). eqb b 0) c.bits_in-then-parts_zero-3.ensures
+    ∙ by_end (length s - 256) 256 s _ c.parts_zero-2.ensures c.if-parts_zero-3.true (omega arith) c.in-Some-last_chunk.stretch.now
+    c.in-Some-last_chunk.ensures.cases.1.same

@@ -16,5 +16,5 @@ returns c =
     let all : List ℕ = take (length d) s in
     let e : n ≡ min (length d) (length s) = omega arith in
     let l : n ≡ 0 + length all = omega (arith, length-take (length d) s) in
-    ap (λ (l : List ℕ). l ++ drop n d) (c.copy_from_slice.ensures.after ∙ ap (λ (k : ℕ). take k s) e ∙ take_min (length d) s)
+    ap (λ (l : List ℕ). l ++ drop n d) (c.copy_whole.ensures ∙ ap (λ (k : ℕ). take k s) e ∙ take_min (length d) s)
     ∙ ap (λ (k : ℕ). all ++ drop k d) l

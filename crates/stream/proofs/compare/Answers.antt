@@ -1,8 +1,11 @@
+use Rattle.std.proofs.Common.{eqb-true}
+use Rattle.std.proofs.lemmas.Bool.{eqb-false}
 use Rattle.std.specs.Prelude.{length}
 use Rattle.std.proofs.Math.Path.{◌≡◌, sym, ◌∙◌}
 use native.Mathlib.Omega.{arith}
 use Rattle.layout.specs.Sizes.{page_size}
-use Rattle.stream.specs.Laws.{page_length}
+use Rattle.span.specs.Bytes.{zeros}
+use Rattle.stream.specs.Laws.{page_length, base_none, base_some}
 use Rattle.stream.proofs.Answers.{compare_refused_page, compare_refused_buffer, compare_with}
 use Rattle.stream.proofs.compare.Goals as goal
 
@@ -23,8 +26,23 @@ compare_to-requires c =
     let g : length a.page.now ≡ 8192 = page_length page_size a.base.now a.page.now (sym c.pages_fit.ensures ∙ c.if-not-pages_fit.false) in
     (omega arith, c.if-payload-lt-ROOM.false)
 
+pub returns-then-is_empty : goal.returns-then-is_empty
+unfolding zeros
+returns-then-is_empty c =
+    let a = c.args in
+    compare_with page_size a.base.now (zeros page_size) a.page.now a.payload.now c.compare_to.new.payload c.compare_to.result
+    (sym c.pages_fit.ensures ∙ c.if-not-pages_fit.false) c.if-payload-lt-ROOM.false
+    (base_none page_size a.base.now (eqb-true (length a.base.now) 0 (sym c.is_empty.ensures ∙ c.if-is_empty.true))) c.compare_to.ensures
+
+pub compare_to-requires-2 : goal.compare_to-requires-2
+compare_to-requires-2 c =
+    let a = c.args in
+    let g : length a.page.now ≡ 8192 = page_length page_size a.base.now a.page.now (sym c.pages_fit.ensures ∙ c.if-not-pages_fit.false) in
+    (omega arith, c.if-payload-lt-ROOM.false)
+
 pub returns : goal.returns
 returns c =
     let a = c.args in
-    compare_with page_size a.base.now c.present.result.now a.page.now a.payload.now c.compare_to.new.payload c.compare_to.result
-    (sym c.pages_fit.ensures ∙ c.if-not-pages_fit.false) c.if-payload-lt-ROOM.false (sym c.present.ensures) c.compare_to.ensures
+    compare_with page_size a.base.now a.base.now a.page.now a.payload.now c.compare_to-2.new.payload c.compare_to-2.result
+    (sym c.pages_fit.ensures ∙ c.if-not-pages_fit.false) c.if-payload-lt-ROOM.false
+    (base_some page_size a.base.now (eqb-false (length a.base.now) 0 (sym c.is_empty.ensures ∙ c.if-is_empty.false))) c.compare_to-2.ensures

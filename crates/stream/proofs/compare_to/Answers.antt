@@ -1,4 +1,8 @@
+use Rattle.std.specs.Prelude.{ℕ, List, ◌≡◌}
 use Rattle.std.proofs.Common.{ap, length-take}
+use borrow.Author.Rules.{rules}
+use Rattle.stream.specs.Steps.{Compares}
+use Rattle.stream.specs.declared.Compared.{Compared}
 use native.Mathlib.Omega.{arith}
 use mir.ValLaws.{to_z-of_z}
 use mir.Val.{to_z, of_z}
@@ -25,6 +29,11 @@ slice_bounds-copy-end c =
       length-take c.stream_of-d.result.length c.stream_of-d.new.room,
     )
 
+-- the same with another length that is equal: so the answer goes by what the length is and not by how it is written
+lengths_told : (base page room : List ℕ) (f : Compared) (l : ℕ) (after : List ℕ) → l ≡ f.length → Compares base page room f after
+    → Compares base page room (record { kind = f.kind; length = l; entries = f.entries; last = f.last }) after
+lengths_told base page room f l after e h = rw e h
+
 pub returns : goal.returns
 unfolding zeros part
 returns c =
@@ -35,10 +44,10 @@ returns c =
     elim c.match-kind.branch [
       | in-Patch w ↦
           rw w.payload-is
-          (compares_patch a.base.now a.page.now (zeros 504) d.new.room a.payload.now d.result k.result (to_z w32 (of_z w32 d.result.last)) z
-          c.requires.0 d.ensures k.ensures w.copy.new.dst (zeros_length 504) c.requires.1 (ap kind_number w.in-Patch.is) w.copy.ensures)
+          (lengths_told _ _ _ _ _ _ (search rules) (compares_patch a.base.now a.page.now (zeros 504) d.new.room a.payload.now d.result k.result (to_z w32 (of_z w32 d.result.last)) z
+          c.requires.0 d.ensures k.ensures w.copy.new.dst (zeros_length 504) c.requires.1 (ap kind_number w.in-Patch.is) w.copy.ensures))
       | in_default w ↦
           rw w.payload-is
-          (compares_kept a.base.now a.page.now (zeros 504) d.new.room a.payload.now d.result k.result (to_z w32 (of_z w32 d.result.last)) z
-          c.requires.0 d.ensures k.ensures (λ q. w.in_default.not-Patch (kind_one k.result Patch q)))
+          (lengths_told _ _ _ _ _ _ (search rules) (compares_kept a.base.now a.page.now (zeros 504) d.new.room a.payload.now d.result k.result (to_z w32 (of_z w32 d.result.last)) z
+          c.requires.0 d.ensures k.ensures (λ q. w.in_default.not-Patch (kind_one k.result Patch q))))
     ]

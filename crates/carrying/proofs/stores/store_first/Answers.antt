@@ -1,41 +1,47 @@
-use mathlib.Core.Path.{sym, ◌∙◌}
-use Rattle.std.proofs.Common.{eqb-true}
-use Rattle.std.proofs.lemmas.Bool.{eqb-false}
-use Rattle.layout.specs.Sizes.{full_kind}
-use Rattle.layout.specs.Numbers.{kind_number}
+use native.Mathlib.Omega.{arith}
+use mathlib.Core.Path.{◌≡◌, sym, ap, ◌∙◌}
+use lib.ListN.{length}
+use borrow.Author.Rules.{rules}
+use Rattle.layout.specs.Lengths.{pages_in}
 use Rattle.carrying.specs.Parts.{decision_stored}
-use Rattle.carrying.proofs.KindTests.{is_full}
-use Rattle.carrying.proofs.Making.{none_made, place_made, slot_made, both_made}
+use Rattle.carrying.proofs.Making.{places_kept, none_told, one_told, both_told, due_first, due_after}
 use Rattle.carrying.proofs.stores.store_first.Goals as goal
 
 pub returns-then-stores-eq0 : goal.returns-then-stores-eq0
 returns-then-stores-eq0 c =
     let a = c.args in
-    none_made a.frame.size a.block (decision_stored a.stored) a.patch.now a.full.now a.stores c.if-stores-eq0.true
+    none_told a.frame.size a.block (decision_stored a.stored) a.patch.now a.full.now a.stores c.if-stores-eq0.true
 
-pub returns-then-stores-gt1 : goal.returns-then-stores-gt1
-returns-then-stores-gt1 c =
+pub returns-then-stores-eq1 : goal.returns-then-stores-eq1
+returns-then-stores-eq1 c =
     let a = c.args in
-    both_made a.frame.size a.block (decision_stored a.stored) a.patch.now a.full.now a.stores c.if-stores-gt1.true _ _ c.store_slot.ensures
-    c.store_place.ensures
+    one_told a.frame.size a.block (decision_stored a.stored) a.patch.now a.full.now _ c.place_first-of_place.ensures _ _ c.one_store.ensures
+    a.stores c.if-stores-eq1.true
 
-pub returns-else-stores-gt1 : goal.returns-else-stores-gt1
-returns-else-stores-gt1 c =
-    let a = c.args in
-    let k = kind_number a.stored.kind in
-    place_made a.frame.size a.block (decision_stored a.stored) a.patch.now a.full.now a.stores c.if-stores-eq0.false c.if-stores-gt1.false _
-    (eqb-true k full_kind (sym (is_full a.stored.kind) ∙ sym c.eq-place_first.ensures ∙ c.if-place_first.true)) c.store_place.ensures
+pub one_store-requires : goal.one_store-requires
+one_store-requires c =
+    let a = c.args in record {
+      lent = c.requires;
+      due = due_first a.frame.size a.block (decision_stored a.stored) a.patch.now a.full.now _ c.place_first-of_place.ensures;
+    }
 
-pub returns-then-stores-gt1-2 : goal.returns-then-stores-gt1-2
-returns-then-stores-gt1-2 c =
+pub one_store-requires-2 : goal.one_store-requires-2
+one_store-requires-2 c =
     let a = c.args in
-    both_made a.frame.size a.block (decision_stored a.stored) a.patch.now a.full.now a.stores c.if-stores-gt1-2.true _ _
-    c.store_slot-else-place_first.ensures c.store_place-then-stores-gt1-2.ensures
+    let n : length c.one_store.new.full ≡ length a.full.now = c.one_store.auto.full in record {
+      lent = record {
+        sized = c.requires.sized;
+        slot_within = omega (arith, c.requires.slot_within, c.one_store.auto.patch);
+        full_area = (c.requires.full_area.0 ∙ ap (pages_in a.frame.size) (sym n), places_kept a.frame.size a.full.now c.one_store.new.full n c.requires.full_area.1);
+        page_lent = c.requires.page_lent;
+      };
+      due =
+          due_after a.frame.size a.block (decision_stored a.stored) a.patch.now a.full.now _ _ _ c.requires.slot_within (search rules)
+          c.requires.full_area.1 c.requires.page_lent c.one_store.ensures;
+    }
 
-pub returns-else-stores-gt1-2 : goal.returns-else-stores-gt1-2
-returns-else-stores-gt1-2 c =
+pub returns : goal.returns
+returns c =
     let a = c.args in
-    let k = kind_number a.stored.kind in
-    slot_made a.frame.size a.block (decision_stored a.stored) a.patch.now a.full.now a.stores c.if-stores-eq0.false c.if-stores-gt1-2.false _
-    (eqb-false k full_kind (sym (is_full a.stored.kind) ∙ sym c.eq-place_first.ensures ∙ c.if-place_first.false))
-    c.store_slot-else-place_first.ensures
+    both_told a.frame.size a.block (decision_stored a.stored) a.patch.now a.full.now _ c.place_first-of_place.ensures _ _ c.one_store.ensures
+    a.stores c.if-stores-eq0.false c.if-stores-eq1.false _ _ c.one_store-2.ensures

@@ -1,11 +1,12 @@
-use Rattle.std.specs.Prelude.{ℕ, ◌≡◌, List, length}
-use Rattle.std.proofs.Common.{arith, sym, ap, ◌∙◌}
+use Rattle.std.specs.Prelude.{◌≡◌, length}
+use Rattle.std.proofs.Common.{arith, refl, sym, ◌∙◌, eqb-true}
+use Rattle.std.proofs.lemmas.Bool.{eqb-false}
+use Rattle.span.specs.Bytes.{zeros}
 use Rattle.layout.specs.Exits.{left_with}
 use Rattle.layout.specs.Sizes.{page_size}
 use Rattle.layout.specs.Numbers.{refusal_number}
 use Rattle.layout.specs.NumberLaws.{refusal_some}
-use Rattle.stream.specs.Calls.{page_of}
-use Rattle.stream.specs.Laws.{present_length, present_again}
+use Rattle.stream.specs.Laws.{base_none, zeros_base}
 use Rattle.reading.specs.Read.{read_refused}
 use Rattle.reading.specs.Mapped.{read_mapped_outcome}
 use Rattle.reading.specs.MappedLaws.{mapped_frame, mapped_looked}
@@ -21,7 +22,8 @@ opened : (c : In_ok-areas)
 opened c =
     let a = c.args in
     lain_frame page_size a.patch.now a.full.now a.map.now a.base.now a.page.now c.blocks-2.result c.map_bytes-needed.result c.pages_fit-fit.result
-    c.blocks-2.ensures c.map_bytes-needed.ensures c.pages_fit-fit.ensures c.in_ok-areas.areas.frame c.in_ok-areas.ensures.numbers
+    c.blocks-2.ensures c.map_bytes-needed.ensures c.pages_fit-fit.ensures c.in_ok-areas.areas.frame
+    (c.in_ok-areas.ensures.numbers (omega arith, omega arith))
 
 -- and where the block's pair is found
 found : (c : In_ok-kind)
@@ -39,7 +41,8 @@ returns-in_err-areas c =
     let a = c.args in
     let r = c.in_err-areas.field-0.0 in
     let told = lain_refused page_size a.patch.now a.full.now a.map.now a.base.now a.page.now c.blocks-2.result c.map_bytes-needed.result
-    c.pages_fit-fit.result c.blocks-2.ensures c.map_bytes-needed.ensures c.pages_fit-fit.ensures r c.in_err-areas.ensures.numbers in
+    c.pages_fit-fit.result c.blocks-2.ensures c.map_bytes-needed.ensures c.pages_fit-fit.ensures r
+    (c.in_err-areas.ensures.numbers (omega arith, omega arith)) in
     let e : read_mapped_outcome page_size a.patch.now a.full.now a.map.now a.block a.base.now a.page.now
     ≡ read_refused (refusal_number r) 0 a.page.now =
     mapped_frame page_size a.patch.now a.full.now a.map.now a.block a.base.now a.page.now (refusal_number r) told (refusal_some r) in
@@ -64,9 +67,26 @@ overflow_cast-block c =
 
 pub read_as-requires : goal.read_as-requires
 read_as-requires c =
-    let a = c.args in
     let o = (opened (goal.at.read_as-requires c).In_ok-areas).lent in
-    (ap length c.present.ensures ∙ present_length page_size a.base.now a.page.now o.fits ∙ sym o.own, o.page_size_is)
+    (sym o.own, o.page_size_is)
+
+pub returns-then-is_empty : goal.returns-then-is_empty
+unfolding zeros
+returns-then-is_empty c =
+    let g = goal.at.returns-then-is_empty c in
+    let a = c.args in
+    let f = c.in_ok-areas.areas.frame in
+    let lent = c.in_ok-areas.ensures.lent in
+    let r = c.read_as in
+    found_read page_size a.patch.now a.full.now a.map.now a.block a.base.now (zeros page_size) a.page.now f.size f.n f.m
+    c.in_ok-kind.kind r.result r.new.page (found g.In_ok-kind (opened g.In_ok-areas))
+    (base_none page_size a.base.now (eqb-true (length a.base.now) 0 (sym c.is_empty.ensures ∙ c.if-is_empty.true)) ∙ sym (zeros_base page_size))
+    (rw (lent.0, lent.1) at r.ensures)
+
+pub read_as-requires-2 : goal.read_as-requires-2
+read_as-requires-2 c =
+    let o = (opened (goal.at.read_as-requires-2 c).In_ok-areas).lent in
+    (o.base_size (eqb-false (length c.args.base.now) 0 (sym c.is_empty.ensures ∙ c.if-is_empty.false)), o.page_size_is)
 
 pub returns : goal.returns
 returns c =
@@ -74,8 +94,6 @@ returns c =
     let a = c.args in
     let f = c.in_ok-areas.areas.frame in
     let lent = c.in_ok-areas.ensures.lent in
-    let r = c.read_as in
-    found_read page_size a.patch.now a.full.now a.map.now a.block a.base.now c.present.result.now a.page.now f.size f.n f.m
-    c.in_ok-kind.kind r.result r.new.page (found g.In_ok-kind (opened g.In_ok-areas))
-    (present_again page_size a.base.now ∙ ap (λ (l : List ℕ). page_of page_size l) (sym c.present.ensures))
-    (rw (lent.0, lent.1) at r.ensures)
+    let r = c.read_as-2 in
+    found_read page_size a.patch.now a.full.now a.map.now a.block a.base.now a.base.now a.page.now f.size f.n f.m
+    c.in_ok-kind.kind r.result r.new.page (found g.In_ok-kind (opened g.In_ok-areas)) refl (rw (lent.0, lent.1) at r.ensures)
