@@ -26,7 +26,9 @@ fn stored_length(slot: &[u8]) -> usize
     size as usize
 }
 
-// The payload's length of a sound PATCH slot: of 512 bytes of kind 1.
+// The payload's length of a sound PATCH slot: of 512 bytes of kind 1. Inlined with `slot_state`: where it was called, a scan of slots whose payloads fill
+// them took up to 1.4 times as long.
+#[inline(always)]
 fn patch_length(slot: &[u8]) -> Option<usize>
     requires { (length slot.now ≡ slot_size) × (get_or slot.now 0 0 ≡ 1) }
     ensures { result ≡ cond (is_patch slot.now) (Some (payload_length slot.now)) None }

@@ -5,7 +5,7 @@ use mathlib.Core.Path.{◌≡◌, refl, sym, ap, subst, ◌∙◌}
 use mathlib.Core.Bool.{Bool, true, false, ◌&&◌, and-true, and_assoc}
 use mathlib.Core.List.{List, [], ◌∷◌, ◌++◌}
 use lib.Dec.{eqb}
-use lib.ListN.{length, length-append, take, drop}
+use lib.ListN.{length, length-append, length-drop, take, drop}
 use lib.Bits.{bit_or, or_add_and, and_le_l, and_le_r}
 use borrow.Author.Tests.{eqb-true, eqb-false, eq-eqb, ne_eqb}
 use denote.Ref.{Bor}
@@ -146,3 +146,9 @@ by_end k n l r all whole far end same =
     bits_blank end
     ∙ ap (λ (x : List ℕ). blank x) same
     ∙ sym (longer_end k (length l - length l % n) l far (all ∙ ap (λ (t : Bool). t && blank (tail n l)) whole))
+
+-- and one with no rest by its stretches alone
+pub by_whole : (n : ℕ) (l : List ℕ) (r : Bool) → blank l ≡ (r && blank (tail n l)) → length l % n ≡ 0 → r ≡ blank l
+by_whole n l r all none =
+    let t : blank (tail n l) ≡ true = blank_none (tail n l) (length-drop (length l - length l % n) l ∙ omega (arith, none)) in
+    sym (all ∙ ap (λ (b : Bool). r && b) t ∙ and-true r)

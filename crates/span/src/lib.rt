@@ -90,7 +90,7 @@ fn parts_zero<const WIDTH: usize>(s: &[u8]) -> bool
     s.chunks_exact(WIDTH).all(|bytes| bits_in(bytes) == 0)
 }
 
-// The same of fewer bytes than a piece has.
+// Whether every byte is zero, where there are fewer than a piece has.
 fn few_zero(s: &[u8]) -> bool
     ensures { result ≡ same_bytes s.now (zeros (length s.now)) }
 {
@@ -100,10 +100,10 @@ fn few_zero(s: &[u8]) -> bool
     parts_zero::<WORD>(s) && bits_in(end) == 0
 }
 
-// Whether every byte is zero.
+// Whether every byte is zero, of some.
 // A rest is read with the whole stretch, or the piece, that ends with it: by itself, a scan of slots took up to 1.7 times as long. Pieces where there
 // is no stretch, and for a rest that is no longer: without them, a scan of PATCH slots took up to 1.3 times as long.
-pub fn all_zero(s: &[u8]) -> bool
+fn some_zero(s: &[u8]) -> bool
     ensures { result ≡ same_bytes s.now (zeros (length s.now)) }
 {
     let Some(piece) = s.last_chunk::<PIECE>() else {
@@ -112,10 +112,22 @@ pub fn all_zero(s: &[u8]) -> bool
     let Some(stretch) = s.last_chunk::<STRETCH>() else {
         return parts_zero::<PIECE>(s) && bits_in(piece) == 0;
     };
-    if s.len() % STRETCH <= PIECE {
+    let rest = s.len() % STRETCH;
+    if rest == 0 {
+        return parts_zero::<STRETCH>(s);
+    }
+    if rest <= PIECE {
         return parts_zero::<STRETCH>(s) && bits_in(piece) == 0;
     }
     parts_zero::<STRETCH>(s) && bits_in(stretch) == 0
+}
+
+// Whether every byte is zero. None is told where it is asked: slots whose payloads fill them took up to 1.5 times as long by a call.
+#[inline(always)]
+pub fn all_zero(s: &[u8]) -> bool
+    ensures { result ≡ same_bytes s.now (zeros (length s.now)) }
+{
+    s.is_empty() || some_zero(s)
 }
 
 // The n bytes of s from `at` on, or as many of them as s has.
