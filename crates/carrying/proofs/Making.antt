@@ -9,7 +9,7 @@ use Rattle.std.proofs.Common.{eqb-true, ltb-true}
 use lib.ListN.{length, take}
 use lib.Seq.{take_all}
 use Rattle.span.specs.Bytes.{zeros, splice}
-use Rattle.span.specs.Laws.{splice_is, splice_in, splice_length, zeros_length}
+use Rattle.span.specs.Laws.{splice_again, splice_length, zeros_length}
 use Rattle.layout.specs.Sizes.{full_kind, room, slot_size, slot_at, page_at}
 use Rattle.layout.specs.Lengths.{pages_in}
 use Rattle.slots.specs.Slots.{slot_image}
@@ -70,12 +70,6 @@ module _ (P b : ℕ) (d : Decision) (patch full : List ℕ) where
           full_bytes = n.full_bytes ∙ λ i. (put P b d place (record { patch = m.patch_bytes i; full = m.full_bytes i })).full;
         })
 
--- to lay the same again changes nothing
-splice_again : (xs : List ℕ) (at : ℕ) (ys : List ℕ) → at + length ys ≤ length xs → splice xs at ys ≡ splice (splice xs at ys) at ys
-splice_again xs at ys h =
-    splice_is (splice xs at ys) at ys (splice xs at ys) (omega (arith, splice_length xs at ys h)) refl (λ i k. refl)
-    (λ j k. splice_in xs at ys (omega arith) j k) (λ i k m. refl)
-
 module _ (P b : ℕ) (d : Decision) (patch full : List ℕ) where
   slot_again : (p : List ℕ) → SlotWithin patch b → length d.payload ≤ room → p ≡ put_slot patch b d.kind d.payload
       → p ≡ put_slot p b d.kind d.payload
@@ -85,13 +79,16 @@ module _ (P b : ℕ) (d : Decision) (patch full : List ℕ) where
       subst (λ (x : List ℕ). x ≡ splice x (slot_at b) (slot_image d.kind d.payload)) (sym e)
       (splice_again patch (slot_at b) (slot_image d.kind d.payload) (omega (arith, h, l)))
 
-  stored_length : PageLent P d → (k : Bool) → eqb d.kind full_kind ≡ k → length (cond k d.page (zeros P)) ≡ P
-  stored_length page true e = page (eqb-true d.kind full_kind e)
-  stored_length page false e = zeros_length P
-
   -- what the place is to hold
   abbrev held : List ℕ
   held = cond (eqb d.kind full_kind) d.page (zeros P)
+
+  held_length : PageLent P d → length held ≡ P
+  held_length page = go (eqb d.kind full_kind) refl
+    where
+      go : (k : Bool) → eqb d.kind full_kind ≡ k → length (cond k d.page (zeros P)) ≡ P
+      go true e = page (eqb-true d.kind full_kind e)
+      go false e = zeros_length P
 
   place_again : (f : List ℕ) → Places P full → PageLent P d → f ≡ put_place P full b d.kind d.page → f ≡ put_place P f b d.kind d.page
   unfolding put_place
@@ -102,7 +99,7 @@ module _ (P b : ℕ) (d : Decision) (patch full : List ℕ) where
           → put_place P full b d.kind d.page ≡ put_place P (put_place P full b d.kind d.page) b d.kind d.page
       go true q =
           let h : page_at P b + length held ≤ length full =
-          omega (arith, there b (ltb-true b (pages_in P (length full)) q), stored_length page (eqb d.kind full_kind) refl) in
+          omega (arith, there b (ltb-true b (pages_in P (length full)) q), held_length page) in
           let l : ltb b (pages_in P (length (splice full (page_at P b) held))) ≡ true =
           ap (λ (n : ℕ). ltb b (pages_in P n)) (splice_length full (page_at P b) held h) ∙ q in
           rw q (rw l (splice_again full (page_at P b) held h))

@@ -197,6 +197,12 @@ splice_is xs at ys zs h e before inside after =
           ]
     ])
 
+-- to lay the same again changes nothing
+pub splice_again : (xs : List ℕ) (at : ℕ) (ys : List ℕ) → at + length ys ≤ length xs → splice xs at ys ≡ splice (splice xs at ys) at ys
+splice_again xs at ys h =
+    splice_is (splice xs at ys) at ys (splice xs at ys) (omega (arith, splice_length xs at ys h)) refl (λ i k. refl)
+    (λ j k. splice_in xs at ys (omega arith) j k) (λ i k m. refl)
+
 -- A part lent by `&mut s[a..e]` comes back as a splice
 
 pub put_splice : (a k : ℕ) (xs ys : List ℕ) → length ys ≡ k → put_mid a k xs ys ≡ splice xs a ys

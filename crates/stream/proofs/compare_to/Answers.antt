@@ -44,10 +44,12 @@ returns c =
     elim c.match-kind.branch [
       | in-Patch w ↦
           rw w.payload-is
-          (lengths_told _ _ _ _ _ _ (search rules) (compares_patch a.base.now a.page.now (zeros 504) d.new.room a.payload.now d.result k.result (to_z w32 (of_z w32 d.result.last)) z
+          (lengths_told _ _ _ _ _ _ (search rules)
+          (compares_patch a.base.now a.page.now (zeros 504) d.new.room a.payload.now d.result k.result (to_z w32 (of_z w32 d.result.last)) z
           c.requires.0 d.ensures k.ensures w.copy.new.dst (zeros_length 504) c.requires.1 (ap kind_number w.in-Patch.is) w.copy.ensures))
       | in_default w ↦
           rw w.payload-is
-          (lengths_told _ _ _ _ _ _ (search rules) (compares_kept a.base.now a.page.now (zeros 504) d.new.room a.payload.now d.result k.result (to_z w32 (of_z w32 d.result.last)) z
+          (lengths_told _ _ _ _ _ _ (search rules)
+          (compares_kept a.base.now a.page.now (zeros 504) d.new.room a.payload.now d.result k.result (to_z w32 (of_z w32 d.result.last)) z
           c.requires.0 d.ensures k.ensures (λ q. w.in_default.not-Patch (kind_one k.result Patch q))))
     ]

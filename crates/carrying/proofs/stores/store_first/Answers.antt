@@ -15,24 +15,25 @@ returns-then-stores-eq0 c =
 pub returns-then-stores-eq1 : goal.returns-then-stores-eq1
 returns-then-stores-eq1 c =
     let a = c.args in
-    one_told a.frame.size a.block (decision_stored a.stored) a.patch.now a.full.now _ c.place_first-of_place.ensures _ _ c.one_store.ensures
+    one_told a.frame.size a.block (decision_stored a.stored) a.patch.now a.full.now _ (search rules) _ _ c.one_store.ensures
     a.stores c.if-stores-eq1.true
 
 pub one_store-requires : goal.one_store-requires
 one_store-requires c =
     let a = c.args in record {
       lent = c.requires;
-      due = due_first a.frame.size a.block (decision_stored a.stored) a.patch.now a.full.now _ c.place_first-of_place.ensures;
+      due = due_first a.frame.size a.block (decision_stored a.stored) a.patch.now a.full.now _ (search rules);
     }
 
 pub one_store-requires-2 : goal.one_store-requires-2
 one_store-requires-2 c =
     let a = c.args in
-    let n : length c.one_store.new.full ≡ length a.full.now = c.one_store.auto.full in record {
+    let n : length c.one_store.new.full ≡ length a.full.now = c.one_store.auto.full in
+    let there = places_kept a.frame.size a.full.now c.one_store.new.full n c.requires.full_area.1 in record {
       lent = record {
         sized = c.requires.sized;
         slot_within = omega (arith, c.requires.slot_within, c.one_store.auto.patch);
-        full_area = (c.requires.full_area.0 ∙ ap (pages_in a.frame.size) (sym n), places_kept a.frame.size a.full.now c.one_store.new.full n c.requires.full_area.1);
+        full_area = (c.requires.full_area.0 ∙ ap (pages_in a.frame.size) (sym n), there);
         page_lent = c.requires.page_lent;
       };
       due =
@@ -43,5 +44,5 @@ one_store-requires-2 c =
 pub returns : goal.returns
 returns c =
     let a = c.args in
-    both_told a.frame.size a.block (decision_stored a.stored) a.patch.now a.full.now _ c.place_first-of_place.ensures _ _ c.one_store.ensures
+    both_told a.frame.size a.block (decision_stored a.stored) a.patch.now a.full.now _ (search rules) _ _ c.one_store.ensures
     a.stores c.if-stores-eq0.false c.if-stores-eq1.false _ _ c.one_store-2.ensures
