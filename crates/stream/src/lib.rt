@@ -6,7 +6,7 @@ ghost use Rattle.layout.specs.Sizes.{page_size, patch_kind, room as room_of};
 ghost use Rattle.layout.specs.Numbers.{kind_number};
 ghost use Rattle.payload.specs.Steps.{farthest, reach};
 ghost use Rattle.stream.specs.Steps.{Applies, Compares};
-ghost use Rattle.stream.specs.Calls.{pages_fit, kind_for, Apply, Compare};
+ghost use Rattle.stream.specs.Calls.{page_of, pages_fit, kind_for, Apply, Compare};
 
 use layout::{Kind, Layout, Refusal, RefusedAt};
 use payload::Sound;
@@ -31,6 +31,17 @@ impl Compared {
         };
         &buffer[..used]
     }
+}
+
+// What a base of length 0 stands for; a static, since it is lent out.
+static ZEROS: [u8; Layout::PAGE] = [0; Layout::PAGE];
+
+// The page that a base stands for, for a caller who keeps no page of zeros. Compare, Apply and both reads do not ask it: by the paper each has a local
+// page of its own.
+pub fn present(base: &[u8]) -> &[u8]
+    ensures { result.now ≡ page_of page_size base.now }
+{
+    if base.is_empty() { &ZEROS } else { base }
 }
 
 // Whether a base and another page have the lengths that they may have where a page has this size.
