@@ -9,12 +9,11 @@ use mathlib.Core.List.Memᴰ
 use mathlib.Core.List.{List, [], ◌∷◌, ◌++◌, map, Memᴰ}
 use Rattle.std.proofs.Math.ListN.{length, drop, get_or}
 use Rattle.std.proofs.Math.Seq.{sets, drop-cons, drop-drop, drop-length, get_or-drop, take-append_seam, drop-append_seam, take-nil, drop-nil}
-use Rattle.std.proofs.lemmas.Bool.{eqb-false}
 use Rattle.span.specs.Bytes.{zeros, part, splice}
 use Rattle.span.specs.Laws.{zeros_length}
 use Rattle.layout.specs.Sizes.{room}
 use Rattle.stream.specs.Calls.{page_of, compare_numbers, compare_buffer}
-use Rattle.stream.specs.Laws.{base_some}
+use Rattle.stream.specs.Laws.{tested_some}
 use Rattle.promises.specs.Words.{PagesFit}
 use Rattle.promises.specs.Decisions.{ComparedBy, Compared}
 use Rattle.promises.specs.DecisionLaws.{compared_by, by_compare}
@@ -286,7 +285,7 @@ base_fits P base l = go (eqb (length base) 0) refl
   where
     go : (t : Bool) → eqb (length base) 0 ≡ t → (length base ≡ 0) ⊎ (length base ≡ P)
     go true e = inl (eqb-true (length base) 0 e)
-    go false e = inr (ap (λ (x : List ℕ). length x) (sym (base_some P base (eqb-false (length base) 0 e))) ∙ l)
+    go false e = inr (ap (λ (x : List ℕ). length x) (sym (tested_some P base e)) ∙ l)
 
 -- Compare says of a base no more than of the page that it stands for
 pub other_base : (P : ℕ) (base base' : List ℕ) (d : Decision) → page_of P base ≡ page_of P base' → ComparedBy P base d → ComparedBy P base' d

@@ -53,13 +53,20 @@ page_length P base page h = go (eqb (length page) P) refl h
 pub base_length : (P : ℕ) (base page : List ℕ) → pages_fit P base page ≡ true → (length base ≡ 0 → ⊥) → length base ≡ P
 base_length P base page h k = eqb-true (length base) P (sym (fits_some P base page (page_length P base page h) k) ∙ h)
 
-pub base_none : (P : ℕ) (base : List ℕ) → length base ≡ 0 → page_of P base ≡ zeros P
+-- a base that was tested for bytes
+pub tested_none : (P : ℕ) (base : List ℕ) → eqb (length base) 0 ≡ true → page_of P base ≡ zeros P
 unfolding page_of
-base_none P base h = rw (eq-eqb (length base) 0 h)
+tested_none P base e = rw e
+
+pub tested_some : (P : ℕ) (base : List ℕ) → eqb (length base) 0 ≡ false → page_of P base ≡ base
+unfolding page_of
+tested_some P base e = rw e
+
+pub base_none : (P : ℕ) (base : List ℕ) → length base ≡ 0 → page_of P base ≡ zeros P
+base_none P base h = tested_none P base (eq-eqb (length base) 0 h)
 
 pub base_some : (P : ℕ) (base : List ℕ) → (length base ≡ 0 → ⊥) → page_of P base ≡ base
-unfolding page_of
-base_some P base h = rw (ne_eqb (length base) 0 h)
+base_some P base h = tested_some P base (ne_eqb (length base) 0 h)
 
 -- a base of zeros is its own page
 pub zeros_base : (P : ℕ) → page_of P (zeros P) ≡ zeros P
@@ -75,7 +82,7 @@ pub present_length : (P : ℕ) (base page : List ℕ) → pages_fit P base page 
 present_length P base page h = go (eqb (length base) 0) refl
   where
     go : (t : Bool) → eqb (length base) 0 ≡ t → length (page_of P base) ≡ P
-    go true e = ap (λ (l : List ℕ). length l) (base_none P base (eqb-true (length base) 0 e)) ∙ zeros_length P
+    go true e = ap (λ (l : List ℕ). length l) (tested_none P base e) ∙ zeros_length P
     go false e =
         let d : length base ≡ 0 → ⊥ = eqb-false (length base) 0 e in
         ap (λ (l : List ℕ). length l) (base_some P base d) ∙ base_length P base page h d
@@ -179,8 +186,8 @@ present_again P base = go (eqb (length base) 0) refl
   where
     go : (t : Bool) → eqb (length base) 0 ≡ t → page_of P base ≡ page_of P (page_of P base)
     go true e =
-        let z : page_of P base ≡ zeros P = base_none P base (eqb-true (length base) 0 e) in
+        let z : page_of P base ≡ zeros P = tested_none P base e in
         z ∙ sym (zeros_base P) ∙ ap (λ (l : List ℕ). page_of P l) (sym z)
     go false e =
-        let s : page_of P base ≡ base = base_some P base (eqb-false (length base) 0 e) in
+        let s : page_of P base ≡ base = tested_some P base e in
         ap (λ (l : List ℕ). page_of P l) (sym s)

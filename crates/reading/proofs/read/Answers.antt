@@ -1,5 +1,5 @@
 use Rattle.std.specs.Prelude.{ℕ, ◌<◌, ◌≡◌, List, [], length, Result}
-use Rattle.std.proofs.Common.{arith, refl, sym, ◌∙◌, subst, eqb-true}
+use Rattle.std.proofs.Common.{arith, refl, sym, ◌∙◌, subst}
 use Rattle.std.proofs.lemmas.Bool.{eqb-false}
 use Rattle.span.specs.Bytes.{zeros}
 use Rattle.layout.specs.declared.Kind.{Kind}
@@ -10,7 +10,7 @@ use Rattle.layout.specs.Numbers.{refusal_number}
 use Rattle.layout.specs.NumberLaws.{refusal_some}
 use Rattle.store.specs.OpenLaws.{Lent, lent_refused, lent_frame}
 use Rattle.stream.specs.Calls.{page_of}
-use Rattle.stream.specs.Laws.{base_none, zeros_base}
+use Rattle.stream.specs.Laws.{tested_none, zeros_base}
 use Rattle.reading.specs.Read.{Read, read_outcome, read_refused}
 use Rattle.reading.specs.Parts.{slot_outcome, BlockRead}
 use Rattle.reading.specs.ReadLaws.{read_frame, read_block, read_slot, same_base}
@@ -75,7 +75,7 @@ returns-then-is_empty c =
     let a = c.args in
     let g = goal.at.returns-then-is_empty c in
     read_over g.In_ok-areas (zeros page_size) _ (omega (arith, c.if-areas-block.false))
-    (base_none page_size a.base.now (eqb-true (length a.base.now) 0 (sym c.is_empty.ensures ∙ c.if-is_empty.true)) ∙ sym (zeros_base page_size)) _
+    (tested_none page_size a.base.now (sym c.is_empty.ensures ∙ c.if-is_empty.true) ∙ sym (zeros_base page_size)) _
     c.read_block.ensures
 
 pub read_block-requires-2 : goal.read_block-requires-2

@@ -1,11 +1,9 @@
-use Rattle.std.proofs.Common.{eqb-true}
-use Rattle.std.proofs.lemmas.Bool.{eqb-false}
 use Rattle.std.specs.Prelude.{length}
 use Rattle.std.proofs.Math.Path.{◌≡◌, sym, ◌∙◌}
 use native.Mathlib.Omega.{arith}
 use Rattle.layout.specs.Sizes.{page_size}
 use Rattle.span.specs.Bytes.{zeros}
-use Rattle.stream.specs.Laws.{page_length, base_none, base_some}
+use Rattle.stream.specs.Laws.{page_length, tested_none, tested_some}
 use Rattle.stream.proofs.Answers.{compare_refused_page, compare_refused_buffer, compare_with}
 use Rattle.stream.proofs.compare.Goals as goal
 
@@ -32,7 +30,7 @@ returns-then-is_empty c =
     let a = c.args in
     compare_with page_size a.base.now (zeros page_size) a.page.now a.payload.now c.compare_to.new.payload c.compare_to.result
     (sym c.pages_fit.ensures ∙ c.if-not-pages_fit.false) c.if-payload-lt-ROOM.false
-    (base_none page_size a.base.now (eqb-true (length a.base.now) 0 (sym c.is_empty.ensures ∙ c.if-is_empty.true))) c.compare_to.ensures
+    (tested_none page_size a.base.now (sym c.is_empty.ensures ∙ c.if-is_empty.true)) c.compare_to.ensures
 
 pub compare_to-requires-2 : goal.compare_to-requires-2
 compare_to-requires-2 c =
@@ -45,4 +43,4 @@ returns c =
     let a = c.args in
     compare_with page_size a.base.now a.base.now a.page.now a.payload.now c.compare_to-2.new.payload c.compare_to-2.result
     (sym c.pages_fit.ensures ∙ c.if-not-pages_fit.false) c.if-payload-lt-ROOM.false
-    (base_some page_size a.base.now (eqb-false (length a.base.now) 0 (sym c.is_empty.ensures ∙ c.if-is_empty.false))) c.compare_to-2.ensures
+    (tested_some page_size a.base.now (sym c.is_empty.ensures ∙ c.if-is_empty.false)) c.compare_to-2.ensures

@@ -1,12 +1,12 @@
 use Rattle.std.specs.Prelude.{◌≡◌, length}
-use Rattle.std.proofs.Common.{arith, refl, sym, ◌∙◌, eqb-true}
+use Rattle.std.proofs.Common.{arith, refl, sym, ◌∙◌}
 use Rattle.std.proofs.lemmas.Bool.{eqb-false}
 use Rattle.span.specs.Bytes.{zeros}
 use Rattle.layout.specs.Exits.{left_with}
 use Rattle.layout.specs.Sizes.{page_size}
 use Rattle.layout.specs.Numbers.{refusal_number}
 use Rattle.layout.specs.NumberLaws.{refusal_some}
-use Rattle.stream.specs.Laws.{base_none, zeros_base}
+use Rattle.stream.specs.Laws.{tested_none, zeros_base}
 use Rattle.reading.specs.Read.{read_refused}
 use Rattle.reading.specs.Mapped.{read_mapped_outcome}
 use Rattle.reading.specs.MappedLaws.{mapped_frame, mapped_looked}
@@ -80,7 +80,7 @@ returns-then-is_empty c =
     let r = c.read_as in
     found_read page_size a.patch.now a.full.now a.map.now a.block a.base.now (zeros page_size) a.page.now f.size f.n f.m
     c.in_ok-kind.kind r.result r.new.page (found g.In_ok-kind (opened g.In_ok-areas))
-    (base_none page_size a.base.now (eqb-true (length a.base.now) 0 (sym c.is_empty.ensures ∙ c.if-is_empty.true)) ∙ sym (zeros_base page_size))
+    (tested_none page_size a.base.now (sym c.is_empty.ensures ∙ c.if-is_empty.true) ∙ sym (zeros_base page_size))
     (rw (lent.0, lent.1) at r.ensures)
 
 pub read_as-requires-2 : goal.read_as-requires-2
